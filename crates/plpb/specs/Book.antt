@@ -1,0 +1,42 @@
+-- The plain book of demand 3 (document 01, "Tallies"): what a list of flips and counts calls is to answer, and which bits it leaves.
+-- It is fed the plan, the assignment opened and each call's kind and variable, and nothing else.
+-- Assumes nothing.
+use Prim.Native.Nat.{ℕ}
+use mathlib.Core.Bool.{cond}
+use mathlib.Core.List.{List, [], _∷_}
+use Rattle.plpb.specs.Plan.{Plan, Assignment, flip, isVariable}
+use Rattle.plpb.specs.Count.{cappedBreak, cappedMake}
+
+-- "Its calls are flip and counts, in any order and number, none too. Each gets [..] any variable number"
+pub data Call : Type 0 where
+  flipCall : ℕ → Call
+  countsCall : ℕ → Call
+
+pub data Answer : Type 0 where
+  refused : ℕ → Answer
+  accepted : Answer
+  counted : ℕ → ℕ → Answer
+
+-- What a call answers and the bits after it.
+pub record Entry : Type 0 where
+  pub answer : Answer
+  pub bits : Assignment
+
+-- "A variable outside 1 to n: 23, and no bit changes. Flip: accepted, and that bit turns over. Counts: the capped numbers of expansion
+-- clauses that turning that bit over would spoil and mend; no bit changes."
+unfoldable pub entry : Plan → Assignment → Call → Entry
+entry p a (flipCall x) =
+    cond (isVariable p x) (record { answer = accepted; bits = flip a x }) (record { answer = refused 23; bits = a })
+entry p a (countsCall x) =
+    cond (isVariable p x) (record { answer = counted (cappedBreak p a x) (cappedMake p a x); bits = a }) (record { answer = refused 23; bits = a })
+
+-- A whole list of calls: the answers in order, and the bits after the last.
+pub record Account : Type 0 where
+  pub answers : List Answer
+  pub bits : Assignment
+
+unfoldable pub book : Plan → Assignment → List Call → Account
+book p a [] = record { answers = []; bits = a }
+book p a (c ∷ cs) =
+    let rest = book p (entry p a c .bits) cs in
+    record { answers = entry p a c .answer ∷ rest .answers; bits = rest .bits }

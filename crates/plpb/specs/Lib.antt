@@ -1,0 +1,13 @@
+-- The logic of plans, in reading order. Nothing here speaks of bytes, tables or code.
+pub mod Lists
+pub mod Plan
+pub mod Normal
+pub mod Expansion
+pub mod Count
+pub mod Equations
+pub mod Tallies
+pub mod Book
+pub mod Numbers
+pub mod Walk
+pub mod Choice
+pub mod Search

@@ -1,0 +1,162 @@
+-- The search: Algorithm 1 of paper 004 under the tightening of paper 000 (document 01, "The walk").
+-- Assumes nothing.
+use Prim.Native.Nat.{ℕ, zero, suc, _/_}
+use mathlib.Core.Bool.{Bool, cond}
+use mathlib.Core.List.{List, [], _∷_, _++_}
+use lib.IntN.{ℤ, pos, negsuc, natAbs, _+ℤ_, _-ℤ_, _*ℤ_}
+use lib.ListN.{length}
+use lib.Signed.{leZ}
+use Rattle.plpb.specs.Lists.{_and_, keep, isEmpty}
+use Rattle.plpb.specs.Plan.{Bound, absent, present, Rule, Plan, Assignment, flip, satisfies, cost, floorCost}
+use Rattle.plpb.specs.Tallies.{unsatisfied}
+use Rattle.plpb.specs.Numbers.{startWords, startOf}
+use Rattle.plpb.specs.Walk.{Walk, done, words, look, flipped, found, _>>=_, Mark, Outcome, ends, short, run, looks}
+use Rattle.plpb.specs.Choice.{pickFrom, choice}
+
+pub data Mode : Type 0 where
+  linear : Mode
+  lbs : Mode
+
+pub record Settings : Type 0 where
+  pub noise : ℕ
+  pub tries : ℕ
+  pub flips : ℕ
+  pub mode : Mode
+
+-- What one call returns: an assignment, or nothing.
+pub data Reached : Type 0 where
+  failed : Reached
+  reached : Assignment → Reached
+
+-- "pick an unsatisfied clause; choose a variable of it; flip" (Algorithm 1, lines 5 to 7)
+unfoldable pub move : Settings → Plan → Assignment → Walk Assignment
+move s p a = do
+  c ← pickFrom [] (keep (unsatisfied a) (p .clauses))
+  x ← choice p (s .noise) a c
+  flipped (done (flip a x))
+
+-- "for each of the allowed flips: if no clause is unsatisfied, return; [..] The look comes before each flip, so what the last flip
+-- reaches is not looked at"
+unfoldable pub flipping : Settings → Plan → ℕ → Assignment → Walk Reached
+flipping s p zero a = done failed
+flipping s p (suc left) a =
+    let on = move s p a >>= flipping s p left in
+    look a (cond (satisfies a p) (done (reached a)) on)
+
+-- One try: its start, then its flips.
+unfoldable pub try : Settings → Plan → Walk Reached
+try s p = words (startWords (p .variables)) (λ ws. flipping s p (s .flips) (startOf (p .variables) ws))
+
+unfoldable pub orElse : Walk Reached → Reached → Walk Reached
+orElse next failed = next
+orElse next (reached a) = done (reached a)
+
+-- "One call (004, Algorithm 1): for each try .."
+unfoldable pub trying : Settings → Plan → ℕ → Walk Reached
+trying s p zero = done failed
+trying s p (suc left) = try s p >>= orElse (trying s p left)
+
+unfoldable pub call : Settings → Plan → Walk Reached
+call s p = trying s p (s .tries)
+
+-- "the added last clause O ≤ m"
+unfoldable pub tightened : Plan → ℤ → Plan
+tightened p m = record {
+  variables = p .variables;
+  objective = p .objective;
+  clauses = p .clauses ++ ((record { lower = absent; upper = present m; terms = p .objective } ∷ []) ∷ []);
+}
+
+-- A third, "rounded down, below zero as well": −1 is negsuc 0.
+unfoldable pub third : ℤ → ℤ
+third (pos n) = pos (n / 3)
+third (negsuc n) = negsuc (n / 3)
+
+-- "m = (l(O) + 2v)/3"
+unfoldable pub lbsBound : ℤ → ℤ → ℤ
+lbsBound l v = third (l +ℤ pos 2 *ℤ v)
+
+-- "O ≤ v − 1"
+unfoldable pub linearBound : ℤ → ℤ
+linearBound v = v -ℤ pos 1
+
+-- "Endings: floor (v = l(O)), ended, none (first call failed), short-found, short-none (numbers gone)."
+pub data Ending : Type 0 where
+  floor : Ending
+  ended : Ending
+  none : Ending
+  short-found : Ending
+  short-none : Ending
+
+-- "A found assignment of cost v with v = l(O) ends the search."
+unfoldable pub atFloor : Plan → Assignment → Bool
+atFloor p a = leZ (cost p a) (floorCost p) and leZ (floorCost p) (cost p a)
+
+-- How far a cost is above l(O): each find is nearer, so this bounds how many can follow.
+unfoldable pub gap : Plan → Assignment → ℕ
+gap p a = natAbs (cost p a -ℤ floorCost p)
+
+-- What follows one call with an added clause: its find is noted, or it failed.
+unfoldable pub after : Walk Ending → (Assignment → Walk Ending) → Reached → Walk Ending
+after otherwise next failed = otherwise
+after otherwise next (reached b) = found b (next b)
+
+-- "linear: O ≤ v − 1, until a call fails". At most `left` further finds; with none possible the cost is l(O).
+unfoldable pub linearSearch : Settings → Plan → ℕ → Assignment → Walk Ending
+linearSearch s p zero a = done floor
+linearSearch s p (suc left) a =
+    let on = call s (tightened p (linearBound (cost p a))) >>= after (done ended) (linearSearch s p left) in
+    cond (atFloor p a) (done floor) on
+
+-- "LBS next calls with the added last clause O ≤ m [..]; after each find it repeats, and at the first failure goes over to linear"
+unfoldable pub lbsSearch : Settings → Plan → ℕ → Assignment → Walk Ending
+lbsSearch s p zero a = done floor
+lbsSearch s p (suc left) a =
+    let on = call s (tightened p (lbsBound (floorCost p) (cost p a))) >>= after (linearSearch s p (suc left) a) (lbsSearch s p left) in
+    cond (atFloor p a) (done floor) on
+
+unfoldable pub tighten : Mode → Settings → Plan → ℕ → Assignment → Walk Ending
+tighten linear s p left a = linearSearch s p left a
+tighten lbs s p left a = lbsSearch s p left a
+
+-- "the first call has the plan alone"
+unfoldable pub searchWalk : Settings → Plan → Walk Ending
+searchWalk s p = call s p >>= after (done none) (λ a. tighten (s .mode) s p (gap p a) a)
+
+-- "The answer also holds cost, finds, flips made and numbers used; cost is 0 with nothing found." The assignment: the last one found, or none.
+pub record Answer : Type 0 where
+  pub ending : Ending
+  pub cost : ℤ
+  pub finds : ℕ
+  pub flips : ℕ
+  pub used : ℕ
+  pub assignment : Reached
+
+unfoldable pub lastFind : List Assignment → Reached
+lastFind [] = failed
+lastFind (a ∷ rest) = reached a
+
+unfoldable pub costOf : Plan → Reached → ℤ
+costOf p failed = pos 0
+costOf p (reached a) = cost p a
+
+unfoldable pub answerOf : Plan → Ending → Mark → Answer
+answerOf p e m = record {
+  ending = e;
+  cost = costOf p (lastFind (m .finds));
+  finds = length (m .finds);
+  flips = m .flips;
+  used = m .used;
+  assignment = lastFind (m .finds);
+}
+
+unfoldable pub conclude : Plan → Outcome Ending → Answer
+conclude p (ends e m) = answerOf p e m
+conclude p (short m) = answerOf p (cond (isEmpty (m .finds)) short-none short-found) m
+
+unfoldable pub begin : Mark
+begin = record { used = 0; flips = 0; finds = [] }
+
+-- The search of a plan, under settings, over a list of numbers.
+unfoldable pub search : Settings → Plan → List ℕ → Answer
+search s p ns = conclude p (run (searchWalk s p) ns begin)

@@ -1,0 +1,1 @@
+// The logic of plans: definitions in specs/, theorems in proofs/, no code.
