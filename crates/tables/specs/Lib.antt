@@ -1,0 +1,5 @@
+-- The plan file and the tables, in reading order.
+pub mod Limits
+pub mod File
+pub mod Writer
+pub mod Tables

@@ -1,0 +1,63 @@
+-- The limits of a plan (the owner's demands; document 01, "Who can cause which refusal", 4 to 6) and plans within them.
+-- Assumes nothing.
+use Prim.Native.Nat.{ℕ, suc, _≤_}
+use mathlib.Core.Bool.{Bool, true, false, not}
+use mathlib.Core.List.{List, [], _∷_}
+use lib.Dec.{leb, ltb, eqb}
+use lib.IntN.{ℤ, natAbs}
+use lib.ListN.{length}
+use Rattle.plpb.specs.Lists.{_and_, _or_, all, isEmpty, sumBy}
+use Rattle.plpb.specs.Plan.{Bound, absent, present, Term, Rule, Clause, Plan, rising}
+use Rattle.plpb.specs.Tallies.{rulesOf}
+
+-- "A plan holds at most 512 yes-or-no variables, 512 clauses, 1,024 rules and 6,000 terms, with weights up to 1,000,000 either way."
+abbrev pub maxVariables : ℕ
+maxVariables = 512
+
+abbrev pub maxClauses : ℕ
+maxClauses = 512
+
+abbrev pub maxRules : ℕ
+maxRules = 1_024
+
+abbrev pub maxTerms : ℕ
+maxTerms = 6_000
+
+abbrev pub maxWeight : ℕ
+maxWeight = 1_000_000
+
+-- "a bound outside ±1,000,000,000"
+abbrev pub maxBound : ℕ
+maxBound = 1_000_000_000
+
+-- "a coefficient 0 or outside ±1,000,000" is refused.
+unfoldable pub weightLawful : ℤ → Bool
+weightLawful w = ltb 0 (natAbs w) and leb (natAbs w) maxWeight
+
+-- "a term's variable outside 1 to n or not above the one before" is refused.
+unfoldable pub termsLawful : ℕ → List Term → Bool
+termsLawful n ts = rising ts and all (λ t. leb (t .variable) n and weightLawful (t .weight)) ts
+
+unfoldable pub boundLawful : Bound ℤ → Bool
+boundLawful absent = true
+boundLawful (present b) = leb (natAbs b) maxBound
+
+unfoldable pub isPresent : Bound ℤ → Bool
+isPresent absent = false
+isPresent (present b) = true
+
+-- One bound at least, each within its range; "k at least 1" terms.
+unfoldable pub ruleLawful : ℕ → Rule → Bool
+ruleLawful n r =
+    (isPresent (r .lower) or isPresent (r .upper)) and boundLawful (r .lower) and boundLawful (r .upper)
+    and not (isEmpty (r .terms)) and termsLawful n (r .terms)
+
+unfoldable pub termCount : Plan → ℕ
+termCount p = sumBy (λ r. length (r .terms)) (rulesOf p)
+
+-- A plan within every limit and range, each clause with "one or more" rules.
+unfoldable pub lawful : Plan → Bool
+lawful p =
+    leb 1 (p .variables) and leb (p .variables) maxVariables and termsLawful (p .variables) (p .objective)
+    and all (λ c. not (isEmpty c) and all (ruleLawful (p .variables)) c) (p .clauses)
+    and leb (length (p .clauses)) maxClauses and leb (length (rulesOf p)) maxRules and leb (termCount p) maxTerms

@@ -1,0 +1,104 @@
+-- The tables that an accepted loading leaves, in words of 4 bytes (docs/FORMAT.md has the layout with offsets), and the plan read back from them.
+-- Assumes nothing.
+use Prim.Native.Nat.{ℕ, zero, suc, _+_, _*_, _-_}
+use mathlib.Core.Path.{_≡_}
+use mathlib.Core.Bool.{cond}
+use mathlib.Core.List.{List, [], _∷_, _++_, map}
+use lib.Dec.{ltb, eqb}
+use lib.IntN.{ℤ, pos, natAbs}
+use lib.ListN.{length, replicate, take}
+use Rattle.plpb.specs.Lists.{concat, keep, row}
+use Rattle.plpb.specs.Plan.{Bound, absent, present, Term, Rule, Clause, Plan}
+use Rattle.plpb.specs.Tallies.{rulesOf}
+use Rattle.words.specs.Words.{wordBytes, wordAt, signed, unsigned}
+use Rattle.tables.specs.Limits.{termCount}
+use Rattle.tables.specs.File.{Reading, accepted, read, boundOf}
+use Rattle.tables.specs.Writer.{mode, boundNumber}
+
+-- The coefficient of a variable in a sum, 0 where it has none.
+unfoldable pub coefficient : List Term → ℕ → ℤ
+coefficient [] x = pos 0
+coefficient (t ∷ ts) x = cond (eqb (t .variable) x) (t .weight) (coefficient ts x)
+
+-- A section of a fixed size: "unused entries are 0".
+unfoldable pub padTo : ℕ → List ℕ → List ℕ
+padTo k ws = ws ++ replicate (k - length ws) 0
+
+-- A clause's entry: its first rule and how many it has.
+unfoldable pub clauseEntries : ℕ → List Clause → List ℕ
+clauseEntries first [] = []
+clauseEntries first (c ∷ cs) = first ∷ length c ∷ clauseEntries (first + length c) cs
+
+-- A rule's entry: its first term, how many it has, its mode and its two bounds.
+unfoldable pub ruleEntries : ℕ → List Rule → List ℕ
+ruleEntries first [] = []
+ruleEntries first (r ∷ rs) =
+    first
+    ∷ length (r .terms)
+    ∷ mode (r .lower) (r .upper)
+    ∷ unsigned (boundNumber (r .lower))
+    ∷ unsigned (boundNumber (r .upper))
+    ∷ ruleEntries (first + length (r .terms)) rs
+
+-- A term's entry: its variable and its weight.
+unfoldable pub termEntries : List Term → List ℕ
+termEntries [] = []
+termEntries (t ∷ ts) = t .variable ∷ unsigned (t .weight) ∷ termEntries ts
+
+-- "each rule's terms are written into the term table after those of the rules before it"
+unfoldable pub allTerms : Plan → List Term
+allTerms p = concat (map (λ r. r .terms) (rulesOf p))
+
+-- The table of counts, objective (dense, by variable), clauses and rules: 4 + 512 + 2·512 + 5·1,024 words.
+unfoldable pub tableWords : Plan → List ℕ
+tableWords p =
+    p .variables
+    ∷ length (p .clauses)
+    ∷ length (rulesOf p)
+    ∷ termCount p
+    ∷ (map (λ x. unsigned (coefficient (p .objective) x)) (row 1 512)
+    ++ (padTo 1_024 (clauseEntries 0 (p .clauses)) ++ padTo 5_120 (ruleEntries 0 (rulesOf p))))
+
+-- The term table: 2·6,000 words.
+unfoldable pub termWords : Plan → List ℕ
+termWords p = padTo 12_000 (termEntries (allTerms p))
+
+abbrev pub tableSize : ℕ
+tableSize = 26_640
+
+abbrev pub termSize : ℕ
+termSize = 48_000
+
+-- The two tables hold the words of a plan; what stands past the full limits does not matter.
+unfoldable pub Holds : Plan → List ℕ → List ℕ → Type 0
+Holds p tables terms = (take tableSize tables ≡ wordBytes (tableWords p)) × (take termSize terms ≡ wordBytes (termWords p))
+
+-- "tables that no accepted loading leaves" are refused by 22: tables that one leaves are those of the plan of some accepted file.
+unfoldable pub Loaded : List ℕ → List ℕ → Type 0
+Loaded tables terms = (file : List ℕ) × (p : Plan) × (read file ≡ accepted p) × Holds p tables terms
+
+-- The plan read back, from the words of the two tables.
+unfoldable pub termOf : (ℕ → ℕ) → ℕ → Term
+termOf g i = record { variable = g (2 * i); weight = signed (g (2 * i + 1)) }
+
+unfoldable pub ruleOf : (ℕ → ℕ) → (ℕ → ℕ) → ℕ → Rule
+ruleOf f g r =
+    record {
+      lower = boundOf 2 (f (1_542 + 5 * r)) (signed (f (1_543 + 5 * r)));
+      upper = boundOf 1 (f (1_542 + 5 * r)) (signed (f (1_544 + 5 * r)));
+      terms = map (termOf g) (row (f (1_540 + 5 * r)) (f (1_541 + 5 * r)));
+    }
+
+unfoldable pub clauseOf : (ℕ → ℕ) → (ℕ → ℕ) → ℕ → Clause
+clauseOf f g c = map (ruleOf f g) (row (f (516 + 2 * c)) (f (517 + 2 * c)))
+
+unfoldable pub objectiveOf : (ℕ → ℕ) → List Term
+objectiveOf f =
+    keep (λ t. ltb 0 (natAbs (t .weight))) (map (λ x. record { variable = x; weight = signed (f (3 + x)) }) (row 1 (f 0)))
+
+unfoldable pub planIn : (ℕ → ℕ) → (ℕ → ℕ) → Plan
+planIn f g = record { variables = f 0; objective = objectiveOf f; clauses = map (clauseOf f g) (row 0 (f 1)) }
+
+-- The plan that two tables hold.
+unfoldable pub planOfTables : List ℕ → List ℕ → Plan
+planOfTables tables terms = planIn (wordAt tables) (wordAt terms)
