@@ -4,16 +4,17 @@ use Prim.Native.Nat.{ℕ, zero, suc, _+_, _*_, _-_}
 use mathlib.Core.Path.{_≡_}
 use mathlib.Core.Bool.{cond}
 use mathlib.Core.List.{List, [], _∷_, _++_, map}
-use lib.Dec.{ltb, eqb}
+use lib.Dec.{T, ltb, eqb}
 use lib.IntN.{ℤ, pos, natAbs}
 use lib.ListN.{length, replicate, take}
+use lib.Pow.{areBytes}
 use Rattle.plpb.specs.Lists.{concat, keep, row}
 use Rattle.plpb.specs.Plan.{Bound, absent, present, Term, Rule, Clause, Plan}
 use Rattle.plpb.specs.Tallies.{rulesOf}
 use Rattle.words.specs.Words.{wordBytes, wordAt, signed, unsigned}
-use Rattle.tables.specs.Limits.{termCount}
-use Rattle.tables.specs.File.{Reading, accepted, read, boundOf}
-use Rattle.tables.specs.Writer.{mode, boundNumber}
+use Rattle.format.specs.Limits.{termCount}
+use Rattle.format.specs.File.{Reading, accepted, read, boundOf}
+use Rattle.format.specs.Writer.{mode, boundNumber}
 
 -- The coefficient of a variable in a sum, 0 where it has none.
 unfoldable pub coefficient : List Term → ℕ → ℤ
@@ -75,7 +76,7 @@ Holds p tables terms = (take tableSize tables ≡ wordBytes (tableWords p)) × (
 
 -- "tables that no accepted loading leaves" are refused by 22: tables that one leaves are those of the plan of some accepted file.
 unfoldable pub Loaded : List ℕ → List ℕ → Type 0
-Loaded tables terms = (file : List ℕ) × (p : Plan) × (read file ≡ accepted p) × Holds p tables terms
+Loaded tables terms = (file : List ℕ) × (p : Plan) × T (areBytes file) × (read file ≡ accepted p) × Holds p tables terms
 
 -- The plan read back, from the words of the two tables.
 unfoldable pub termOf : (ℕ → ℕ) → ℕ → Term

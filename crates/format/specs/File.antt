@@ -10,7 +10,7 @@ use lib.ListN.{length, getD}
 use Rattle.plpb.specs.Lists.{_and_, _or_, all, row}
 use Rattle.plpb.specs.Plan.{Bound, absent, present, Term, Rule, Clause, Plan}
 use Rattle.words.specs.Words.{numAt, signed}
-use Rattle.tables.specs.Limits.{maxVariables, maxClauses, maxRules, maxTerms, maxBound, weightLawful, termsLawful}
+use Rattle.format.specs.Limits.{maxVariables, maxClauses, maxRules, maxTerms, maxBound, weightLawful, termsLawful}
 
 -- What may stand next: "Order: 01, 02, then clauses, each 03 followed by one or more 04, then 05 as the last bytes."
 pub data Stage : Type 0 where

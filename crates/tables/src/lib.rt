@@ -1,1 +1,0 @@
-// The plan file and the tables that loading leaves.
