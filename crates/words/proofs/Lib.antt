@@ -1,3 +1,4 @@
--- Laws that belong to no one function.
+-- What holds of numbers in bytes.
+pub mod Words
 pub mod Signs
 pub mod Writes

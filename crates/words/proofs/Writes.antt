@@ -1,6 +1,6 @@
 -- Laws of bytes written over a list of bytes: what stands there afterwards, and how writes one after the other join.
 -- Assumes nothing.
-use Prim.Native.Nat.{ℕ, zero, suc, _+_, _*_, _-_, _/_, _%_, _≤_, _<_}
+use Prim.Native.Nat.{ℕ, zero, suc, _+_, _*_, _-_, _/_, _%_, _^_, _≤_, _<_}
 use native.Mathlib.Omega.{arith}
 use native.Mathlib.Nat.{add-zero, add-suc, suc-add, add-assoc, le-of-eq}
 use native.Mathlib.Numerals.{add-one, add-two, add-three}
@@ -11,6 +11,7 @@ use lib.Seq.{sets, sets-eq, length-sets, take-at, drop-at, drop-drop, drop-appen
 use borrow.Rule.Slice.PartMut.{midOf, postOf, putMid, post-is}
 use Rattle.words.specs.Words.{numAt, bytesOf, wordBytes}
 use Rattle.words.specs.Writes.{front, put}
+use Rattle.words.proofs.Words.{numAt-append, numAt-inside, numAt-bytesOf, numAt-take, numAt-drop}
 
 -- What two and four bytes read join to.
 pub num-two : (s : List ℕ) (at : ℕ) → getD s at 0 + 256 * getD s (at + 1) 0 ≡ numAt 2 s at
@@ -119,20 +120,37 @@ pub lent-part : (at end : ℕ) (t ys : List ℕ) → at ≤ end → length ys �
 unfolding front put
 lent-part at end t ys h e = ap (λ (n : ℕ). take at t ++ (ys ++ drop n (drop at t))) (sym e)
 
--- Lengths of written numbers.
-pub length-bytesOf : (k v : ℕ) → length (bytesOf k v) ≡ k
-unfolding bytesOf
-length-bytesOf zero v = refl
-length-bytesOf (suc k) v = ap suc (length-bytesOf k (v / 256))
-
-pub length-wordBytes : (ws : List ℕ) → length (wordBytes ws) ≡ 4 * length ws
-unfolding wordBytes
-length-wordBytes [] = refl
-length-wordBytes (w ∷ ws) =
-    length-append (bytesOf 4 w) (wordBytes ws)
-    ∙ omega (arith, length-bytesOf 4 w, length-wordBytes ws)
-
 pub wordBytes-append : (us vs : List ℕ) → wordBytes (us ++ vs) ≡ wordBytes us ++ wordBytes vs
 unfolding wordBytes
 wordBytes-append [] vs = refl
 wordBytes-append (u ∷ us) vs = ap (λ (l : List ℕ). bytesOf 4 u ++ l) (wordBytes-append us vs) ∙ sym (append-assoc (bytesOf 4 u) (wordBytes us) (wordBytes vs))
+
+-- A number that was written is read again; what lies before and behind it is read as before.
+pub read-put : (k at v : ℕ) (s : List ℕ) → at ≤ length s → v < 256 ^ k → numAt k (put at (bytesOf k v) s) at ≡ v
+unfolding front put
+read-put k at v s h l =
+    let bs = bytesOf k v ++ drop (length (bytesOf k v)) (drop at s) in
+    let e : length (take at s) + 0 ≡ at = omega (arith, length-take-le at s h) in
+    ap (λ (n : ℕ). numAt k (take at s ++ bs) n) (sym e)
+    ∙ numAt-append k (take at s) bs 0
+    ∙ numAt-bytesOf k v (drop (length (bytesOf k v)) (drop at s)) l
+
+pub read-before : (k at i : ℕ) (bs s : List ℕ) → at ≤ length s → i + k ≤ at → numAt k (put at bs s) i ≡ numAt k s i
+unfolding front put
+read-before k at i bs s h l =
+    let e : i + k ≤ length (take at s) = omega (arith, length-take-le at s h) in
+    numAt-inside k (take at s) (bs ++ drop (length bs) (drop at s)) i e ∙ numAt-take k at s i l
+
+behind-front : (k : ℕ) (xs s : List ℕ) (i : ℕ) → numAt k (front xs s) (length xs + i) ≡ numAt k s (length xs + i)
+unfolding front
+behind-front k xs s i = numAt-append k xs (drop (length xs) s) i ∙ numAt-drop k (length xs) s i
+
+pub read-behind : (k at i : ℕ) (bs s : List ℕ) → at ≤ length s → at + length bs ≤ i → numAt k (put at bs s) i ≡ numAt k s i
+read-behind k at i bs s h l =
+    let n = at + length bs in
+    let e : length (take at s ++ bs) ≡ n = length-append (take at s) bs ∙ ap (λ (m : ℕ). m + length bs) (length-take-le at s h) in
+    let j : length (take at s ++ bs) + (i - n) ≡ i = omega arith in
+    ap (λ (w : List ℕ). numAt k w i) (put-is-front at bs s h)
+    ∙ ap (λ (m : ℕ). numAt k (front (take at s ++ bs) s) m) (sym j)
+    ∙ behind-front k (take at s ++ bs) s (i - n)
+    ∙ ap (λ (m : ℕ). numAt k s m) j
