@@ -1,0 +1,42 @@
+-- `tables::judge::judge` meets its contract. The invariant: reading from the present state with the fields left comes to what reading the whole
+-- file does. The measure is the fields left.
+-- Assumes nothing.
+use borrow.Author.Needs.{needs}
+use mathlib.Core.Path.{_≡_, refl, sym, ap, _∙_}
+use lib.ListN.{length}
+use Prim.Native.Nat.{ℕ}
+use Rattle.format.specs.File.{readFrom, begin, read}
+use Rattle.tables.specs.Load.{outcome}
+use Rattle.tables.specs.Fields.{stageOf, stateOf}
+use Rattle.tables.proofs.Stepped.{goes, stops, judge-start, judge-end}
+use Rattle.tables.proofs.judge.judge.Statement.{statement}
+use Rattle.tables.proofs.judge.judge.Tie as tie
+
+abbrev Inv-loop : tie.InvT-loop
+Inv-loop file st₀ left₀ st left = outcome (readFrom file left (stateOf st)) ≡ outcome (read file)
+
+abbrev μ-loop : tie.MeasureT-loop
+μ-loop file st₀ left₀ st left = left
+
+returns : tie.Need-returns Inv-loop μ-loop
+returns c = c .stopped .ensures ∙ sym (stops _ _ _ _ (c .before .before .before .before .loop-test .taken) (c .before .before .before .go-on .ensures) _ (c .before .enum-told .given .1)) ∙ c .before .before .before .before .before .loop .inv
+
+loop-again : tie.Need-loop-again Inv-loop μ-loop
+loop-again c = sym (goes _ _ _ _ (c .before .before .before .before .loop-test .taken) (c .before .before .before .go-on .ensures) _ (c .before .step .given .1)) ∙ c .before .before .before .before .before .loop .inv
+
+pub judge-spec : {M : Type 1} → statement M
+judge-spec =
+    tie.close
+    (tie.spec
+    Inv-loop
+    μ-loop
+    (λ c. judge-start _)
+    (λ c κs. search needs)
+    (λ c. search needs)
+    (λ c. search needs)
+    (λ c κs. search needs)
+    returns
+    (λ c. search needs)
+    (λ c. search needs)
+    loop-again
+    (λ c. judge-end _ _ _ (c .loop-test .left) ∙ c .before .loop .inv))

@@ -1,0 +1,23 @@
+-- `tables::terms::bounds_lawful` meets its contract: only the sizes of the bounds are judged.
+-- Assumes nothing.
+use borrow.Author.Needs.{needs}
+use mathlib.Core.Path.{_∙_, ap₂}
+use mathlib.Core.Bool.{Bool}
+use lib.IntN.{pos}
+use mir.Facts.{toZ-ofZ}
+use Rattle.format.specs.File.{boundsLawful}
+use Rattle.tables.proofs.TermLaws.{bounds-size}
+use Rattle.tables.proofs.terms.bounds_lawful.Statement.{statement}
+use Rattle.tables.proofs.terms.bounds_lawful.Tie as tie
+
+returns : tie.Need-returns
+returns c = c .sizes-lawful .ensures ∙ rw (c .before .before .magnitude .ensures, c .before .magnitude2 .ensures, toZ-ofZ (c .before .before .before .fits .lower), toZ-ofZ (c .before .before .before .fits .upper)) (bounds-size _ _ _)
+
+pub bounds-lawful-spec : {M : Type 1} → statement M
+bounds-lawful-spec =
+    tie.close
+    (tie.spec
+    (λ c κs. search needs)
+    (λ c κs. search needs)
+    (λ c κs. search needs)
+    returns)

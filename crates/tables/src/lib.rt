@@ -1,0 +1,6 @@
+// The plan file judged, and the tables filled from it (document 01, "The plan file").
+mod field;
+mod judge;
+mod terms;
+
+pub use judge::Answer;
