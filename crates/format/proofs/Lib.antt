@@ -10,3 +10,4 @@ pub mod WrittenRule
 pub mod Sizes
 pub mod WriteBytes
 pub mod RoundTrip
+pub mod Accepted

@@ -24,14 +24,14 @@ use Rattle.format.proofs.Sizes.{termsOf, length-write}
 use Rattle.format.proofs.WrittenRule.{length-terms, rule-tag, rule-read, rule-behind, rule-clean, rule-next}
 
 -- The fields from some place on, and how many they are.
-fieldsFrom : List Rule → List Clause → List ℕ
+unfoldable pub fieldsFrom : List Rule → List Clause → List ℕ
 fieldsFrom rs cs = concat (map ruleField rs) ++ (concat (map clauseFields cs) ++ field 5 [])
 
 steps : List Rule → List Clause → ℕ
 steps rs cs = length rs + (length cs + length (concat cs))
 
 -- Which rules may come next in a stage.
-follows : Stage → List Rule → Bool
+unfoldable pub follows : Stage → List Rule → Bool
 follows atCount rs = false
 follows atObjective rs = false
 follows atClause [] = true
