@@ -11,3 +11,5 @@ pub mod Sizes
 pub mod WriteBytes
 pub mod RoundTrip
 pub mod Accepted
+pub mod Spells
+pub mod Sections
