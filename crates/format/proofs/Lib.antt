@@ -13,3 +13,6 @@ pub mod RoundTrip
 pub mod Accepted
 pub mod Spells
 pub mod Sections
+pub mod WordBounds
+pub mod Objective
+pub mod ReadBack

@@ -1,6 +1,6 @@
 -- A function on places spells a list from a place on: by induction over the list, so that sections of a table can be taken apart and put together.
 use Prim.Native.Nat.{ℕ, zero, suc, _+_, _-_, _≤_, _<_}
-use mathlib.Core.Path.{_≡_, refl}
+use mathlib.Core.Path.{_≡_, refl, ap₂}
 use mathlib.Core.Bool.{true}
 use mathlib.Core.List.{List, [], _∷_, _++_, map}
 use native.Mathlib.Nat.{add-zero, add-suc, suc-add}
@@ -12,40 +12,47 @@ use Rattle.format.specs.Tables.{padTo}
 use Rattle.format.proofs.Bools.{and-left, and-right, and-join}
 use Rattle.format.proofs.Good.{everyFrom, zerosFrom}
 
-unfoldable pub Spells : (ℕ → ℕ) → ℕ → List ℕ → Type 0
+unfoldable pub Spells : {A : Type 0} → (ℕ → A) → ℕ → List A → Type 0
 Spells f i [] = Unit {0}
 Spells f i (w ∷ ws) = (f i ≡ w) × Spells f (suc i) ws
 
-module _ (f : ℕ → ℕ) where
-  -- Word by word.
-  pub spells-at : (i : ℕ) (ws : List ℕ) → Spells f i ws → (j : ℕ) → j < length ws → f (i + j) ≡ getD ws j 0
+module _ {A : Type 0} (f : ℕ → A) where
+  -- Element by element.
+  pub spells-at : (i : ℕ) (ws : List A) → Spells f i ws → (d : A) (j : ℕ) → j < length ws → f (i + j) ≡ getD ws j d
   unfolding Spells
-  spells-at i [] s j h = absurd (omega arith)
-  spells-at i (w ∷ ws) s zero h = rw (add-zero i) (s .0)
-  spells-at i (w ∷ ws) s (suc j) h = rw (add-suc i j, ← suc-add i j) (spells-at (suc i) ws (s .1) j (omega arith))
+  spells-at i [] s d j h = absurd (omega arith)
+  spells-at i (w ∷ ws) s d zero h = rw (add-zero i) (s .0)
+  spells-at i (w ∷ ws) s d (suc j) h = rw (add-suc i j, ← suc-add i j) (spells-at (suc i) ws (s .1) d j (omega arith))
 
-  pub spells-all : (i : ℕ) (ws : List ℕ) → ((j : ℕ) → j < length ws → f (i + j) ≡ getD ws j 0) → Spells f i ws
+  pub spells-all : (i : ℕ) (ws : List A) (d : A) → ((j : ℕ) → j < length ws → f (i + j) ≡ getD ws j d) → Spells f i ws
   unfolding Spells
-  spells-all i [] h = tt
-  spells-all i (w ∷ ws) h =
-      (rw (add-zero i) at (h 0 (omega arith)), spells-all (suc i) ws (λ j l. rw (suc-add i j, ← add-suc i j) (h (suc j) (omega arith))))
+  spells-all i [] d h = tt
+  spells-all i (w ∷ ws) d h =
+      (rw (add-zero i) at (h 0 (omega arith)), spells-all (suc i) ws d (λ j l. rw (suc-add i j, ← add-suc i j) (h (suc j) (omega arith))))
+
+  -- What it spells is what it gives at numbers in a row.
+  pub spells-map : (i : ℕ) (ws : List A) → Spells f i ws → map f (row i (length ws)) ≡ ws
+  unfolding Spells row
+  spells-map i [] s = refl
+  spells-map i (w ∷ ws) s = ap₂ (λ a b. a ∷ b) (s .0) (spells-map (suc i) ws (s .1))
 
   -- One list behind another.
-  pub spells-left : (i : ℕ) (xs ys : List ℕ) → Spells f i (xs ++ ys) → Spells f i xs
+  pub spells-left : (i : ℕ) (xs ys : List A) → Spells f i (xs ++ ys) → Spells f i xs
   unfolding Spells
   spells-left i [] ys s = tt
   spells-left i (x ∷ xs) ys s = (s .0, spells-left (suc i) xs ys (s .1))
 
-  pub spells-right : (i : ℕ) (xs ys : List ℕ) → Spells f i (xs ++ ys) → Spells f (i + length xs) ys
+  pub spells-right : (i : ℕ) (xs ys : List A) → Spells f i (xs ++ ys) → Spells f (i + length xs) ys
   unfolding Spells
   spells-right i [] ys s = rw (add-zero i) s
   spells-right i (x ∷ xs) ys s = rw (add-suc i (length xs), ← suc-add i (length xs)) (spells-right (suc i) xs ys (s .1))
 
-  pub spells-join : (i : ℕ) (xs ys : List ℕ) → Spells f i xs → Spells f (i + length xs) ys → Spells f i (xs ++ ys)
+  pub spells-join : (i : ℕ) (xs ys : List A) → Spells f i xs → Spells f (i + length xs) ys → Spells f i (xs ++ ys)
   unfolding Spells
   spells-join i [] ys s t = rw add-zero at t
   spells-join i (x ∷ xs) ys s t = (s .0, spells-join (suc i) xs ys (s .1) (rw (suc-add i (length xs), ← add-suc i (length xs)) t))
 
+module _ (f : ℕ → ℕ) where
   -- Zeros.
   pub spells-zeros : (i k : ℕ) → Spells f i (replicate k 0) → zerosFrom f i k ≡ true
   unfolding Spells zerosFrom everyFrom
