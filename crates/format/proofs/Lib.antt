@@ -16,3 +16,5 @@ pub mod Sections
 pub mod WordBounds
 pub mod Objective
 pub mod ReadBack
+pub mod Chains
+pub mod Sound

@@ -4,7 +4,7 @@ use mathlib.Core.Path.{_≡_, refl, sym, ap, _∙_}
 use mathlib.Core.Bool.{Bool, true}
 use mathlib.Core.List.{List, [], _∷_, _++_, map}
 use lib.ListN.{length, length-append}
-use native.Mathlib.Nat.{zero-add, add-assoc}
+use native.Mathlib.Nat.{zero-add, add-zero, add-suc, suc-add, add-assoc}
 use Rattle.plpb.specs.Lists.{all, concat, sumBy, row}
 use Rattle.format.proofs.Bools.{and-left, and-right, and-join}
 
@@ -27,3 +27,8 @@ pub all-append : {A : Type 0} (p : A → Bool) (xs ys : List A) → all p xs ≡
 unfolding all
 all-append p [] ys h k = k
 all-append p (x ∷ xs) ys h k = and-join _ _ (and-left _ _ h) (all-append p xs ys (and-right _ _ h) k)
+
+pub row-split : (i a b : ℕ) → row i (a + b) ≡ row i a ++ row (i + a) b
+unfolding row
+row-split i zero b = rw (zero-add b, add-zero i)
+row-split i (suc a) b = rw (suc-add a b, add-suc i a, ← suc-add i a) (ap (λ r. i ∷ r) (row-split (suc i) a b))
