@@ -15,6 +15,10 @@ pub mod Spells
 pub mod Sections
 pub mod WordBounds
 pub mod Objective
+pub mod Entries
 pub mod ReadBack
 pub mod Chains
 pub mod Sound
+pub mod GoodPlan
+pub mod PlanGood
+pub mod GoodTables
