@@ -9,7 +9,10 @@ pub mod Places
 pub mod WrittenRule
 pub mod Sizes
 pub mod WriteBytes
+pub mod Order
 pub mod RoundTrip
+pub mod Peel
+pub mod Held
 pub mod Accepted
 pub mod Spells
 pub mod Sections
