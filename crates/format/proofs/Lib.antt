@@ -14,6 +14,7 @@ pub mod RoundTrip
 pub mod Peel
 pub mod Held
 pub mod Accepted
+pub mod Example
 pub mod Spells
 pub mod Sections
 pub mod WordBounds
