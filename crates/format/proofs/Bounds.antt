@@ -11,7 +11,7 @@ use Rattle.plpb.specs.Plan.{Bound, absent, present}
 use Rattle.format.specs.Limits.{maxBound, boundLawful, isPresent}
 use Rattle.format.specs.File.{boundsLawful, boundOf}
 use Rattle.format.specs.Writer.{mode, boundNumber}
-use Rattle.format.proofs.Bools.{and-left, and-right, and-join, true-T}
+use Rattle.format.proofs.Bools.{and-left, and-right, true-T}
 
 -- Two bounds, one of them there and both within the range.
 unfoldable pub bothLawful : Bound ℤ → Bound ℤ → Bool
@@ -53,7 +53,7 @@ pub record Meant (m : ℕ) (l u : ℤ) : Type 0 where
   pub lowerBack : boundNumber (boundOf 2 m l) ≡ l
   pub upperBack : boundNumber (boundOf 1 m u) ≡ u
 
-natAbs-zero : (z : ℤ) → natAbs z ≡ 0 → pos 0 ≡ z
+pub natAbs-zero : (z : ℤ) → natAbs z ≡ 0 → pos 0 ≡ z
 natAbs-zero (pos n) e = ap pos (sym e)
 natAbs-zero (negsuc n) e = absurd (omega arith)
 
