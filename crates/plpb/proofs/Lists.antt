@@ -167,6 +167,10 @@ unfolding _and_
 split-one true b = zero-add (cond b 1 0)
 split-one false b = add-zero (cond b 1 0)
 
+one-of-two : (b : Bool) → cond (not b) 1 0 + cond b 1 0 ≡ 1
+one-of-two true = refl
+one-of-two false = refl
+
 none-one : (b : Bool) (n : ℕ) → not b and eqb n 0 ≡ eqb (cond b 1 0 + n) 0
 none-one true n = false-and (eqb n 0) ∙ sym (rw one-add (eqb·suc-zero n))
 none-one false n = true-and (eqb n 0) ∙ sym (rw zero-add refl)
@@ -219,6 +223,10 @@ module _ {A : Type 0} where
   pub count-split : (p q : A → Bool) (xs : List A) → count (λ x. not (p x) and q x) xs + count (λ x. p x and q x) xs ≡ count q xs
   count-split p q [] = simp (count-nil, add-zero)
   count-split p q (x ∷ xs) = simp count-cons (omega (arith, count-split p q xs, split-one (p x) (q x)))
+
+  pub count-not : (p : A → Bool) (xs : List A) → count (λ x. not (p x)) xs + count p xs ≡ length xs
+  count-not p [] = simp (count-nil, add-zero)
+  count-not p (x ∷ xs) = simp count-cons (omega (arith, count-not p xs, one-of-two (p x)))
 
   -- ---- whether any or all pass it
 
