@@ -1,3 +1,5 @@
 pub mod Lists
 pub mod Normal
 pub mod Choices
+pub mod Theorem2
+pub mod Theorem1

@@ -3,7 +3,7 @@ use Prim.Native.Nat.{ℕ, zero, suc, _+_, _*_, _≤_, _<_, zero-le}
 use native.Mathlib.Nat.{zero-add, add-zero, add-assoc, zero-mul, add-mul, not-suc-le-zero, le-of-suc-le-suc}
 use native.Mathlib.Numerals.{one-add}
 use native.Mathlib.Omega.{arith}
-use mathlib.Core.Path.{_≡_, refl, sym, ap, ap₂, _∙_}
+use mathlib.Core.Path.{_≡_, refl, sym, ap, ap₂, _∙_, fun-ext}
 use mathlib.Core.Bool.{Bool, true, false, not, cond}
 use mathlib.Core.List.{List, [], _∷_, _++_, map}
 use lib.Dec.{T, eqb, eqb·suc-zero, lit≤}
@@ -200,8 +200,7 @@ module _ {A : Type 0} where
   count-concat p (xs ∷ xss) = count-append p xs (concat xss) ∙ ap (λ n. count p xs + n) (count-concat p xss)
 
   pub count-same : (p q : A → Bool) (xs : List A) → ((x : A) → p x ≡ q x) → count p xs ≡ count q xs
-  count-same p q [] h = simp count-nil
-  count-same p q (x ∷ xs) h = simp (count-cons, h x, count-same p q xs h)
+  count-same p q xs h = ap (λ t. count t xs) (fun-ext h)
 
   pub count-replicate : (p : A → Bool) (n : ℕ) (x : A) → count p (replicate n x) ≡ cond (p x) n 0
   count-replicate p zero x = count-nil p ∙ sym (cond-same (p x) 0)
@@ -246,14 +245,10 @@ module _ {A : Type 0} where
   all-concat p (xs ∷ xss) = all-append p xs (concat xss) ∙ ap (λ b. all p xs and b) (all-concat p xss)
 
   pub any-same : (p q : A → Bool) (xs : List A) → ((x : A) → p x ≡ q x) → any p xs ≡ any q xs
-  unfolding any
-  any-same p q [] h = refl
-  any-same p q (x ∷ xs) h = ap₂ _or_ (h x) (any-same p q xs h)
+  any-same p q xs h = ap (λ t. any t xs) (fun-ext h)
 
   pub all-same : (p q : A → Bool) (xs : List A) → ((x : A) → p x ≡ q x) → all p xs ≡ all q xs
-  unfolding all
-  all-same p q [] h = refl
-  all-same p q (x ∷ xs) h = ap₂ _and_ (h x) (all-same p q xs h)
+  all-same p q xs h = ap (λ t. all t xs) (fun-ext h)
 
   pub not-any : (p : A → Bool) (xs : List A) → not (any p xs) ≡ all (λ x. not (p x)) xs
   unfolding any all
@@ -320,9 +315,7 @@ module _ {A : Type 0} where
       ap₂ _+_ (h x (and-left (p x) (all p xs) t)) (sumBy-each p f g xs h (and-right (p x) (all p xs) t))
 
   pub sumBy-same : (f g : A → ℕ) (xs : List A) → ((x : A) → f x ≡ g x) → sumBy f xs ≡ sumBy g xs
-  unfolding sumBy
-  sumBy-same f g [] h = refl
-  sumBy-same f g (x ∷ xs) h = ap₂ _+_ (h x) (sumBy-same f g xs h)
+  sumBy-same f g xs h = ap (λ t. sumBy t xs) (fun-ext h)
 
   pub sumBy-plus : (f g : A → ℕ) (xs : List A) → sumBy (λ x. f x + g x) xs ≡ sumBy f xs + sumBy g xs
   unfolding sumBy
