@@ -100,8 +100,11 @@ opposite-true a k = turned (k .negated) (value a (k .variable))
     turned true v = sym (not-not v)
     turned false v = refl
 
+pub opposite-false : (a : Assignment) (k : Literal) → not (literalTrue a (opposite k)) ≡ literalTrue a k
+opposite-false a k = ap not (opposite-true a k) ∙ not-not (literalTrue a k)
+
 pub false-opposites : (a : Assignment) (ts : List Term) → count (λ k. not (literalTrue a k)) (map opposite (copies ts)) ≡ P a ts
 false-opposites a ts =
     count-map (λ k. not (literalTrue a k)) opposite (copies ts)
-    ∙ count-same (λ k. not (literalTrue a (opposite k))) (literalTrue a) (copies ts) (λ k. ap not (opposite-true a k) ∙ not-not (literalTrue a k))
+    ∙ count-same (λ k. not (literalTrue a (opposite k))) (literalTrue a) (copies ts) (opposite-false a)
     ∙ true-copies a ts

@@ -3,3 +3,5 @@ pub mod Normal
 pub mod Choices
 pub mod Theorem2
 pub mod Theorem1
+pub mod Flip
+pub mod Equations

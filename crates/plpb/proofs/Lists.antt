@@ -8,7 +8,7 @@ use mathlib.Core.Bool.{Bool, true, false, not, cond}
 use mathlib.Core.List.{List, [], _∷_, _++_, map}
 use lib.Dec.{T, eqb, eqb·suc-zero, lit≤}
 use lib.ListN.{length, getD, replicate}
-use Rattle.plpb.specs.Lists.{_and_, _or_, keep, count, any, all, sumBy, concat, row}
+use Rattle.plpb.specs.Lists.{_and_, _or_, keep, count, any, all, sumBy, concat, isEmpty, row}
 
 -- ---- and, or, not
 
@@ -223,6 +223,12 @@ module _ {A : Type 0} where
   count-split p q [] = simp (count-nil, add-zero)
   count-split p q (x ∷ xs) = simp count-cons (omega (arith, count-split p q xs, split-one (p x) (q x)))
 
+  pub count-split-right : (p q : A → Bool) (xs : List A) → count (λ x. q x and not (p x)) xs + count (λ x. q x and p x) xs ≡ count q xs
+  count-split-right p q xs =
+      ap₂ _+_ (count-same (λ x. q x and not (p x)) (λ x. not (p x) and q x) xs (λ x. and-comm (q x) (not (p x))))
+      (count-same (λ x. q x and p x) (λ x. p x and q x) xs (λ x. and-comm (q x) (p x)))
+      ∙ count-split p q xs
+
   pub count-not : (p : A → Bool) (xs : List A) → count (λ x. not (p x)) xs + count p xs ≡ length xs
   count-not p [] = simp (count-nil, add-zero)
   count-not p (x ∷ xs) = simp count-cons (omega (arith, count-not p xs, one-of-two (p x)))
@@ -299,6 +305,33 @@ module _ {A : Type 0} where
       kept : (b : Bool) → p x ≡ b → T (all p (keep p xs)) → T (all p (cond b (x ∷ keep p xs) (keep p xs)))
       kept true e t = rw (e, true-and) t
       kept false e t = t
+
+  pub all-still : (p q : A → Bool) (xs : List A) → T (all q xs) → T (all q (keep p xs))
+  unfolding all keep
+  all-still p q [] t = tt
+  all-still p q (x ∷ xs) t = kept (p x) (all-still p q xs (and-right (q x) (all q xs) t))
+    where
+      kept : (b : Bool) → T (all q (keep p xs)) → T (all q (cond b (x ∷ keep p xs) (keep p xs)))
+      kept true u = and-both (q x) (all q (keep p xs)) (and-left (q x) (all q xs) t) u
+      kept false u = u
+
+  pub keep-append : (p : A → Bool) (xs ys : List A) → keep p (xs ++ ys) ≡ keep p xs ++ keep p ys
+  unfolding keep
+  keep-append p [] ys = refl
+  keep-append p (x ∷ xs) ys = kept (p x) (keep-append p xs ys)
+    where
+      kept : (b : Bool) → keep p (xs ++ ys) ≡ keep p xs ++ keep p ys → cond b (x ∷ keep p (xs ++ ys)) (keep p (xs ++ ys)) ≡ cond b (x ∷ keep p xs) (keep p xs) ++ keep p ys
+      kept true e = rw e refl
+      kept false e = e
+
+  pub keep-empty : (p : A → Bool) (xs : List A) → isEmpty (keep p xs) ≡ not (any p xs)
+  unfolding keep any isEmpty _or_
+  keep-empty p [] = refl
+  keep-empty p (x ∷ xs) = kept (p x) (keep-empty p xs)
+    where
+      kept : (b : Bool) → isEmpty (keep p xs) ≡ not (any p xs) → isEmpty (cond b (x ∷ keep p xs) (keep p xs)) ≡ not (b or any p xs)
+      kept true e = refl
+      kept false e = e
 
   -- ---- sums
 

@@ -97,8 +97,10 @@ below-A n p k l e =
   where
     left : l +ℤ (pos (suc n) -ℤ l) ≡ pos (suc n)
     left = +ℤ-comm l (pos (suc n) -ℤ l) ∙ -ℤ-+ℤ-cancel (pos (suc n)) l
+
     one-more : p + suc n ≡ k + 1
     one-more = omega arith
+
     right : pos p +ℤ (pos (suc n) -ℤ l) ≡ pos k -ℤ l +ℤ pos 1
     right = sym (+ℤ-assoc (pos p) (pos (suc n)) (negℤ l)) ∙ ap (λ m. pos m -ℤ l) one-more ∙ swap-last (pos k) (pos 1) (negℤ l)
 
@@ -113,6 +115,7 @@ lower-by-size a r = at (r .lower)
   where
     ts : List Term
     ts = r .terms
+
     at : (b : Bound ℤ) → atLeast b (total a ts) ≡ belowSize (N a ts) (mapBound (λ l. raised (pos (K ts) -ℤ (l +ℤ pos (rise ts)) +ℤ pos 1)) b)
     at absent = refl
     at (present l) = meets-lower a ts l ∙ below-A (N a ts) (P a ts) (K ts) (l +ℤ pos (rise ts)) (N-and-P a ts)
@@ -123,6 +126,7 @@ upper-by-size a r = at (r .upper)
   where
     ts : List Term
     ts = r .terms
+
     at : (b : Bound ℤ) → atMost b (total a ts) ≡ belowSize (P a ts) (mapBound (λ u. raised (u +ℤ pos (rise ts) +ℤ pos 1)) b)
     at absent = refl
     at (present u) = meets-upper a ts u ∙ below-B (P a ts) (u +ℤ pos (rise ts))

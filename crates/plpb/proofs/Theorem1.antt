@@ -1,7 +1,7 @@
 -- Theorem 1 of paper 004, equations (6) and (7): a joined part is false exactly where each of its parts is, so the false ones are counted by
 -- products; those false after a flip are the spoiled and the left ones, those false before it the mended and the left ones.
 use Prim.Native.Nat.{ℕ, _+_, _*_, _-_}
-use native.Mathlib.Nat.{one-mul, zero-mul}
+use native.Mathlib.Nat.{add-comm, one-mul, zero-mul}
 use native.Mathlib.Omega.{arith}
 use mathlib.Core.Path.{_≡_, refl, sym, ap, ap₂, _∙_, fun-ext}
 use mathlib.Core.Bool.{Bool, true, false, not, cond}
@@ -10,7 +10,7 @@ use Rattle.plpb.specs.Lists.{_and_, count, any, sumBy}
 use Rattle.plpb.specs.Plan.{Clause, Plan, Assignment, flip}
 use Rattle.plpb.specs.Expansion.{Part, parts, joined, expandClause, expansion, isTrue, spoils, mends, leaves, breakCount, makeCount}
 use Rattle.plpb.specs.Equations.{product}
-use Rattle.plpb.proofs.Lists.{count-nil, count-cons, count-concat, count-map, count-same, count-split, count-false, count-is-sum, sumBy-map, sumBy-same, sumBy-times, and-comm, and-middle, not-not, not-or, true-and, false-and}
+use Rattle.plpb.proofs.Lists.{count-nil, count-cons, count-concat, count-map, count-same, count-split, count-split-right, count-false, count-is-sum, sumBy-map, sumBy-same, sumBy-times, and-middle, not-or, true-and, false-and}
 use Rattle.plpb.proofs.Theorem2.{joined-true}
 
 -- ---- counts over joined parts
@@ -70,21 +70,12 @@ left-splits a x = both-split (isFalse a) (isFalse (flip a x)) (false-splits a) (
 pub spoiled-and-left : (a : Assignment) (x : ℕ) (cs : List Part) → count (spoils a x) cs + count (leaves a x) cs ≡ count (isFalse (flip a x)) cs
 unfolding spoils leaves isFalse
 spoiled-and-left a x cs =
-    ap (λ n. n + count (leaves a x) cs) (count-same (spoils a x) (λ c. not (isFalse a c) and isFalse (flip a x) c) cs each)
-    ∙ count-split (isFalse a) (isFalse (flip a x)) cs
-  where
-    each : (c : Part) → spoils a x c ≡ not (isFalse a c) and isFalse (flip a x) c
-    each c = ap (λ b. b and isFalse (flip a x) c) (sym (not-not (isTrue a c)))
+    add-comm (count (spoils a x) cs) (count (leaves a x) cs) ∙ count-split (isTrue a) (isFalse (flip a x)) cs
 
 pub mended-and-left : (a : Assignment) (x : ℕ) (cs : List Part) → count (mends a x) cs + count (leaves a x) cs ≡ count (isFalse a) cs
 unfolding mends leaves isFalse
 mended-and-left a x cs =
-    ap₂ _+_ (count-same (mends a x) (λ c. not (isFalse (flip a x) c) and isFalse a c) cs each)
-      (count-same (leaves a x) (λ c. isFalse (flip a x) c and isFalse a c) cs (λ c. and-comm (isFalse a c) (isFalse (flip a x) c)))
-    ∙ count-split (isFalse (flip a x)) (isFalse a) cs
-  where
-    each : (c : Part) → mends a x c ≡ not (isFalse (flip a x) c) and isFalse a c
-    each c = and-comm (isFalse a c) (isTrue (flip a x) c) ∙ ap (λ b. b and isFalse a c) (sym (not-not (isTrue (flip a x) c)))
+    add-comm (count (mends a x) cs) (count (leaves a x) cs) ∙ count-split-right (isTrue (flip a x)) (isFalse a) cs
 
 -- ---- (6) and (7)
 

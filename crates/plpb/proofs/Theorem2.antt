@@ -34,6 +34,7 @@ rule-holds a r =
   where
     lower : atLeast (r .lower) (total a (r .terms)) ≡ all (isTrue a) (choices (sizeA r) (copies (r .terms)))
     lower = lower-by-size a r ∙ sym (choices-true a (sizeA r) (copies (r .terms)) ∙ ap (λ n. belowSize n (sizeA r)) (false-copies a (r .terms)))
+
     upper : atMost (r .upper) (total a (r .terms)) ≡ all (isTrue a) (choices (sizeB r) (map opposite (copies (r .terms))))
     upper = upper-by-size a r ∙ sym (choices-true a (sizeB r) (map opposite (copies (r .terms))) ∙ ap (λ n. belowSize n (sizeB r)) (false-opposites a (r .terms)))
 
@@ -52,7 +53,7 @@ all-joined a ps qs =
     ∙ all-or-right (isTrue a) (all (isTrue a) qs) ps
   where
     each : (p : Part) → all (isTrue a) (map (λ q. p ++ q) qs) ≡ isTrue a p or all (isTrue a) qs
-    each p = 
+    each p =
         all-map (isTrue a) (λ q. p ++ q) qs
         ∙ all-same (λ q. isTrue a (p ++ q)) (λ q. isTrue a p or isTrue a q) qs (joined-true a p)
         ∙ all-or-left (isTrue a p) (isTrue a) qs
