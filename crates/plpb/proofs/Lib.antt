@@ -1,0 +1,7 @@
+pub mod Lists
+pub mod Normal
+pub mod Choices
+pub mod Theorem2
+pub mod Theorem1
+pub mod Flip
+pub mod Equations
