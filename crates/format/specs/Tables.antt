@@ -2,17 +2,17 @@
 -- Assumes nothing.
 use Prim.Native.Nat.{ℕ, zero, suc, _+_, _*_, _-_}
 use mathlib.Core.Path.{_≡_}
-use mathlib.Core.Bool.{cond}
+use mathlib.Core.Bool.{Bool, true, false, cond}
 use mathlib.Core.List.{List, [], _∷_, _++_, map}
 use lib.Dec.{T, ltb, eqb}
 use lib.IntN.{ℤ, pos, natAbs}
 use lib.ListN.{length, replicate, take}
 use lib.Pow.{areBytes}
-use Rattle.plpb.specs.Lists.{concat, keep, row}
+use Rattle.plpb.specs.Lists.{_and_, concat, keep, row}
 use Rattle.plpb.specs.Plan.{Bound, absent, present, Term, Rule, Clause, Plan}
 use Rattle.plpb.specs.Tallies.{rulesOf}
 use Rattle.words.specs.Words.{wordBytes, wordAt, signed, unsigned}
-use Rattle.format.specs.Limits.{termCount}
+use Rattle.format.specs.Limits.{termCount, lawful}
 use Rattle.format.specs.File.{Reading, accepted, read, boundOf}
 use Rattle.format.specs.Writer.{mode, boundNumber}
 
@@ -103,3 +103,16 @@ planIn f g = record { variables = f 0; objective = objectiveOf f; clauses = map 
 -- The plan that two tables hold.
 unfoldable pub planOfTables : List ℕ → List ℕ → Plan
 planOfTables tables terms = planIn (wordAt tables) (wordAt terms)
+
+unfoldable pub sameBytes : List ℕ → List ℕ → Bool
+sameBytes [] [] = true
+sameBytes [] (y ∷ ys) = false
+sameBytes (x ∷ xs) [] = false
+sameBytes (x ∷ xs) (y ∷ ys) = eqb x y and sameBytes xs ys
+
+-- Whether two tables are those that an accepted loading leaves: the plan read back is lawful, and they hold its words.
+unfoldable pub isLoaded : List ℕ → List ℕ → Bool
+isLoaded tables terms =
+    lawful (planOfTables tables terms)
+    and sameBytes (take tableSize tables) (wordBytes (tableWords (planOfTables tables terms)))
+    and sameBytes (take termSize terms) (wordBytes (termWords (planOfTables tables terms)))
