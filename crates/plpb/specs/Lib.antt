@@ -11,3 +11,4 @@ pub mod Numbers
 pub mod Walk
 pub mod Choice
 pub mod Search
+pub mod Sound
