@@ -1,0 +1,5 @@
+pub mod Integers
+pub mod Tests
+pub mod Costs
+pub mod Walks
+pub mod Soundness
