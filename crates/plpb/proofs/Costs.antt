@@ -1,24 +1,24 @@
 -- Costs and bounds: a cost is l(O) plus a natural number, its gap, and each bound of the tightening is a smaller gap.
-use Prim.Native.Nat.{ℕ, zero, suc, _+_, _*_, _-_, _/_, _≤_, _<_}
+use Prim.Native.Nat.{ℕ, zero, suc, _+_, _*_, _-_, _/_, _≤_, _<_, zero-le}
 use mathlib.Core.Bool.{Bool, true, false, cond}
-use mathlib.Core.List.{List, [], _∷_, _++_}
+use mathlib.Core.List.{List, [], _∷_}
 use mathlib.Core.Logic.{_≢_}
 use mathlib.Core.Path.{_≡_, refl, sym, _∙_, ap, ap₂, subst}
 use native.Mathlib.Omega.{arith}
 use borrow.Author.Tests.{ltb-true, ltb-false, lt-ltb, le-ltb}
-use lib.Dec.{T, leb, ltb, leb→le, ltb→lt, le→leb, lt→ltb}
-use lib.IntN.{ℤ, pos, negsuc, natAbs, sucℤ, predℤ, negℤ, subℕ, suc-pred, _+ℤ_, _-ℤ_, _*ℤ_, sucℤ-*ℤ, zero-*ℤ, -ℤ-one, +ℤ-idl, +ℤ-idr, +ℤ-assoc, +ℤ-comm}
+use lib.Dec.{T, ltb, ltb→lt, le→leb, lt→ltb}
+use lib.IntN.{ℤ, pos, negsuc, natAbs, predℤ, subℕ, suc-pred, _+ℤ_, _-ℤ_, _*ℤ_, sucℤ-*ℤ, zero-*ℤ, -ℤ-one, +ℤ-idl, +ℤ-idr, +ℤ-assoc, +ℤ-comm}
 use lib.Signed.{leZ, ltZ}
 use Rattle.plpb.specs.Lists.{_and_, _or_, any, all}
-use Rattle.plpb.specs.Plan.{Term, Plan, Assignment, absent, present, value, total, atLeast, atMost, ruleHolds, clauseHolds, satisfies, cost, negativePart, leastTotal, floorCost}
+use Rattle.plpb.specs.Plan.{Term, Plan, Assignment, value, total, atLeast, atMost, ruleHolds, clauseHolds, satisfies, cost, negativePart, leastTotal, floorCost}
 use Rattle.plpb.specs.Search.{tightened, third, lbsBound, linearBound, atFloor, gap}
-use Rattle.plpb.proofs.Integers.{ltZ-suc, leZ-shift, ltZ-shift, leZ-difference, leZ-refl, leZ-antisym, leZ-add, leZ-ltZ-trans}
+use Rattle.plpb.proofs.Integers.{ltZ-suc, ltZ-shift, leZ-difference, leZ-refl, leZ-antisym, leZ-add, leZ-ltZ-trans}
 use Rattle.plpb.proofs.Tests.{T-true, false-T, and-left, and-right, and-both, and-true, or-false, all-append}
 
 -- No assignment costs less than l(O): each term gives its weight or nothing.
 negative-part : (b : Bool) (w : ℤ) → T (leZ (negativePart w) (cond b w (pos 0)))
 unfolding negativePart
-negative-part true (pos n) = le→leb 0 n Prim.Native.Nat.zero-le
+negative-part true (pos n) = le→leb 0 n zero-le
 negative-part true (negsuc n) = leZ-refl (negsuc n)
 negative-part false (pos n) = tt
 negative-part false (negsuc n) = tt
@@ -28,7 +28,7 @@ unfolding total leastTotal
 least-total a [] = tt
 least-total a (t ∷ ts) =
     leZ-add (negativePart (t .weight)) (cond (value a (t .variable)) (t .weight) (pos 0)) (leastTotal ts) (total a ts)
-      (negative-part (value a (t .variable)) (t .weight)) (least-total a ts)
+    (negative-part (value a (t .variable)) (t .weight)) (least-total a ts)
 
 pub floor-below : (p : Plan) (a : Assignment) → T (leZ (floorCost p) (cost p a))
 unfolding floorCost cost
@@ -54,8 +54,11 @@ above-floor p a e c = false-T e (and-both _ _ (rw c (leZ-refl (cost p a))) (floo
 pub gap-falls : (p : Plan) (a b : Assignment) → T (ltZ (cost p b) (cost p a)) → gap p b < gap p a
 gap-falls p a b h =
     let e : ltZ (cost p b) (cost p a) ≡ ltb (gap p b) (gap p a) =
-          ap₂ ltZ (sym (gap-cost p b)) (sym (gap-cost p a)) ∙ ltZ-shift (floorCost p) (pos (gap p b)) (pos (gap p a)) in
+    ap₂ ltZ (sym (gap-cost p b)) (sym (gap-cost p a)) ∙ ltZ-shift (floorCost p) (pos (gap p b)) (pos (gap p a)) in
     ltb→lt (gap p b) (gap p a) (subst T e h)
+
+pub bound-falls : (p : Plan) (m : ℤ) (a b : Assignment) → T (leZ (cost p b) m) → T (ltZ m (cost p a)) → gap p b < gap p a
+bound-falls p m a b h k = gap-falls p a b (leZ-ltZ-trans (cost p b) m (cost p a) h k)
 
 -- "O ≤ v − 1" is below v.
 pub linear-less : (v : ℤ) → T (ltZ (linearBound v) v)
@@ -100,7 +103,7 @@ lbs-less l v h d =
     let e : l +ℤ pos g ≡ v = leZ-difference l v h in
     let z : g ≢ 0 = λ n. d (sym (+ℤ-idr l) ∙ ap (λ k. l +ℤ pos k) (sym n) ∙ e) in
     subst (λ w. T (ltZ (lbsBound l w) w)) e
-      (rw (lbs-gap l g, ltZ-shift l (pos (2 * g / 3)) (pos g)) (lt→ltb (2 * g / 3) g (omega arith)))
+    (rw (lbs-gap l g, ltZ-shift l (pos (2 * g / 3)) (pos g)) (lt→ltb (2 * g / 3) g (omega arith)))
 
 -- A third rounds down: 3·⌊z/3⌋ ≤ z < 3·⌊z/3⌋ + 3.
 pub third-below : (z : ℤ) → T (leZ (pos 3 *ℤ third z) z)
@@ -127,7 +130,7 @@ pub satisfies-tightened : (p : Plan) (m : ℤ) (a : Assignment) → satisfies a 
 unfolding tightened satisfies clauseHolds ruleHolds atLeast atMost cost all any _and_
 satisfies-tightened p m a =
     all-append (clauseHolds a) (p .clauses) _
-      ∙ ap (λ b. satisfies a p and b) (and-true (leZ (cost p a) m or false) ∙ or-false (leZ (cost p a) m))
+    ∙ ap (λ b. satisfies a p and b) (and-true (leZ (cost p a) m or false) ∙ or-false (leZ (cost p a) m))
 
 -- So what a call finds under a bound below the last cost is a plan, and costs less than the last.
 pub tightened-find : (p : Plan) (m v : ℤ) (b : Assignment) → T (ltZ m v) → T (satisfies b (tightened p m)) → T (satisfies b p) × T (ltZ (cost p b) v)

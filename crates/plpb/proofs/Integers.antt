@@ -63,21 +63,21 @@ leZ-trans a b c h k =
     let j = natAbs (b -ℤ a) in
     let i = natAbs (c -ℤ b) in
     let e : a +ℤ pos (j + i) ≡ c =
-          sym (+ℤ-assoc a (pos j) (pos i)) ∙ ap (λ z. z +ℤ pos i) (leZ-difference a b h) ∙ leZ-difference b c k in
+    sym (+ℤ-assoc a (pos j) (pos i)) ∙ ap (λ z. z +ℤ pos i) (leZ-difference a b h) ∙ leZ-difference b c k in
     subst (λ z. T (leZ a z)) e (leZ-plus a (j + i))
 
 pub leZ-antisym : (a b : ℤ) → T (leZ a b) → T (leZ b a) → a ≡ b
 leZ-antisym a b h k =
     let j = natAbs (b -ℤ a) in
     let e : leZ b a ≡ leb j 0 =
-          ap₂ leZ (sym (leZ-difference a b h)) (sym (+ℤ-idr a)) ∙ leZ-shift a (pos j) (pos 0) in
+    ap₂ leZ (sym (leZ-difference a b h)) (sym (+ℤ-idr a)) ∙ leZ-shift a (pos j) (pos 0) in
     let z : j ≡ 0 = omega (arith, leb→le j 0 (subst T e k)) in
     sym (+ℤ-idr a) ∙ ap (λ n. a +ℤ pos n) (sym z) ∙ leZ-difference a b h
 
 pub leZ-add : (a b c d : ℤ) → T (leZ a b) → T (leZ c d) → T (leZ (a +ℤ c) (b +ℤ d))
 leZ-add a b c d h k =
     leZ-trans (a +ℤ c) (a +ℤ d) (b +ℤ d) (rw (leZ-shift a c d) k)
-      (rw (+ℤ-comm a d, +ℤ-comm b d, leZ-shift d a b) h)
+    (rw (+ℤ-comm a d, +ℤ-comm b d, leZ-shift d a b) h)
 
 pub leZ-ltZ-trans : (a b c : ℤ) → T (leZ a b) → T (ltZ b c) → T (ltZ a c)
 leZ-ltZ-trans a b c h k =

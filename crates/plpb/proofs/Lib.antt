@@ -3,3 +3,4 @@ pub mod Tests
 pub mod Costs
 pub mod Walks
 pub mod Soundness
+pub mod Example

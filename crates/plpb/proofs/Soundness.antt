@@ -2,7 +2,6 @@
 use Prim.Native.Nat.{ℕ, zero, suc, _+_, _≤_, _<_}
 use mathlib.Core.Bool.{Bool, true, false, not, cond}
 use mathlib.Core.List.{List, [], _∷_, reverseAux}
-use mathlib.Core.Logic.{_≢_}
 use mathlib.Core.Path.{_≡_, refl, sym, _∙_, ap, subst}
 use native.Mathlib.Omega.{arith}
 use lib.Arith.{le-zero}
@@ -12,15 +11,14 @@ use lib.ListN.{length, getD}
 use lib.Signed.{ltZ}
 use Rattle.plpb.specs.Lists.{_and_, _or_, any, all, keep, isEmpty}
 use Rattle.plpb.specs.Plan.{Clause, Plan, Assignment, flip, satisfies, cost, floorCost}
-use Rattle.plpb.specs.Numbers.{startWords, startOf}
-use Rattle.plpb.specs.Walk.{Walk, done, words, pick, look, flipped, found, _>>=_, Mark, Outcome, ends, short, run, looks}
-use Rattle.plpb.specs.Choice.{choosable, pickFrom, leastBreak, withBreak, noisyChoice, choice}
+use Rattle.plpb.specs.Walk.{Walk, done, flipped, _>>=_, Mark, Outcome, ends, short, run}
+use Rattle.plpb.specs.Choice.{choosable, pickFrom, withBreak, noisyChoice, choice}
 use Rattle.plpb.specs.Tallies.{unsatisfied}
 use Rattle.plpb.specs.Search.{Mode, linear, lbs, Settings, Reached, failed, reached, move, flipping, try, orElse, trying, call, tightened, lbsBound, linearBound, Ending, floor, ended, none, short-found, short-none, atFloor, gap, after, linearSearch, lbsSearch, tighten, searchWalk, lastFind, costOf, answerOf, conclude, begin, search}
 use Rattle.plpb.specs.Sound.{markOf, findsOf, looksOf, costsLess, falling, noPlan, Sound}
-use Rattle.plpb.proofs.Tests.{T-true, and-left, and-right, and-both, or-true, or-false, any-reverse}
+use Rattle.plpb.proofs.Tests.{T-true, and-both, or-true, or-false, any-reverse}
 use Rattle.plpb.proofs.Costs.{floor-below, gap-zero, at-floor, above-floor, gap-falls, linear-less, lbs-less, tightened-find}
-use Rattle.plpb.proofs.Walks.{at, Meets, Holds, meets-run, meets-bind, used-within, Draws, draws-bind, draws-meets}
+use Rattle.plpb.proofs.Walks.{at, Claim, Meets, Holds, meets-run, meets-bind, used-within, Draws, draws-meets}
 
 -- A choice only draws numbers.
 pick-draws : {A : Type 0} (d : A) (xs : List A) → Draws (pickFrom d xs)
@@ -40,66 +38,76 @@ choice-draws p noise a c = either (isEmpty (withBreak p a 0 (choosable p c)))
     either false = pick-draws 0 (withBreak p a 0 (choosable p c))
 
 -- A call for a plan q, from finds fs: I holds throughout if J is kept by looks that fail, and a call returns with what satisfies q or with nothing.
-module _ (s : Settings) (q : Plan) (fs : List Assignment) (I : Mark → List Assignment → Type 0) (J : List Assignment → Type 0) where
-  record Returns (Q : Reached → Mark → List Assignment → Type 0) : Type 0 where
-    during : (u f : ℕ) (ls : List Assignment) → f ≤ u → J ls → I (at u f fs) ls
-    miss : (a : Assignment) (ls : List Assignment) → satisfies a q ≡ false → J ls → J (a ∷ ls)
-    hit : (a : Assignment) (u f : ℕ) (ls : List Assignment) → satisfies a q ≡ true → f ≤ u → J ls → Q (reached a) (at u f fs) (a ∷ ls)
-    lost : (u f : ℕ) (ls : List Assignment) → f ≤ u → J ls → Q failed (at u f fs) ls
+module _ (s : Settings) (q : Plan) (fs : List Assignment) (I : Claim) (J : List Assignment → Type 0) where
+  pub record Returns (Q : Reached → Claim) : Type 0 where
+    pub during : (u f : ℕ) (ls : List Assignment) → f ≤ u → J ls → I (at u f fs) ls
+    pub miss : (a : Assignment) (ls : List Assignment) → satisfies a q ≡ false → J ls → J (a ∷ ls)
+    pub hit : (a : Assignment) (u f : ℕ) (ls : List Assignment) → satisfies a q ≡ true → f ≤ u → J ls → Q (reached a) (at u f fs) (a ∷ ls)
+    pub lost : (u f : ℕ) (ls : List Assignment) → f ≤ u → J ls → Q failed (at u f fs) ls
 
-  abbrev Called : Walk Reached → Type 1
-  Called w = (Q : Reached → Mark → List Assignment → Type 0) → Returns Q → (u f : ℕ) (ls : List Assignment) → f ≤ u → J ls → Meets I Q w (at u f fs) ls
+  abbrev pub Called : Walk Reached → Type 1
+  Called w = (Q : Reached → Claim) → Returns Q → (u f : ℕ) (ls : List Assignment) → f ≤ u → J ls → Meets I Q w (at u f fs) ls
 
-  move-meets : (Q : Assignment → Mark → List Assignment → Type 0) (a : Assignment) (u f : ℕ) (ls : List Assignment) → ((v : ℕ) → u ≤ v → I (at v f fs) ls) → ((b : Assignment) (v : ℕ) → u < v → Q b (at v (f + 1) fs) ls) → Meets I Q (move s q a) (at u f fs) ls
+  move-meets : (Q : Assignment → Claim) (a : Assignment) (u f : ℕ) (ls : List Assignment)
+      → ((v : ℕ) → u ≤ v → I (at v f fs) ls)
+      → ((b : Assignment) (v : ℕ) → u < v → Q b (at v (f + 1) fs) ls)
+      → Meets I Q (move s q a) (at u f fs) ls
   unfolding move pickFrom Meets _>>=_
-  move-meets Q a u f ls i h =
-      (i u (omega arith), λ r. meets-bind I Q (λ x. flipped (done (flip a x))) (choice q (s .noise) a _) (at (u + 1) f fs) ls
-        (draws-meets I _ f fs ls (choice q (s .noise) a _) (u + 1) (choice-draws q (s .noise) a _) (λ v l. i v (omega arith)) (λ x v l. h (flip a x) v (omega arith))))
+  move-meets Q a u f ls i h = (
+    i,
+    λ r v l.
+        let c = getD (keep (unsatisfied a) (q .clauses)) r [] in
+        meets-bind I Q (λ x. flipped (done (flip a x))) (choice q (s .noise) a c) (at v f fs) ls
+        (draws-meets I _ f fs ls (choice q (s .noise) a c) v (choice-draws q (s .noise) a c) (λ w k. i w (omega arith)) (λ x w k. h (flip a x) w (omega arith))),
+  )
 
   flipping-meets : (left : ℕ) (a : Assignment) → Called (flipping s q left a)
   unfolding flipping Meets
   flipping-meets zero a Q r u f ls h j = r .lost u f ls h j
   flipping-meets (suc left) a Q r u f ls h j = looked (satisfies a q) refl (flipping-meets left)
     where
-      looked : (b : Bool) → satisfies a q ≡ b → ((b : Assignment) → Called (flipping s q left b)) → Meets I Q (cond b (done (reached a)) (move s q a >>= flipping s q left)) (at u f fs) (a ∷ ls)
+      looked : (b : Bool) → satisfies a q ≡ b
+          → ((b : Assignment) → Called (flipping s q left b))
+          → Meets I Q (cond b (done (reached a)) (move s q a >>= flipping s q left)) (at u f fs) (a ∷ ls)
       looked true e on = r .hit a u f ls e h j
       looked false e on =
           let k = r .miss a ls e j in
           meets-bind I Q (flipping s q left) (move s q a) (at u f fs) (a ∷ ls)
-            (move-meets _ a u f (a ∷ ls) (λ v l. r .during v f (a ∷ ls) (omega arith) k) (λ b v l. on b Q r v (f + 1) (a ∷ ls) (omega arith) k))
+          (move-meets _ a u f (a ∷ ls) (λ v l. r .during v f (a ∷ ls) (omega arith) k) (λ b v l. on b Q r v (f + 1) (a ∷ ls) (omega arith) k))
 
   try-meets : Called (try s q)
   unfolding try Meets
-  try-meets Q r u f ls h j = (r .during u f ls h j, λ ws. flipping-meets (s .flips) _ Q r _ f ls (omega arith) j)
+  try-meets Q r u f ls h j =
+      (λ v l. r .during v f ls (omega arith) j, λ ws v l. flipping-meets (s .flips) _ Q r v f ls (omega arith) j)
 
   trying-meets : (left : ℕ) → Called (trying s q left)
   unfolding trying orElse Meets
   trying-meets zero Q r u f ls h j = r .lost u f ls h j
   trying-meets (suc left) Q r u f ls h j =
       meets-bind I Q (orElse (trying s q left)) (try s q) (at u f fs) ls
-        (try-meets _ (record { during = r .during; miss = r .miss; hit = r .hit; lost = trying-meets left Q r }) u f ls h j)
+      (try-meets _ (record { during = r .during; miss = r .miss; hit = r .hit; lost = trying-meets left Q r }) u f ls h j)
 
-  call-meets : Called (call s q)
+  pub call-meets : Called (call s q)
   unfolding call
   call-meets = trying-meets (s .tries)
 
 -- What is kept through a search, and what its endings say.
-abbrev seen : Plan → List Assignment → Bool
+abbrev pub seen : Plan → List Assignment → Bool
 seen p ls = any (λ a. satisfies a p) ls
 
-record Good (p : Plan) (fs : List Assignment) : Type 0 where
-  satisfied : T (all (λ a. satisfies a p) fs)
-  fell : T (falling p fs)
+pub record Good (p : Plan) (fs : List Assignment) : Type 0 where
+  pub satisfied : T (all (λ a. satisfies a p) fs)
+  pub fell : T (falling p fs)
 
 pub record Kept (p : Plan) (m : Mark) (ls : List Assignment) : Type 0 where
-  good : Good p (m .finds)
-  noted : isEmpty (m .finds) ≡ not (seen p ls)
-  fair : m .flips ≤ m .used
+  pub good : Good p (m .finds)
+  pub nothing-seen : isEmpty (m .finds) ≡ not (seen p ls)
+  pub fair : m .flips ≤ m .used
 
 pub record Ended (p : Plan) (e : Ending) (m : Mark) (ls : List Assignment) : Type 0 where
-  kept : Kept p m ls
-  says : noPlan e ≡ isEmpty (m .finds)
-  floored : e ≡ floor → costOf p (lastFind (m .finds)) ≡ floorCost p
+  pub kept : Kept p m ls
+  pub says : noPlan e ≡ isEmpty (m .finds)
+  pub floored : e ≡ floor → costOf p (lastFind (m .finds)) ≡ floorCost p
 
 one-good : (p : Plan) (a : Assignment) → T (satisfies a p) → Good p (a ∷ [])
 unfolding all falling costsLess _and_
@@ -112,11 +120,11 @@ more-good p b a fs h k g =
 
 kept-found : (p : Plan) (a : Assignment) (fs : List Assignment) → Good p (a ∷ fs) → (u f : ℕ) (ls : List Assignment) → f ≤ u → seen p ls ≡ true → Kept p (at u f (a ∷ fs)) ls
 unfolding isEmpty
-kept-found p a fs g u f ls h k = record { good = g; noted = ap not (sym k); fair = h }
+kept-found p a fs g u f ls h k = record { good = g; nothing-seen = ap not (sym k); fair = h }
 
 kept-none : (p : Plan) (u f : ℕ) (ls : List Assignment) → f ≤ u → seen p ls ≡ false → Kept p (at u f []) ls
 unfolding isEmpty all falling
-kept-none p u f ls h k = record { good = record { satisfied = tt; fell = tt }; noted = ap not (sym k); fair = h }
+kept-none p u f ls h k = record { good = record { satisfied = tt; fell = tt }; nothing-seen = ap not (sym k); fair = h }
 
 seen-before : (p : Plan) (a : Assignment) (ls : List Assignment) → seen p ls ≡ true → seen p (a ∷ ls) ≡ true
 unfolding any
@@ -140,20 +148,26 @@ module _ (s : Settings) (p : Plan) where
   ended-goes a fs g u f ls h k = record { kept = kept-found p a fs g u f ls h k; says = refl; floored = λ e. cc }
 
   -- One call with an added clause whose bound lies below the last cost.
-  next-goes : (m : ℤ) (a : Assignment) (fs : List Assignment) → Good p (a ∷ fs) → T (ltZ m (cost p a)) → (otherwise : Walk Ending) (next : Assignment → Walk Ending) → Goes otherwise (a ∷ fs) → ((b : Assignment) → Good p (b ∷ a ∷ fs) → gap p b < gap p a → Goes (next b) (b ∷ a ∷ fs)) → Goes (call s (tightened p m) >>= after otherwise next) (a ∷ fs)
+  next-goes : (m : ℤ) (a : Assignment) (fs : List Assignment) → Good p (a ∷ fs) → T (ltZ m (cost p a))
+      → (otherwise : Walk Ending) (next : Assignment → Walk Ending)
+      → Goes otherwise (a ∷ fs) → ((b : Assignment) → Good p (b ∷ a ∷ fs) → gap p b < gap p a → Goes (next b) (b ∷ a ∷ fs))
+      → Goes (call s (tightened p m) >>= after otherwise next) (a ∷ fs)
   unfolding Meets after
   next-goes m a fs g l otherwise next lost won u f ls h k =
       meets-bind (Kept p) (Ended p) (after otherwise next) (call s (tightened p m)) (at u f (a ∷ fs)) ls
-        (call-meets s (tightened p m) (a ∷ fs) (Kept p) (λ ls. seen p ls ≡ true) _ (record {
-          during = kept-found p a fs g;
-          miss = λ b ls e k. seen-before p b ls k;
-          hit = λ b u f ls e h k.
-              let t = tightened-find p m (cost p a) b l (T-true e) in
-              won b (more-good p b a fs (t .0) (t .1) g) (gap-falls p a b (t .1)) u f (b ∷ ls) h (seen-before p b ls k);
-          lost = lost }) u f ls h k)
+      (call-meets s (tightened p m) (a ∷ fs) (Kept p) (λ ls. seen p ls ≡ true) _ (record {
+        during = kept-found p a fs g;
+        miss = λ b ls e k. seen-before p b ls k;
+        hit = λ b u f ls e h k.
+            let t = tightened-find p m (cost p a) b l (T-true e) in
+            won b (more-good p b a fs (t .0) (t .1) g) (gap-falls p a b (t .1)) u f (b ∷ ls) h (seen-before p b ls k);
+        lost = lost;
+      }) u f ls h k)
 
   -- "A found assignment of cost v with v = l(O) ends the search."
-  unless-floor : (a : Assignment) (fs : List Assignment) (on : Walk Ending) → Good p (a ∷ fs) → (b : Bool) → atFloor p a ≡ b → (atFloor p a ≡ false → Goes on (a ∷ fs)) → Goes (cond b (done floor) on) (a ∷ fs)
+  unless-floor : (a : Assignment) (fs : List Assignment) (on : Walk Ending) → Good p (a ∷ fs)
+      → (b : Bool) → atFloor p a ≡ b → (atFloor p a ≡ false → Goes on (a ∷ fs))
+      → Goes (cond b (done floor) on) (a ∷ fs)
   unless-floor a fs on g true e h = floor-goes a fs g (at-floor p a e)
   unless-floor a fs on g false e h = h e
 
@@ -162,15 +176,15 @@ module _ (s : Settings) (p : Plan) where
   linear-goes zero a fs g h = floor-goes a fs g (gap-zero p a (le-zero h))
   linear-goes (suc left) a fs g h = unless-floor a fs _ g (atFloor p a) refl
       (λ e. next-goes (linearBound (cost p a)) a fs g (linear-less (cost p a)) (done ended) (linearSearch s p left) (ended-goes a fs g)
-        (λ b g′ l. linear-goes left b (a ∷ fs) g′ (omega arith)))
+      (λ b g′ l. linear-goes left b (a ∷ fs) g′ (omega arith)))
 
   lbs-goes : (left : ℕ) (a : Assignment) (fs : List Assignment) → Good p (a ∷ fs) → gap p a ≤ left → Goes (lbsSearch s p left a) (a ∷ fs)
   unfolding lbsSearch
   lbs-goes zero a fs g h = floor-goes a fs g (gap-zero p a (le-zero h))
   lbs-goes (suc left) a fs g h = unless-floor a fs _ g (atFloor p a) refl
       (λ e. next-goes (lbsBound (floorCost p) (cost p a)) a fs g (lbs-less (floorCost p) (cost p a) (floor-below p a) (above-floor p a e))
-        (linearSearch s p (suc left) a) (lbsSearch s p left) (linear-goes (suc left) a fs g h)
-        (λ b g′ l. lbs-goes left b (a ∷ fs) g′ (omega arith)))
+      (linearSearch s p (suc left) a) (lbsSearch s p left) (linear-goes (suc left) a fs g h)
+      (λ b g′ l. lbs-goes left b (a ∷ fs) g′ (omega arith)))
 
   tighten-goes : (m : Mode) (a : Assignment) (fs : List Assignment) → Good p (a ∷ fs) → Goes (tighten m s p (gap p a) a) (a ∷ fs)
   unfolding tighten
@@ -182,11 +196,12 @@ module _ (s : Settings) (p : Plan) where
   unfolding searchWalk Meets after begin any _or_ noPlan isEmpty
   search-meets =
       meets-bind (Kept p) (Ended p) (after (done none) (λ a. tighten (s .mode) s p (gap p a) a)) (call s p) begin []
-        (call-meets s p [] (Kept p) (λ ls. seen p ls ≡ false) _ (record {
-          during = kept-none p;
-          miss = λ b ls e k. seen-now p b ls e ∙ k;
-          hit = λ b u f ls e h k. tighten-goes (s .mode) b [] (one-good p b (T-true e)) u f (b ∷ ls) h (seen-now p b ls e);
-          lost = λ u f ls h k. record { kept = kept-none p u f ls h k; says = refl; floored = λ e. cc } }) 0 0 [] (omega arith) refl)
+      (call-meets s p [] (Kept p) (λ ls. seen p ls ≡ false) _ (record {
+        during = kept-none p;
+        miss = λ b ls e k. seen-now p b ls e ∙ k;
+        hit = λ b u f ls e h k. tighten-goes (s .mode) b [] (one-good p b (T-true e)) u f (b ∷ ls) h (seen-now p b ls e);
+        lost = λ u f ls h k. record { kept = kept-none p u f ls h k; says = refl; floored = λ e. cc };
+      }) 0 0 [] (omega arith) refl)
 
 -- What a run's outcome says, ended or short.
 module _ (p : Plan) (ls : List Assignment) where
@@ -224,7 +239,7 @@ module _ (s : Settings) (p : Plan) (ns : List ℕ) where
 
   outcome-holds : Holds (Kept p) (Ended p) outcome (reverseAux (looksOf s p ns) [])
   unfolding outcome looksOf begin
-  outcome-holds = meets-run (Kept p) (Ended p) (searchWalk s p) ns begin [] (search-meets s p)
+  outcome-holds = meets-run (Kept p) (Ended p) ns (searchWalk s p) begin [] (search-meets s p)
 
   outcome-seen : seen p (reverseAux (looksOf s p ns) []) ≡ seen p (looksOf s p ns)
   unfolding any
@@ -249,7 +264,7 @@ module _ (s : Settings) (p : Plan) (ns : List ℕ) where
         cost-stated = ap (λ r. r .cost) answered ∙ ap (costOf p) (sym handed);
         finds-counted = ap (λ r. r .finds) answered;
         none-found = said;
-        none-only = said ∙ outcome-kept .noted ∙ ap not outcome-seen;
+        none-only = said ∙ outcome-kept .nothing-seen ∙ ap not outcome-seen;
         floor-only = floored-of p _ outcome outcome-holds;
       }
 

@@ -1,5 +1,5 @@
 -- Laws of the tests over lists and of 'and' and 'or': each by the clauses of the test.
-use mathlib.Core.Bool.{Bool, true, false, not, cond}
+use mathlib.Core.Bool.{Bool, true, false}
 use mathlib.Core.List.{List, [], _∷_, _++_, reverseAux}
 use mathlib.Core.Path.{_≡_, refl, sym, _∙_, ap}
 use lib.Dec.{T}
