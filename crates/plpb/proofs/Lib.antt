@@ -1,4 +1,6 @@
+-- The theorems about the definitions. Laws of lists, integers and walks come first; what they carry comes after.
 pub mod Lists
+pub mod Integers
 pub mod Flip
 pub mod Normal
 pub mod Choices
@@ -6,3 +8,8 @@ pub mod Theorem2
 pub mod Theorem1
 pub mod Equations
 pub mod Stars
+pub mod Tests
+pub mod Costs
+pub mod Walks
+pub mod Soundness
+pub mod Example
