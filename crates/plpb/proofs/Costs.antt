@@ -13,7 +13,7 @@ use Rattle.plpb.specs.Lists.{_and_, _or_, any, all}
 use Rattle.plpb.specs.Plan.{Term, Plan, Assignment, value, total, atLeast, atMost, ruleHolds, clauseHolds, satisfies, cost, negativePart, leastTotal, floorCost}
 use Rattle.plpb.specs.Search.{tightened, third, lbsBound, linearBound, atFloor, gap}
 use Rattle.plpb.proofs.Integers.{ltZ-suc, ltZ-shift, leZ-difference, leZ-refl, leZ-antisym, leZ-add, leZ-ltZ-trans}
-use Rattle.plpb.proofs.Tests.{T-true, false-T, and-left, and-right, and-both, and-true, or-false, all-append}
+use Rattle.plpb.proofs.Lists.{T-true, false-T, and-left, and-right, and-both, and-true, or-false, all-append}
 
 -- No assignment costs less than l(O): each term gives its weight or nothing.
 negative-part : (b : Bool) (w : ℤ) → T (leZ (negativePart w) (cond b w (pos 0)))

@@ -6,7 +6,7 @@ use lib.Dec.{T, leb, leb→le, le→leb, leb·zero, leb·suc-zero, leb·suc-suc}
 use lib.IntN.{ℤ, pos, negsuc, natAbs, sucℤ, predℤ, negℤ, suc-pred, _+ℤ_, _-ℤ_, sucℤ-+ℤ, predℤ-+ℤ, +ℤ-sucℤ, +ℤ-idl, +ℤ-idr, +ℤ-assoc, +ℤ-comm, +ℤ-invl, -ℤ-+ℤ-cancel}
 use lib.Signed.{leZ, ltZ, nonNeg, pos-natAbs, ≤ℤ-refl}
 
-leZ-suc : (a b : ℤ) → leZ (sucℤ a) (sucℤ b) ≡ leZ a b
+pub leZ-suc : (a b : ℤ) → leZ (sucℤ a) (sucℤ b) ≡ leZ a b
 leZ-suc (pos a) (pos b) = leb·suc-suc a b
 leZ-suc (pos a) (negsuc zero) = leb·suc-zero a
 leZ-suc (pos a) (negsuc (suc b)) = refl
@@ -37,6 +37,9 @@ leZ-shift (negsuc zero) a b =
     ap₂ leZ (predℤ-+ℤ (pos 0) a) (predℤ-+ℤ (pos 0) b) ∙ leZ-pred (pos 0 +ℤ a) (pos 0 +ℤ b) ∙ ap₂ leZ (+ℤ-idl a) (+ℤ-idl b)
 leZ-shift (negsuc (suc n)) a b =
     ap₂ leZ (predℤ-+ℤ (negsuc n) a) (predℤ-+ℤ (negsuc n) b) ∙ leZ-pred (negsuc n +ℤ a) (negsuc n +ℤ b) ∙ leZ-shift (negsuc n) a b
+
+pub leZ-plus-both : (a b c : ℤ) → leZ (a +ℤ c) (b +ℤ c) ≡ leZ a b
+leZ-plus-both a b c = ap₂ leZ (+ℤ-comm a c) (+ℤ-comm b c) ∙ leZ-shift c a b
 
 pub ltZ-shift : (c a b : ℤ) → ltZ (c +ℤ a) (c +ℤ b) ≡ ltZ a b
 ltZ-shift c a b =

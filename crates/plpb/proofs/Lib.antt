@@ -8,8 +8,8 @@ pub mod Theorem2
 pub mod Theorem1
 pub mod Equations
 pub mod Stars
-pub mod Tests
 pub mod Costs
 pub mod Walks
 pub mod Soundness
+pub mod LastFlip
 pub mod Example

@@ -5,7 +5,7 @@ use native.Mathlib.Numerals.{one-add}
 use native.Mathlib.Omega.{arith}
 use mathlib.Core.Path.{_≡_, refl, sym, ap, ap₂, _∙_, fun-ext}
 use mathlib.Core.Bool.{Bool, true, false, not, cond}
-use mathlib.Core.List.{List, [], _∷_, _++_, map}
+use mathlib.Core.List.{List, [], _∷_, _++_, map, reverseAux}
 use lib.Dec.{T, eqb, eqb·suc-zero, lit≤}
 use lib.ListN.{length, getD, replicate}
 use Rattle.plpb.specs.Lists.{_and_, _or_, keep, count, any, all, sumBy, concat, isEmpty, row}
@@ -134,6 +134,18 @@ or-right-over-and false b true = sym (or-true b)
 or-right-over-and false b false = refl
 
 -- Two tests are equal where each follows from the other.
+pub T-true : {b : Bool} → b ≡ true → T b
+T-true e = rw e tt
+
+pub false-T : {b : Bool} → b ≡ false → T b → ⊥
+false-T e t = rw e at t
+
+pub or-left-comm : (a b c : Bool) → a or (b or c) ≡ b or (a or c)
+unfolding _or_
+or-left-comm true true c = refl
+or-left-comm true false c = refl
+or-left-comm false b c = refl
+
 pub same-test : (a b : Bool) → (T a → T b) → (T b → T a) → a ≡ b
 same-test true true f g = refl
 same-test true false f g = absurd (f tt)
@@ -399,3 +411,10 @@ unfolding row
 row-at i zero j d h = absurd (not-suc-le-zero h)
 row-at i (suc k) zero d h = sym (add-zero i)
 row-at i (suc k) (suc j) d h = row-at (suc i) k j d (le-of-suc-le-suc h) ∙ omega arith
+
+module _ {A : Type 0} (p : A → Bool) where
+  pub any-reverse : (xs ys : List A) → any p (reverseAux xs ys) ≡ any p xs or any p ys
+  unfolding any _or_
+  any-reverse [] ys = refl
+  any-reverse (x ∷ xs) ys =
+      any-reverse xs (x ∷ ys) ∙ or-left-comm (any p xs) (p x) (any p ys) ∙ sym (or-assoc (p x) (any p xs) (any p ys))

@@ -11,6 +11,7 @@ use lib.Signed.{leZ}
 use Rattle.plpb.specs.Lists.{sumBy}
 use Rattle.plpb.specs.Plan.{Bound, absent, present, mapBound, Term, Rule, Assignment, value, total, atLeast, atMost}
 use Rattle.plpb.specs.Normal.{literal, literalTrue, isNegative, size, rise, raised, K, P, N, sizeA, sizeB}
+use Rattle.plpb.proofs.Integers.{leZ-suc, leZ-plus-both}
 
 -- ---- N and P together are K
 
@@ -50,33 +51,12 @@ raised-total a [] = refl
 raised-total a (t ∷ ts) =
     swap-middle (cond (value a (t .variable)) (t .weight) (pos 0)) (total a ts) (cond (isNegative (t .weight)) (size t) 0) (rise ts) ∙ ap₂ _+ℤ_ (raised-term (value a (t .variable)) (t .weight)) (raised-total a ts)
 
--- ---- what is added to both sides of a comparison
-
-leZ-suc : (a b : ℤ) → leZ (sucℤ a) (sucℤ b) ≡ leZ a b
-leZ-suc (pos a) (pos b) = leb·suc-suc a b
-leZ-suc (pos a) (negsuc zero) = leb·suc-zero a
-leZ-suc (pos a) (negsuc (suc b)) = refl
-leZ-suc (negsuc zero) (pos b) = leb·zero (suc b)
-leZ-suc (negsuc (suc a)) (pos b) = refl
-leZ-suc (negsuc zero) (negsuc zero) = refl
-leZ-suc (negsuc zero) (negsuc (suc b)) = sym (leb·suc-zero b)
-leZ-suc (negsuc (suc a)) (negsuc zero) = sym (leb·zero (suc a))
-leZ-suc (negsuc (suc a)) (negsuc (suc b)) = sym (leb·suc-suc b a)
-
-leZ-more : (a b : ℤ) (n : ℕ) → leZ (a +ℤ pos n) (b +ℤ pos n) ≡ leZ a b
-leZ-more a b zero = ap₂ leZ (+ℤ-idr a) (+ℤ-idr b)
-leZ-more a b (suc n) = ap₂ leZ (+ℤ-sucℤ a (pos n)) (+ℤ-sucℤ b (pos n)) ∙ leZ-suc (a +ℤ pos n) (b +ℤ pos n) ∙ leZ-more a b n
-
-pub leZ-shift : (a b c : ℤ) → leZ (a +ℤ c) (b +ℤ c) ≡ leZ a b
-leZ-shift a b (pos n) = leZ-more a b n
-leZ-shift a b (negsuc n) = sym (leZ-more (a +ℤ negsuc n) (b +ℤ negsuc n) (suc n)) ∙ ap₂ leZ (-ℤ-+ℤ-cancel a (pos (suc n))) (-ℤ-+ℤ-cancel b (pos (suc n)))
-
 -- The sum meets a bound exactly where P meets the raised bound.
 pub meets-lower : (a : Assignment) (ts : List Term) (l : ℤ) → leZ l (total a ts) ≡ leZ (l +ℤ pos (rise ts)) (pos (P a ts))
-meets-lower a ts l = sym (leZ-shift l (total a ts) (pos (rise ts))) ∙ ap (leZ (l +ℤ pos (rise ts))) (raised-total a ts)
+meets-lower a ts l = sym (leZ-plus-both l (total a ts) (pos (rise ts))) ∙ ap (leZ (l +ℤ pos (rise ts))) (raised-total a ts)
 
 pub meets-upper : (a : Assignment) (ts : List Term) (u : ℤ) → leZ (total a ts) u ≡ leZ (pos (P a ts)) (u +ℤ pos (rise ts))
-meets-upper a ts u = sym (leZ-shift (total a ts) u (pos (rise ts))) ∙ ap (λ z. leZ z (u +ℤ pos (rise ts))) (raised-total a ts)
+meets-upper a ts u = sym (leZ-plus-both (total a ts) u (pos (rise ts))) ∙ ap (λ z. leZ z (u +ℤ pos (rise ts))) (raised-total a ts)
 
 -- ---- in terms of the sizes
 
@@ -93,7 +73,7 @@ below-raised n (negsuc m) = leb·suc-zero n
 -- N below K − l + 1 says that P is at least l.
 below-A : (n p k : ℕ) (l : ℤ) → n + p ≡ k → leZ l (pos p) ≡ ltb n (raised (pos k -ℤ l +ℤ pos 1))
 below-A n p k l e =
-    sym (leZ-shift l (pos p) (pos (suc n) -ℤ l)) ∙ ap₂ leZ left right ∙ sym (below-raised n (pos k -ℤ l +ℤ pos 1))
+    sym (leZ-plus-both l (pos p) (pos (suc n) -ℤ l)) ∙ ap₂ leZ left right ∙ sym (below-raised n (pos k -ℤ l +ℤ pos 1))
   where
     left : l +ℤ (pos (suc n) -ℤ l) ≡ pos (suc n)
     left = +ℤ-comm l (pos (suc n) -ℤ l) ∙ -ℤ-+ℤ-cancel (pos (suc n)) l

@@ -16,12 +16,12 @@ use Rattle.plpb.specs.Choice.{choosable, pickFrom, withBreak, noisyChoic
 use Rattle.plpb.specs.Tallies.{unsatisfied}
 use Rattle.plpb.specs.Search.{Mode, linear, lbs, Settings, Reached, failed, reached, move, flipping, try, orElse, trying, call, tightened, lbsBound, linearBound, Ending, floor, ended, none, short-found, short-none, atFloor, gap, after, linearSearch, lbsSearch, tighten, searchWalk, lastFind, costOf, answerOf, conclude, begin, search}
 use Rattle.plpb.specs.Sound.{markOf, findsOf, looksOf, costsLess, falling, noPlan, Sound}
-use Rattle.plpb.proofs.Tests.{T-true, and-both, or-true, or-false, any-reverse}
+use Rattle.plpb.proofs.Lists.{T-true, and-both, or-true, or-false, any-reverse}
 use Rattle.plpb.proofs.Costs.{floor-below, gap-zero, at-floor, above-floor, gap-falls, linear-less, lbs-less, tightened-find}
 use Rattle.plpb.proofs.Walks.{at, Claim, Meets, Holds, meets-run, meets-bind, used-within, Draws, draws-meets}
 
 -- A choice only draws numbers.
-pick-draws : {A : Type 0} (d : A) (xs : List A) → Draws (pickFrom d xs)
+pub pick-draws : {A : Type 0} (d : A) (xs : List A) → Draws (pickFrom d xs)
 unfolding pickFrom Draws
 pick-draws d xs r = tt
 
