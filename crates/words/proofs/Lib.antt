@@ -1,0 +1,4 @@
+-- What holds of numbers in bytes.
+pub mod Words
+pub mod Signs
+pub mod Writes

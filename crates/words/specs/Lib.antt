@@ -1,1 +1,3 @@
 pub mod Words
+pub mod Writes
+pub mod Signed

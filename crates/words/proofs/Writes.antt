@@ -1,0 +1,156 @@
+-- Laws of bytes written over a list of bytes: what stands there afterwards, and how writes one after the other join.
+-- Assumes nothing.
+use Prim.Native.Nat.{ℕ, zero, suc, _+_, _*_, _-_, _/_, _%_, _^_, _≤_, _<_}
+use native.Mathlib.Omega.{arith}
+use native.Mathlib.Nat.{add-zero, add-suc, suc-add, add-assoc, le-of-eq}
+use native.Mathlib.Numerals.{add-one, add-two, add-three}
+use mathlib.Core.Path.{_≡_, refl, sym, ap, ap₂, _∙_}
+use mathlib.Core.List.{List, [], _∷_, _++_, append-assoc, append-nil}
+use lib.ListN.{length, take, drop, getD, set, length-append, length-take, length-drop, take-append-drop}
+use lib.Seq.{sets, sets-eq, length-sets, take-at, drop-at, drop-drop, drop-append-add, take-append-add, length-take-le, take-take, getD-at, drop-append-le, drop-append-seam, take-append-seam, drop-length, take-all}
+use borrow.Rule.Slice.PartMut.{midOf, postOf, putMid, post-is}
+use Rattle.words.specs.Words.{numAt, bytesOf, wordBytes}
+use Rattle.words.specs.Writes.{front, put}
+use Rattle.words.proofs.Words.{numAt-append, numAt-inside, numAt-bytesOf, numAt-take, numAt-drop}
+
+-- What two and four bytes read join to.
+pub num-two : (s : List ℕ) (at : ℕ) → getD s at 0 + 256 * getD s (at + 1) 0 ≡ numAt 2 s at
+unfolding numAt
+num-two s at = rw add-one (omega arith)
+
+pub num-four : (s : List ℕ) (at : ℕ) →
+    getD s at 0 + 256 * (getD s (at + 1) 0 + 256 * (getD s (at + 2) 0 + 256 * getD s (at + 3) 0)) ≡ numAt 4 s at
+unfolding numAt
+num-four s at = rw (add-one, add-two, add-three) (omega arith)
+
+-- The four bytes of a number stored one after the other.
+pub four-bytes : (v : ℕ) → v % 256 ∷ v / 256 % 256 ∷ v / 65_536 % 256 ∷ v / 16_777_216 % 256 ∷ [] ≡ bytesOf 4 v
+unfolding bytesOf
+four-bytes v =
+    let a : v / 65_536 ≡ v / 256 / 256 = omega arith in
+    let b : v / 16_777_216 ≡ v / 256 / 256 / 256 = omega arith in
+    rw (a, b) refl
+
+pub put-sets : (bs s : List ℕ) (at : ℕ) → at + length bs ≤ length s → sets s at bs ≡ put at bs s
+unfolding front put
+put-sets bs s at h =
+    sets-eq bs s at h
+    ∙ append-assoc (take at s) bs (drop (at + length bs) s)
+    ∙ ap (λ (l : List ℕ). take at s ++ (bs ++ l)) (sym (drop-drop (length bs) at s))
+
+pub stored : (s : List ℕ) (at v : ℕ) {a b c d : ℕ} → at + 4 ≤ length s →
+    a ≡ v % 256 → b ≡ v / 256 % 256 → c ≡ v / 65_536 % 256 → d ≡ v / 16_777_216 % 256 →
+    set (set (set (set s at a) (suc at) b) (suc (suc at)) c) (suc (suc (suc at))) d ≡ put at (bytesOf 4 v) s
+stored s at v {a} {b} {c} {d} h p q r t =
+    let e : a ∷ b ∷ c ∷ d ∷ [] ≡ bytesOf 4 v = simp (p, q, r, t) (four-bytes v) in
+    put-sets (a ∷ b ∷ c ∷ d ∷ []) s at h ∙ ap (λ (bs : List ℕ). put at bs s) e
+
+-- Lengths.
+pub length-front : (bs s : List ℕ) → length bs ≤ length s → length (front bs s) ≡ length s
+unfolding front
+length-front bs s h = simp (length-append, length-drop) (omega arith)
+
+pub length-put : (at : ℕ) (bs s : List ℕ) → at + length bs ≤ length s → length (put at bs s) ≡ length s
+unfolding front put
+length-put at bs s h =
+    let a : at ≤ length s = omega arith in
+    simp (length-append, length-take-le at s a, length-drop) (omega arith)
+
+-- Nothing written.
+pub front-none : (s : List ℕ) → front [] s ≡ s
+unfolding front
+front-none s = refl
+
+-- A write behind those at the front joins them.
+pub front-put : (xs bs s : List ℕ) → put (length xs) bs (front xs s) ≡ front (xs ++ bs) s
+unfolding front put
+front-put xs bs s =
+    ap₂ (λ (x y : List ℕ). x ++ (bs ++ drop (length bs) y)) (take-append-seam xs (drop (length xs) s)) (drop-append-seam xs (drop (length xs) s))
+    ∙ ap (λ (l : List ℕ). xs ++ (bs ++ l)) (drop-drop (length bs) (length xs) s)
+    ∙ sym (append-assoc xs bs (drop (length xs + length bs) s))
+    ∙ ap (λ (n : ℕ). xs ++ bs ++ drop n s) (sym (length-append xs bs))
+
+-- A write at a place is one at the front that writes what stood before it again.
+put-is-front : (at : ℕ) (bs s : List ℕ) → at ≤ length s → put at bs s ≡ front (take at s ++ bs) s
+unfolding front put
+put-is-front at bs s h =
+    let e : length (take at s ++ bs) ≡ at + length bs = length-append (take at s) bs ∙ ap (λ (n : ℕ). n + length bs) (length-take-le at s h) in
+    ap (λ (l : List ℕ). take at s ++ (bs ++ l)) (drop-drop (length bs) at s)
+    ∙ sym (append-assoc (take at s) bs (drop (at + length bs) s))
+    ∙ ap (λ (n : ℕ). take at s ++ bs ++ drop n s) (sym e)
+
+-- A write behind another joins it.
+pub put-put : (at : ℕ) (xs bs s : List ℕ) → at + length xs ≤ length s → put (at + length xs) bs (put at xs s) ≡ put at (xs ++ bs) s
+put-put at xs bs s h =
+    let l : at ≤ length s = omega arith in
+    let e : length (take at s ++ xs) ≡ at + length xs = length-append (take at s) xs ∙ ap (λ (n : ℕ). n + length xs) (length-take-le at s l) in
+    ap (λ (w : List ℕ). put (at + length xs) bs w) (put-is-front at xs s l)
+    ∙ ap (λ (n : ℕ). put n bs (front (take at s ++ xs) s)) (sym e)
+    ∙ front-put (take at s ++ xs) bs s
+    ∙ ap (λ (w : List ℕ). front w s) (append-assoc (take at s) xs bs)
+    ∙ sym (put-is-front at (xs ++ bs) s l)
+
+-- A write over what stands before another joins it.
+pub front-before : (xs bs s : List ℕ) → length xs ≤ length s → front xs (put (length xs) bs s) ≡ front (xs ++ bs) s
+unfolding front put
+front-before xs bs s h =
+    ap (λ (l : List ℕ). xs ++ l)
+    (drop-at (take (length xs) s) (bs ++ drop (length bs) (drop (length xs) s)) (length xs) (length-take-le (length xs) s h)
+    ∙ ap (λ (l : List ℕ). bs ++ l) (drop-drop (length bs) (length xs) s))
+    ∙ sym (append-assoc xs bs (drop (length xs + length bs) s))
+    ∙ ap (λ (n : ℕ). xs ++ bs ++ drop n s) (sym (length-append xs bs))
+
+-- A table filled to its end holds what was written and nothing else.
+pub front-whole : (bs s : List ℕ) → length bs ≡ length s → front bs s ≡ bs
+unfolding front
+front-whole bs s h = ap (λ (l : List ℕ). bs ++ l) (ap (λ (n : ℕ). drop n s) h ∙ drop-length s) ∙ append-nil bs
+
+-- A part of a slice lent to a function that writes over its first bytes.
+pub lent-tail : (at : ℕ) (bs t ys : List ℕ) → at ≤ length t → ys ≡ front bs (midOf at (length t - at) t) → putMid at (length t - at) t ys ≡ put at bs t
+unfolding front put
+lent-tail at bs t ys h e =
+    let whole : midOf at (length t - at) t ≡ drop at t =
+    take-all (length t - at) (drop at t) (le-of-eq (length-drop at t)) in
+    let none : postOf at (length t - at) t ≡ [] = post-is at (length t) t h ∙ drop-length t in
+    ap₂ (λ (a b : List ℕ). take at t ++ (a ++ b)) (e ∙ ap (λ (l : List ℕ). front bs l) whole) none
+    ∙ ap (λ (l : List ℕ). take at t ++ l) (append-nil (front bs (drop at t)))
+
+-- A part lent to a function that fills it.
+pub lent-part : (at end : ℕ) (t ys : List ℕ) → at ≤ end → length ys ≡ end - at → putMid at (end - at) t ys ≡ put at ys t
+unfolding front put
+lent-part at end t ys h e = ap (λ (n : ℕ). take at t ++ (ys ++ drop n (drop at t))) (sym e)
+
+pub wordBytes-append : (us vs : List ℕ) → wordBytes (us ++ vs) ≡ wordBytes us ++ wordBytes vs
+unfolding wordBytes
+wordBytes-append [] vs = refl
+wordBytes-append (u ∷ us) vs = ap (λ (l : List ℕ). bytesOf 4 u ++ l) (wordBytes-append us vs) ∙ sym (append-assoc (bytesOf 4 u) (wordBytes us) (wordBytes vs))
+
+-- A number that was written is read again; what lies before and behind it is read as before.
+pub read-put : (k at v : ℕ) (s : List ℕ) → at ≤ length s → v < 256 ^ k → numAt k (put at (bytesOf k v) s) at ≡ v
+unfolding front put
+read-put k at v s h l =
+    let bs = bytesOf k v ++ drop (length (bytesOf k v)) (drop at s) in
+    let e : length (take at s) + 0 ≡ at = omega (arith, length-take-le at s h) in
+    ap (λ (n : ℕ). numAt k (take at s ++ bs) n) (sym e)
+    ∙ numAt-append k (take at s) bs 0
+    ∙ numAt-bytesOf k v (drop (length (bytesOf k v)) (drop at s)) l
+
+pub read-before : (k at i : ℕ) (bs s : List ℕ) → at ≤ length s → i + k ≤ at → numAt k (put at bs s) i ≡ numAt k s i
+unfolding front put
+read-before k at i bs s h l =
+    let e : i + k ≤ length (take at s) = omega (arith, length-take-le at s h) in
+    numAt-inside k (take at s) (bs ++ drop (length bs) (drop at s)) i e ∙ numAt-take k at s i l
+
+behind-front : (k : ℕ) (xs s : List ℕ) (i : ℕ) → numAt k (front xs s) (length xs + i) ≡ numAt k s (length xs + i)
+unfolding front
+behind-front k xs s i = numAt-append k xs (drop (length xs) s) i ∙ numAt-drop k (length xs) s i
+
+pub read-behind : (k at i : ℕ) (bs s : List ℕ) → at ≤ length s → at + length bs ≤ i → numAt k (put at bs s) i ≡ numAt k s i
+read-behind k at i bs s h l =
+    let n = at + length bs in
+    let e : length (take at s ++ bs) ≡ n = length-append (take at s) bs ∙ ap (λ (m : ℕ). m + length bs) (length-take-le at s h) in
+    let j : length (take at s ++ bs) + (i - n) ≡ i = omega arith in
+    ap (λ (w : List ℕ). numAt k w i) (put-is-front at bs s h)
+    ∙ ap (λ (m : ℕ). numAt k (front (take at s ++ bs) s) m) (sym j)
+    ∙ behind-front k (take at s ++ bs) s (i - n)
+    ∙ ap (λ (m : ℕ). numAt k s m) j
