@@ -1,0 +1,3 @@
+// Capped counts in code: what a flip spoils, mends and leaves, proved against the definitions of plpb.
+pub mod binomial;
+pub mod count;
