@@ -1,11 +1,13 @@
 -- Laws of capped counts: capping goes with sum and product, so that a count may be capped at each step of its computation.
 -- Of the cap they use only that it is not 0. Assumes nothing.
 use Prim.Native.Nat.{ℕ, zero, suc, _+_, _*_, _≤_, _<_, min}
-use native.Mathlib.Nat.{le-trans, mul-comm, mul-zero, le-mul-of-pos-right, min-eq-left, min-eq-right, zero-min}
+use native.Mathlib.Nat.{add-assoc, le-trans, mul-comm, mul-zero, le-mul-of-pos-right, min-eq-left, min-eq-right, zero-min}
 use native.Mathlib.Decide.{decLe}
 use native.Mathlib.Omega.{arith}
-use mathlib.Core.Path.{_≡_, refl, sym, _∙_, ap₂}
+use mathlib.Core.List.{List, _∷_}
+use mathlib.Core.Path.{_≡_, refl, sym, _∙_, ap, ap₂}
 use Rattle.plpb.specs.Count.{cap, capped}
+use Rattle.plpb.specs.Lists.{sumBy}
 
 -- A number up to the cap is given out as it is ..
 pub capped-small : (n : ℕ) → n ≤ cap → capped n ≡ n
@@ -94,3 +96,18 @@ sum-of a b p q = ap₂ (λ s t. capped (s + t)) p q ∙ capped-sum a b
 
 pub product-of : {x y : ℕ} (a b : ℕ) → x ≡ capped a → y ≡ capped b → capped (x * y) ≡ capped (a * b)
 product-of a b p q = ap₂ (λ s t. capped (s * t)) p q ∙ capped-product a b
+
+-- So numbers that are the same once capped may stand for each other in a sum or a product that is capped.
+pub same-sum : (a a′ b b′ : ℕ) → capped a ≡ capped a′ → capped b ≡ capped b′ → capped (a + b) ≡ capped (a′ + b′)
+same-sum a a′ b b′ p q = sym (capped-sum a b) ∙ sum-of a′ b′ p q
+
+pub same-product : (a a′ b b′ : ℕ) → capped a ≡ capped a′ → capped b ≡ capped b′ → capped (a * b) ≡ capped (a′ * b′)
+same-product a a′ b b′ p q = sym (capped-product a b) ∙ product-of a′ b′ p q
+
+-- A sum over a list, capped at each step: what it comes to with the rest does not change.
+pub sum-step : {A : Type 0} (f : A → ℕ) (sum next share : ℕ) (x : A) (xs : List A) → share ≡ capped (f x) → next ≡ capped (sum + share) → capped (next + sumBy f xs) ≡ capped (sum + sumBy f (x ∷ xs))
+unfolding sumBy
+sum-step f sum next share x xs p q =
+    let one : capped next ≡ capped (sum + f x) =
+    ap capped q ∙ capped-twice (sum + share) ∙ same-sum sum sum share (f x) refl (ap capped p ∙ capped-twice (f x)) in
+    same-sum next (sum + f x) (sumBy f xs) (sumBy f xs) one refl ∙ ap capped (add-assoc sum (f x) (sumBy f xs))
