@@ -1,6 +1,8 @@
 -- The theorems about the definitions. Laws of lists, integers and walks come first; what they carry comes after.
 pub mod Lists
 pub mod Integers
+pub mod Binomial
+pub mod Capped
 pub mod Flip
 pub mod Normal
 pub mod Choices

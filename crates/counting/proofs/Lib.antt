@@ -1,0 +1,3 @@
+pub mod Difference
+pub mod Joining
+pub mod Words

@@ -1,0 +1,5 @@
+// Capped counts in code: what a flip spoils, mends and leaves, proved against the definitions of plpb.
+pub mod binomial;
+pub mod bound;
+pub mod count;
+pub mod shares;
