@@ -17,7 +17,7 @@ pub struct Shares {
     pub g: Count,
 }
 
-// (10): the variable does not occur in the rule. N and P are the weights of its false and of its true literals,
+// Case 1 of (10) to (12): the variable does not occur in the rule. N and P are the weights of its false and of its true literals,
 // a and b the sizes A and B.
 pub fn literal_absent(n: u64, p: u64, a: Bound, b: Bound) -> Shares
     requires { ⌜ n + p < 4294967296 ⌝ }
@@ -30,7 +30,7 @@ pub fn literal_absent(n: u64, p: u64, a: Bound, b: Bound) -> Shares
     }
 }
 
-// (11): the variable's literal is true, and its weight is w.
+// Case 2 of (10) to (12): the variable's literal is true, and its weight is w.
 pub fn literal_true(w: u64, n: u64, p: u64, a: Bound, b: Bound) -> Shares
     requires { ⌜ (n + p < 4294967296) × (w ≤ p) ⌝ }
     ensures { λ r. ⌜ sharesIn r ≡ cappedShares (shares (Standing.on w) n p (boundOf a) (boundOf b)) ⌝ }
@@ -42,7 +42,7 @@ pub fn literal_true(w: u64, n: u64, p: u64, a: Bound, b: Bound) -> Shares
     }
 }
 
-// (12): the variable's literal is false, and its weight is w.
+// Otherwise: the variable's literal is false, and its weight is w.
 pub fn literal_false(w: u64, n: u64, p: u64, a: Bound, b: Bound) -> Shares
     requires { ⌜ (n + p < 4294967296) × (w ≤ n) ⌝ }
     ensures { λ r. ⌜ sharesIn r ≡ cappedShares (shares (Standing.off w) n p (boundOf a) (boundOf b)) ⌝ }
