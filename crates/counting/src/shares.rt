@@ -2,10 +2,10 @@
 ghost use mathlib.Core.Path.{_≡_};
 ghost use Prim.Native.Nat.{_+_, _≤_, _<_};
 ghost use Rattle.plpb.specs.Count.{capped};
-ghost use Rattle.plpb.specs.Equations.{Standing, shares};
+ghost use Rattle.plpb.specs.Equations.{out, on, off, shares};
 ghost use Rattle.counting.specs.Bound.{boundOf};
 ghost use Rattle.counting.specs.Count.{number};
-ghost use Rattle.counting.specs.Shares.{sharesIn, cappedShares, joinedShares};
+ghost use Rattle.counting.specs.Shares.{sharesIn, cappedShares, joinedShares, standingOf, weightWithin};
 use crate::bound::Bound;
 use crate::bound::over;
 use crate::bound::over_difference;
@@ -21,7 +21,7 @@ pub struct Shares {
 // a and b the sizes A and B.
 pub fn literal_absent(n: u64, p: u64, a: Bound, b: Bound) -> Shares
     requires { ⌜ n + p < 4294967296 ⌝ }
-    ensures { λ r. ⌜ sharesIn r ≡ cappedShares (shares Standing.out n p (boundOf a) (boundOf b)) ⌝ }
+    ensures { λ r. ⌜ sharesIn r ≡ cappedShares (shares out n p (boundOf a) (boundOf b)) ⌝ }
 {
     Shares {
         e: Count::ZERO,
@@ -33,7 +33,7 @@ pub fn literal_absent(n: u64, p: u64, a: Bound, b: Bound) -> Shares
 // Case 2 of (10) to (12): the variable's literal is true, and its weight is w.
 pub fn literal_true(w: u64, n: u64, p: u64, a: Bound, b: Bound) -> Shares
     requires { ⌜ (n + p < 4294967296) × (w ≤ p) ⌝ }
-    ensures { λ r. ⌜ sharesIn r ≡ cappedShares (shares (Standing.on w) n p (boundOf a) (boundOf b)) ⌝ }
+    ensures { λ r. ⌜ sharesIn r ≡ cappedShares (shares (on w) n p (boundOf a) (boundOf b)) ⌝ }
 {
     Shares {
         e: over_difference(n, w, a),
@@ -45,12 +45,31 @@ pub fn literal_true(w: u64, n: u64, p: u64, a: Bound, b: Bound) -> Shares
 // Otherwise: the variable's literal is false, and its weight is w.
 pub fn literal_false(w: u64, n: u64, p: u64, a: Bound, b: Bound) -> Shares
     requires { ⌜ (n + p < 4294967296) × (w ≤ n) ⌝ }
-    ensures { λ r. ⌜ sharesIn r ≡ cappedShares (shares (Standing.off w) n p (boundOf a) (boundOf b)) ⌝ }
+    ensures { λ r. ⌜ sharesIn r ≡ cappedShares (shares (off w) n p (boundOf a) (boundOf b)) ⌝ }
 {
     Shares {
         e: over_difference(p, w, b),
         f: over_difference(n - w, w, a),
         g: over(p, b).plus(over(n - w, a)),
+    }
+}
+
+// How a variable stands in a rule, with its weight: it does not occur, or its literal is true, or its literal is false.
+pub enum Standing {
+    Out,
+    On(u64),
+    Off(u64),
+}
+
+// The case that the variable's standing asks for.
+pub fn of_rule(standing: Standing, n: u64, p: u64, a: Bound, b: Bound) -> Shares
+    requires { ⌜ (n + p < 4294967296) × weightWithin (standingOf standing) n p ⌝ }
+    ensures { λ r. ⌜ sharesIn r ≡ cappedShares (shares (standingOf standing) n p (boundOf a) (boundOf b)) ⌝ }
+{
+    match standing {
+        Standing::Out => literal_absent(n, p, a, b),
+        Standing::On(w) => literal_true(w, n, p, a, b),
+        Standing::Off(w) => literal_false(w, n, p, a, b),
     }
 }
 
