@@ -5,12 +5,12 @@ use native.Mathlib.Nat.{sub-add-cancel, add-mul, mul-add, mul-sub, mul-assoc, mu
 use native.Mathlib.Omega.{arith}
 use mathlib.Core.List.{List, [], _∷_}
 use mathlib.Core.Path.{_≡_, refl, sym, _∙_, ap}
-use Rattle.plpb.specs.Count.{cap, capped}
+use Rattle.plpb.specs.Count.{capped}
 use Rattle.plpb.specs.Equations.{over, shares, sharesOf, product, clauseBreak, clauseMake}
 use Rattle.plpb.specs.Equations.{out, on, off}
 use Rattle.plpb.specs.Equations.{Shares as SharesOf}
 use Rattle.plpb.specs.Plan.{Bound, Rule, Clause, Assignment}
-use Rattle.plpb.proofs.Capped.{capped-zero, capped-small, capped-twice, sum-of, same-sum, same-product}
+use Rattle.plpb.proofs.Capped.{capped-zero, capped-one, capped-twice, sum-of, same-sum, same-product}
 use Rattle.counting.specs.Shares.{cappedShares, startShares, joinedShares, joinedAlong}
 
 pub same-shares : {e f g e′ f′ g′ : ℕ} → e ≡ e′ → f ≡ f′ → g ≡ g′ → _≡_ {A = SharesOf} (record { e = e; f = f; g = g }) (record { e = e′; f = f′; g = g′ })
@@ -37,9 +37,17 @@ joined-one s k t u false first second r hf h1 h2 hr =
     h1 ∙ same-product s s false (t + u) refl (ap capped hf ∙ capped-twice (t + u)) in
     hr ∙ sum-of (s * (t + u)) (k * t) whole h2
 
+-- What was capped stays as it is: so do the shares that the code holds, from the start on.
 capped-again : (s : SharesOf) → cappedShares (cappedShares s) ≡ cappedShares s
 unfolding cappedShares
 capped-again s = same-shares (capped-twice (s .e)) (capped-twice (s .f)) (capped-twice (s .g))
+
+pub capped-stays : (s t : SharesOf) → s ≡ cappedShares t → cappedShares s ≡ s
+capped-stays s t h = ap cappedShares h ∙ capped-again t ∙ sym h
+
+pub capped-start : cappedShares startShares ≡ startShares
+unfolding cappedShares startShares
+capped-start = same-shares capped-zero capped-zero capped-one
 
 -- Capped shares of which the joined ones are the same once capped.
 joined-same : (s s′ t t′ : SharesOf) → cappedShares s ≡ cappedShares s′ → cappedShares t ≡ cappedShares t′ → cappedShares (joinedShares s t) ≡ cappedShares (joinedShares s′ t′)
@@ -128,8 +136,3 @@ module _ (f : Rule → SharesOf) where
 pub clause-shares : (a : Assignment) (x : ℕ) (c : Clause) → joinedAlong (sharesOf a x) startShares c ≡ record { e = clauseBreak a x c; f = clauseMake a x c; g = product (λ r. sharesOf a x r .g) c }
 unfolding clauseShares startShares joinedShares clauseBreak clauseMake
 clause-shares a x c = along-clause (sharesOf a x) startShares c ∙ same-shares (omega arith) (omega arith) (omega arith)
-
--- What the code holds is below the cap as it is.
-pub capped-whole : (s : SharesOf) → s .e ≤ cap → s .f ≤ cap → s .g ≤ cap → cappedShares s ≡ s
-unfolding cappedShares
-capped-whole s p q r = same-shares (capped-small (s .e) p) (capped-small (s .f) q) (capped-small (s .g) r)

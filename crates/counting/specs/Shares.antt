@@ -16,7 +16,7 @@ standingOf (On w) = on w
 standingOf (Off w) = off w
 
 -- A literal's weight is part of the sum that it counts in: P where it is true, N where it is false.
-unfoldable pub weightWithin : StandingOf → ℕ → ℕ → Type 0
+abbrev pub weightWithin : StandingOf → ℕ → ℕ → Type 0
 weightWithin out n p = Unit {0}
 weightWithin (on w) n p = w ≤ p
 weightWithin (off w) n p = w ≤ n

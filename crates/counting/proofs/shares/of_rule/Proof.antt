@@ -1,17 +1,14 @@
 -- `of_rule` meets its contract, by cases on the standing.
 -- Assumes nothing.
 use borrow.Author.Needs.{needs}
-use Rattle.counting.specs.Shares.{weightWithin}
 use Rattle.counting.proofs.shares.of_rule.Statement.{statement}
 use Rattle.counting.proofs.shares.of_rule.Tie as tie
 
 literal-true-requires : tie.Need-literal-true-requires
-unfolding weightWithin
 literal-true-requires c κs =
     (search needs, rw (c .before .standing .given .1) at (c .before .before .before .pre .1))
 
 literal-false-requires : tie.Need-literal-false-requires
-unfolding weightWithin
 literal-false-requires c κs =
     (search needs, rw (c .before .standing2 .given .1) at (c .before .before .before .pre .1))
 
