@@ -1,0 +1,2 @@
+-- What holds of numbers in bytes.
+pub mod Words
