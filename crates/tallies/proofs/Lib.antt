@@ -1,0 +1,2 @@
+-- What holds of opening, flip and counts.
+pub mod Bits
