@@ -1,2 +1,3 @@
 -- What holds of opening, flip and counts.
 pub mod Bits
+pub mod TallyBytes

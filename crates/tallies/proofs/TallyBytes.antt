@@ -1,0 +1,70 @@
+-- The bytes of a fresh count fill the tallies' full limits, because each section is padded to its size and a word is four bytes.
+use Prim.Native.Nat.{ℕ, _+_, _*_, _-_, _≤_}
+use native.Mathlib.Nat.{le-trans}
+use native.Mathlib.Omega.{arith}
+use mathlib.Core.Path.{_≡_, refl, ap, ap₂, _∙_}
+use mathlib.Core.Bool.{Bool, true, false}
+use mathlib.Core.List.{List, [], _∷_, _++_, map}
+use lib.Dec.{T, eqb, leb→le, eqb→eq, eqb-refl, lit≤}
+use lib.ListN.{length, replicate, take, drop, length-append, length-replicate, length-map}
+use lib.Seq.{take-at, drop-at}
+use Rattle.plpb.specs.Plan.{Plan, Assignment}
+use Rattle.plpb.specs.Tallies.{Tallies, rulesOf, freshCount}
+use Rattle.plpb.proofs.Lists.{and-left, and-right, and-both}
+use Rattle.words.specs.Words.{wordBytes}
+use Rattle.words.proofs.Words.{length-wordBytes}
+use Rattle.format.specs.Tables.{padTo, sameBytes}
+use Rattle.format.specs.Limits.{maxClauses, maxRules, lawful}
+use Rattle.tallies.specs.Layout.{tallySize, tallyWords, tallyBytes}
+
+-- ---- sizes
+
+pub length-padTo : (k : ℕ) (ws : List ℕ) → length ws ≤ k → length (padTo k ws) ≡ k
+unfolding padTo
+length-padTo k ws h = simp (length-append, length-replicate {A = ℕ}) (omega arith)
+
+pub length-tallyWords : (t : Tallies) → length (t .trueWeights) ≤ 1_025 → length (t .rulesHolding) ≤ 513 → length (tallyWords t) ≡ 1_539
+unfolding tallyWords
+length-tallyWords t h k =
+    simp (length-append, length-padTo 1_025 (t .trueWeights) h, length-padTo 513 (t .rulesHolding) k)
+
+-- A plan whose rules and clauses the tallies have room for.
+pub record Fits (p : Plan) : Type 0 where
+  pub rules : length (rulesOf p) ≤ 1_025
+  pub clauses : length (p .clauses) ≤ 513
+
+pub lawful-fits : (p : Plan) → T (lawful p) → Fits p
+unfolding lawful
+lawful-fits p t =
+    let limits = and-left _ _ t in
+    record {
+      rules = le-trans (leb→le (length (rulesOf p)) maxRules (and-right _ _ limits)) (lit≤ tt);
+      clauses = le-trans (leb→le (length (p .clauses)) maxClauses (and-right _ _ (and-left _ _ limits))) (lit≤ tt);
+    }
+
+module _ (p : Plan) (fits : Fits p) (a : Assignment) where
+  pub length-fresh : length (tallyBytes (freshCount p a)) ≡ tallySize
+  unfolding tallyBytes freshCount
+  length-fresh =
+      length-wordBytes (tallyWords (freshCount p a)) ∙ ap (λ k. 4 * k) (length-tallyWords (freshCount p a) (simp length-map (fits .rules)) (simp length-map (fits .clauses)))
+
+  pub take-fresh : (rest : List ℕ) → take tallySize (tallyBytes (freshCount p a) ++ rest) ≡ tallyBytes (freshCount p a)
+  take-fresh rest = take-at (tallyBytes (freshCount p a)) rest tallySize length-fresh
+
+  pub drop-fresh : (rest : List ℕ) → drop tallySize (tallyBytes (freshCount p a) ++ rest) ≡ rest
+  drop-fresh rest = drop-at (tallyBytes (freshCount p a)) rest tallySize length-fresh
+
+-- ---- the test of equal bytes
+
+pub same-self : (xs : List ℕ) → T (sameBytes xs xs)
+unfolding sameBytes
+same-self [] = tt
+same-self (x ∷ xs) = and-both (eqb x x) (sameBytes xs xs) (eqb-refl x) (same-self xs)
+
+pub same-bytes : (xs ys : List ℕ) → T (sameBytes xs ys) → xs ≡ ys
+unfolding sameBytes
+same-bytes [] [] t = refl
+same-bytes [] (y ∷ ys) t = absurd t
+same-bytes (x ∷ xs) [] t = absurd t
+same-bytes (x ∷ xs) (y ∷ ys) t =
+    ap₂ _∷_ (eqb→eq x y (and-left (eqb x y) (sameBytes xs ys) t)) (same-bytes xs ys (and-right (eqb x y) (sameBytes xs ys) t))
