@@ -1,3 +1,5 @@
 -- What holds of opening, flip and counts.
 pub mod Bits
 pub mod TallyBytes
+pub mod Steps
+pub mod Demand3
