@@ -3,3 +3,4 @@ pub mod Bits
 pub mod TallyBytes
 pub mod Steps
 pub mod Demand3
+pub mod Narrow

@@ -45,7 +45,7 @@ pub either : {A : Type 0} (c : Bool) → (c ≡ true → A) → (c ≡ false →
 either true f g = f refl
 either false f g = g refl
 
-variable-range : (p : Plan) (x : ℕ) → isVariable p x ≡ true → (1 ≤ x) × (x ≤ p .variables)
+pub variable-range : (p : Plan) (x : ℕ) → isVariable p x ≡ true → (1 ≤ x) × (x ≤ p .variables)
 unfolding isVariable
 variable-range p x e =
     let t : T (ltb 0 x and ltb x (suc (p .variables))) = rw e tt in
@@ -175,7 +175,7 @@ module _ (l : Lent) (o : Opens l) (b : Assignment) (size : length b ≡ plan l .
       length-front (l .assignment) (bitBytes b) (plan l .variables)
       (length-bitBytes b ∙ size ∙ sym (length-take-le (plan l .variables) (l .assignment) (assignment-room l o)))
 
-  holding-tallies-room : length (holding l b .tallies) ≡ length (l .tallies)
+  pub holding-tallies-room : length (holding l b .tallies) ≡ length (l .tallies)
   unfolding holding
   holding-tallies-room =
       length-front (l .tallies) (tallyBytes (freshCount (plan l) b)) tallySize
@@ -210,7 +210,7 @@ module _ (l : Lent) (o : Opens l) (b : Assignment) (size : length b ≡ plan l .
     unfolding freshBytes plan
     recounted = ap (λ c. tallyBytes (freshCount (plan l) c)) (ap (bitsOf (plan l .variables)) flipped ∙ held-bits l (flip b x) (length-flip b x ∙ size))
 
-    holding-flip : leaves (holding l b) (flipCall x) ≡ holding l (flip b x)
+    pub holding-flip : leaves (holding l b) (flipCall x) ≡ holding l (flip b x)
     unfolding leaves flipAssignment flipTallies holding
     holding-flip =
         rw (holding-refusal x, v)

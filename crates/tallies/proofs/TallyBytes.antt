@@ -43,10 +43,20 @@ lawful-fits p t =
     }
 
 module _ (p : Plan) (fits : Fits p) (a : Assignment) where
+  pub fresh-rules : length (freshCount p a .trueWeights) ≤ 1_025
+  unfolding freshCount
+  fresh-rules = simp length-map (fits .rules)
+
+  pub fresh-clauses : length (freshCount p a .rulesHolding) ≤ 513
+  unfolding freshCount
+  fresh-clauses = simp length-map (fits .clauses)
+
+  pub length-fresh-words : length (tallyWords (freshCount p a)) ≡ 1_539
+  length-fresh-words = length-tallyWords (freshCount p a) fresh-rules fresh-clauses
+
   pub length-fresh : length (tallyBytes (freshCount p a)) ≡ tallySize
-  unfolding tallyBytes freshCount
-  length-fresh =
-      length-wordBytes (tallyWords (freshCount p a)) ∙ ap (λ k. 4 * k) (length-tallyWords (freshCount p a) (simp length-map (fits .rules)) (simp length-map (fits .clauses)))
+  unfolding tallyBytes
+  length-fresh = length-wordBytes (tallyWords (freshCount p a)) ∙ ap (λ k. 4 * k) length-fresh-words
 
   pub take-fresh : (rest : List ℕ) → take tallySize (tallyBytes (freshCount p a) ++ rest) ≡ tallyBytes (freshCount p a)
   take-fresh rest = take-at (tallyBytes (freshCount p a)) rest tallySize length-fresh
