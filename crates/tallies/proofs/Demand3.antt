@@ -3,27 +3,27 @@ use Prim.Native.Nat.{ℕ, zero, suc, _+_, _%_, _≤_}
 use native.Mathlib.Nat.{zero-add}
 use native.Mathlib.Numerals.{one-add}
 use native.Mathlib.Omega.{arith}
-use mathlib.Core.Path.{_≡_, refl, sym, ap, ap₂, subst, _∙_}
+use mathlib.Core.Path.{_≡_, refl, sym, ap, subst, _∙_}
 use mathlib.Core.Logic.{_↔_, _≢_}
 use mathlib.Core.Bool.{Bool, true, false, not, cond, true≢false, false≢true}
 use mathlib.Core.List.{List, [], _∷_}
 use borrow.Author.Tests.{eqb-true, eqb-false}
 use lib.Dec.{eqb}
-use lib.ListN.{length, take, drop}
+use lib.ListN.{length, drop}
 use Rattle.plpb.specs.Plan.{Plan, Assignment, value, flip, isVariable}
-use Rattle.plpb.specs.Tallies.{freshCount}
-use Rattle.plpb.specs.Book.{Call, flipCall, countsCall, Answer, refused, accepted, counted, Entry, entry, Account, book}
+use Rattle.plpb.specs.Book.{Call, flipCall, countsCall, accepted, entry, book}
 use Rattle.plpb.proofs.Lists.{not-not}
 use Rattle.plpb.proofs.Flip.{length-flip, flip-same, flip-other}
 use Rattle.format.specs.File.{read}
 use Rattle.format.specs.File as File
 use Rattle.format.specs.Tables.{planOfTables, Holds}
-use Rattle.tallies.specs.Layout.{tallySize, bitsOf, bitBytes, tallyBytes}
-use Rattle.tallies.specs.Calls.{Lent, plan, openRefusal}
+use Rattle.tallies.specs.Layout.{tallySize, bitsOf}
+use Rattle.tallies.specs.Calls.{Lent, plan}
 use Rattle.tallies.specs.Demand.{answers, after, opened, flipsOf, end, account, Agrees, Demand3}
 use Rattle.tallies.proofs.Bits.{length-bitsOf, take-bytes, drop-bytes}
 use Rattle.tallies.proofs.TallyBytes.{take-fresh, drop-fresh}
-use Rattle.tallies.proofs.Steps.{Opens, opens, either, assignment-room, plan-fits, holding, held-bits, book-size, answers-of-book, after-book, opened-holding}
+use Rattle.tallies.proofs.Refusals.{either, Opens, opens, assignment-room, plan-fits}
+use Rattle.tallies.proofs.Steps.{holding, held-bits, book-size, answers-of-book, after-book, opened-holding}
 
 -- ---- odd and even
 

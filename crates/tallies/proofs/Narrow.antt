@@ -5,18 +5,18 @@ use native.Mathlib.Decide.{decLt}
 use native.Mathlib.Omega.{arith}
 use mathlib.Core.Path.{_≡_, refl, sym, ap, ap₂, _∙_}
 use mathlib.Core.Logic.{_≢_}
-use mathlib.Core.Bool.{Bool, true, false, not, cond, true≢false}
+use mathlib.Core.Bool.{Bool, true, false, cond, true≢false}
 use mathlib.Core.List.{List, [], _∷_, _++_, map}
 use borrow.Author.Tests.{eqb-true, eqb-false, lt-ltb, le-ltb}
-use lib.Dec.{T, ltb, eqb, eqb·suc-zero}
+use lib.Dec.{eqb, eqb·suc-zero}
 use lib.IntN.{pos, _+ℤ_}
-use lib.ListN.{length, getD, set, take, drop, replicate, length-append, List·getD-append}
+use lib.ListN.{length, getD, drop, replicate, List·getD-append}
 use lib.Seq.{getD-append-add, getD-set-same, getD-set-other}
 use Rattle.plpb.specs.Lists.{_or_, _and_, any, count, sumBy}
-use Rattle.plpb.specs.Plan.{Term, Rule, Clause, Plan, Assignment, flip, total, atLeast, atMost, ruleHolds, namedIn, names, isVariable}
+use Rattle.plpb.specs.Plan.{Term, Rule, Clause, Plan, Assignment, flip, total, atLeast, atMost, ruleHolds, namedIn, names}
 use Rattle.plpb.specs.Normal.{literal, size, P}
 use Rattle.plpb.specs.Tallies.{Tallies, rulesOf, freshCount}
-use Rattle.plpb.specs.Book.{Call, flipCall, countsCall, accepted}
+use Rattle.plpb.specs.Book.{flipCall, countsCall}
 use Rattle.plpb.proofs.Lists.{count-nil, count-cons}
 use Rattle.plpb.proofs.Flip.{length-flip, flip-other, flip-twice, flip-literal-other}
 use Rattle.words.specs.Words.{bytesOf, wordBytes}
@@ -27,7 +27,8 @@ use Rattle.tallies.specs.Calls.{Lent, plan, callRefusal, turned, flipAss
 use Rattle.tallies.specs.Demand.{answer, leaves}
 use Rattle.tallies.proofs.TallyBytes.{Fits, length-padTo, fresh-rules, fresh-clauses, length-fresh-words, length-fresh}
 use Rattle.tallies.proofs.Bits.{length-bitsOf, length-turned}
-use Rattle.tallies.proofs.Steps.{either, variable-range, Opens, takes, plan-fits, assignment-room, holding, holding-tallies-room, holding-flip, holding-refusal, lent-holding, counts-leaves, refused-leaves}
+use Rattle.tallies.proofs.Refusals.{either, variable-range, Opens, takes, plan-fits, assignment-room, counts-leaves, refused-leaves}
+use Rattle.tallies.proofs.Steps.{holding, holding-tallies-room, holding-flip, holding-refusal, lent-holding}
 use Rattle.tallies.specs.Narrow.{rulesNaming, clausesNaming, concerns, Narrow, FlipsNarrow, OthersChangeNothing}
 
 -- ---- what a flip leaves of a rule and a clause that do not name its variable

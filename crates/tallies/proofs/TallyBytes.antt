@@ -1,17 +1,15 @@
 -- The bytes of a fresh count fill the tallies' full limits, because each section is padded to its size and a word is four bytes.
-use Prim.Native.Nat.{ℕ, _+_, _*_, _-_, _≤_}
+use Prim.Native.Nat.{ℕ, _*_, _≤_}
 use native.Mathlib.Nat.{le-trans}
 use native.Mathlib.Omega.{arith}
 use mathlib.Core.Path.{_≡_, refl, ap, ap₂, _∙_}
-use mathlib.Core.Bool.{Bool, true, false}
-use mathlib.Core.List.{List, [], _∷_, _++_, map}
+use mathlib.Core.List.{List, [], _∷_, _++_}
 use lib.Dec.{T, eqb, leb→le, eqb→eq, eqb-refl, lit≤}
-use lib.ListN.{length, replicate, take, drop, length-append, length-replicate, length-map}
+use lib.ListN.{length, take, drop, length-append, length-replicate, length-map}
 use lib.Seq.{take-at, drop-at}
 use Rattle.plpb.specs.Plan.{Plan, Assignment}
 use Rattle.plpb.specs.Tallies.{Tallies, rulesOf, freshCount}
 use Rattle.plpb.proofs.Lists.{and-left, and-right, and-both}
-use Rattle.words.specs.Words.{wordBytes}
 use Rattle.words.proofs.Words.{length-wordBytes}
 use Rattle.format.specs.Tables.{padTo, sameBytes}
 use Rattle.format.specs.Limits.{maxClauses, maxRules, lawful}
