@@ -4,15 +4,16 @@ use native.Mathlib.Nat.{le-trans, le-of-suc-le-suc}
 use native.Mathlib.Omega.{arith}
 use mathlib.Core.Path.{_≡_, refl, _∙_}
 use mathlib.Core.Bool.{Bool, true, false, not, cond}
-use lib.Dec.{T, ltb, eqb, leb→le, ltb→lt, nltb→le, eqb·suc-zero}
+use lib.Dec.{T, ltb, eqb, ltb→lt, nltb→le, eqb·suc-zero}
 use lib.ListN.{length, take}
 use Rattle.plpb.specs.Lists.{_and_}
 use Rattle.plpb.specs.Plan.{Plan, isVariable}
 use Rattle.plpb.specs.Book.{flipCall, countsCall}
 use Rattle.plpb.proofs.Lists.{and-left, and-right, is-true, not-not, not-or}
 use Rattle.format.specs.File.{refuse}
-use Rattle.format.specs.Limits.{maxVariables, lawful}
+use Rattle.format.specs.Limits.{lawful}
 use Rattle.format.specs.Tables.{isLoaded, sameBytes}
+use Rattle.format.proofs.Lawful.{plan-parts}
 use Rattle.tallies.specs.Layout.{assignmentSize, tallySize, areBits}
 use Rattle.tallies.specs.Calls.{Lent, plan, tooSmall, freshBytes, openRefusal, callRefusal, flipAssignment, flipTallies}
 use Rattle.tallies.specs.Demand.{leaves}
@@ -121,9 +122,9 @@ module _ (l : Lent) (o : Opens l) where
   plan-fits = lawful-fits (plan l) plan-lawful
 
   pub assignment-room : plan l .variables ≤ length (l .assignment)
-  unfolding lawful tooSmall
+  unfolding tooSmall
   assignment-room =
-      le-trans (leb→le (plan l .variables) maxVariables (and-right _ _ (and-left _ _ (and-left _ _ (and-left _ _ (and-left _ _ (and-left _ _ plan-lawful)))))))
+      le-trans (plan-parts (plan l) plan-lawful .high)
       (nltb→le (length (l .assignment)) assignmentSize (and-right _ _ (rw not-or at (and-left _ _ (rw not-or at (o .sizes))))))
 
   pub tallies-room : tallySize ≤ length (l .tallies)

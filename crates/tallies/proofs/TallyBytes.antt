@@ -4,7 +4,7 @@ use native.Mathlib.Nat.{le-trans}
 use native.Mathlib.Omega.{arith}
 use mathlib.Core.Path.{_≡_, refl, ap, ap₂, _∙_}
 use mathlib.Core.List.{List, [], _∷_, _++_}
-use lib.Dec.{T, eqb, leb→le, eqb→eq, eqb-refl, lit≤}
+use lib.Dec.{T, eqb, eqb→eq, eqb-refl, lit≤}
 use lib.ListN.{length, take, drop, length-append, length-replicate, length-map}
 use lib.Seq.{take-at, drop-at}
 use Rattle.plpb.specs.Plan.{Plan, Assignment}
@@ -12,7 +12,8 @@ use Rattle.plpb.specs.Tallies.{Tallies, rulesOf, freshCount}
 use Rattle.plpb.proofs.Lists.{and-left, and-right, and-both}
 use Rattle.words.proofs.Words.{length-wordBytes}
 use Rattle.format.specs.Tables.{padTo, sameBytes}
-use Rattle.format.specs.Limits.{maxClauses, maxRules, lawful}
+use Rattle.format.specs.Limits.{lawful}
+use Rattle.format.proofs.Lawful.{plan-parts}
 use Rattle.tallies.specs.Layout.{tallySize, tallyWords, tallyBytes}
 
 -- ---- sizes
@@ -32,13 +33,9 @@ pub record Fits (p : Plan) : Type 0 where
   pub clauses : length (p .clauses) ≤ 513
 
 pub lawful-fits : (p : Plan) → T (lawful p) → Fits p
-unfolding lawful
 lawful-fits p t =
-    let limits = and-left _ _ t in
-    record {
-      rules = le-trans (leb→le (length (rulesOf p)) maxRules (and-right _ _ limits)) (lit≤ tt);
-      clauses = le-trans (leb→le (length (p .clauses)) maxClauses (and-right _ _ (and-left _ _ limits))) (lit≤ tt);
-    }
+    let q = plan-parts p t in
+    record { rules = le-trans (q .ruleCount) (lit≤ tt); clauses = le-trans (q .clauseCount) (lit≤ tt) }
 
 module _ (p : Plan) (fits : Fits p) (a : Assignment) where
   pub fresh-rules : length (freshCount p a .trueWeights) ≤ 1_025
