@@ -10,7 +10,7 @@ use mathlib.Core.List.{List, [], _∷_, _++_, map}
 use borrow.Author.Tests.{eqb-true, eqb-false, lt-ltb, le-ltb}
 use lib.Dec.{eqb, eqb·suc-zero}
 use lib.IntN.{pos, _+ℤ_}
-use lib.ListN.{length, getD, drop, replicate, List·getD-append}
+use lib.ListN.{length, getD, drop, List·getD-append}
 use lib.Seq.{getD-append-add, getD-set-same, getD-set-other}
 use Rattle.plpb.specs.Lists.{_or_, _and_, any, count, sumBy}
 use Rattle.plpb.specs.Plan.{Term, Rule, Clause, Plan, Assignment, flip, total, atLeast, atMost, ruleHolds, namedIn, names}
@@ -25,7 +25,7 @@ use Rattle.format.specs.Tables.{padTo}
 use Rattle.tallies.specs.Layout.{tallySize, bitsOf, tallyWords, tallyBytes}
 use Rattle.tallies.specs.Calls.{Lent, plan, callRefusal, turned, flipAssignment, flipTallies}
 use Rattle.tallies.specs.Demand.{answer, leaves}
-use Rattle.tallies.proofs.TallyBytes.{Fits, length-padTo, fresh-rules, fresh-clauses, length-fresh-words, length-fresh}
+use Rattle.tallies.proofs.TallyBytes.{Fits, length-padTo, padded, fresh-rules, fresh-clauses, length-fresh-words, length-fresh}
 use Rattle.tallies.proofs.Bits.{length-bitsOf, length-turned}
 use Rattle.tallies.proofs.Refusals.{either, variable-range, Opens, takes, plan-fits, assignment-room, counts-leaves, refused-leaves}
 use Rattle.tallies.proofs.Steps.{holding, holding-tallies-room, holding-flip, holding-refusal, lent-holding}
@@ -91,21 +91,6 @@ same-parts xs us ys vs k i e d f g = at (decLt i k)
     at : Dec (i < k) → getD (xs ++ ys) i 0 ≡ getD (us ++ vs) i 0
     at (yes h) = List·getD-append xs ys 0 i (rw e h) ∙ f h ∙ sym (List·getD-append us vs 0 i (rw d h))
     at (no h) = behind xs ys k i e (omega arith) ∙ g (omega arith) ∙ sym (behind us vs k i d (omega arith))
-
--- What is padded with 0 is the same everywhere.
-zeros : (m i : ℕ) → _≡_ {A = ℕ} (getD (replicate m 0) i 0) 0
-zeros zero i = refl
-zeros (suc m) zero = refl
-zeros (suc m) (suc i) = zeros m i
-
-padded : (ws : List ℕ) (k i : ℕ) → getD (padTo k ws) i 0 ≡ getD ws i 0
-unfolding padTo
-padded ws k i = more ws (k - length ws) i
-  where
-    more : (us : List ℕ) (m j : ℕ) → getD (us ++ replicate m 0) j 0 ≡ getD us j 0
-    more [] m j = zeros m j
-    more (u ∷ us) m zero = refl
-    more (u ∷ us) m (suc j) = more us m j
 
 same-padded : (ws us ys vs : List ℕ) (k i : ℕ) → length ws ≤ k → length us ≤ k → (i < k → getD ws i 0 ≡ getD us i 0) → (k ≤ i → getD ys (i - k) 0 ≡ getD vs (i - k) 0) → getD (padTo k ws ++ ys) i 0 ≡ getD (padTo k us ++ vs) i 0
 same-padded ws us ys vs k i e d f g =

@@ -1,11 +1,11 @@
 -- The bytes of a fresh count fill the tallies' full limits, because each section is padded to its size and a word is four bytes.
-use Prim.Native.Nat.{ℕ, _*_, _≤_}
+use Prim.Native.Nat.{ℕ, zero, suc, _*_, _-_, _≤_}
 use native.Mathlib.Nat.{le-trans}
 use native.Mathlib.Omega.{arith}
 use mathlib.Core.Path.{_≡_, refl, ap, ap₂, _∙_}
 use mathlib.Core.List.{List, [], _∷_, _++_}
 use lib.Dec.{T, eqb, eqb→eq, eqb-refl, lit≤}
-use lib.ListN.{length, take, drop, length-append, length-replicate, length-map}
+use lib.ListN.{length, getD, take, drop, replicate, length-append, length-replicate, length-map}
 use lib.Seq.{take-at, drop-at}
 use Rattle.plpb.specs.Plan.{Plan, Assignment}
 use Rattle.plpb.specs.Tallies.{Tallies, rulesOf, freshCount}
@@ -21,6 +21,21 @@ use Rattle.tallies.specs.Layout.{tallySize, tallyWords, tallyBytes}
 pub length-padTo : (k : ℕ) (ws : List ℕ) → length ws ≤ k → length (padTo k ws) ≡ k
 unfolding padTo
 length-padTo k ws h = simp (length-append, length-replicate {A = ℕ}) (omega arith)
+
+-- What is padded with 0 is the same everywhere.
+zeros : (m i : ℕ) → _≡_ {A = ℕ} (getD (replicate m 0) i 0) 0
+zeros zero i = refl
+zeros (suc m) zero = refl
+zeros (suc m) (suc i) = zeros m i
+
+pub padded : (ws : List ℕ) (k i : ℕ) → getD (padTo k ws) i 0 ≡ getD ws i 0
+unfolding padTo
+padded ws k i = more ws (k - length ws) i
+  where
+    more : (us : List ℕ) (m j : ℕ) → getD (us ++ replicate m 0) j 0 ≡ getD us j 0
+    more [] m j = zeros m j
+    more (u ∷ us) m zero = refl
+    more (u ∷ us) m (suc j) = more us m j
 
 pub length-tallyWords : (t : Tallies) → length (t .trueWeights) ≤ 1_025 → length (t .rulesHolding) ≤ 513 → length (tallyWords t) ≡ 1_539
 unfolding tallyWords
