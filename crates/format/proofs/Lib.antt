@@ -11,3 +11,8 @@ pub mod Sizes
 pub mod WriteBytes
 pub mod RoundTrip
 pub mod Accepted
+pub mod Spells
+pub mod Sections
+pub mod WordBounds
+pub mod Objective
+pub mod ReadBack
