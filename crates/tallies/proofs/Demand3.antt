@@ -8,15 +8,14 @@ use mathlib.Core.Logic.{_↔_, _≢_}
 use mathlib.Core.Bool.{Bool, true, false, not, cond, true≢false, false≢true}
 use mathlib.Core.List.{List, [], _∷_}
 use borrow.Author.Tests.{eqb-true, eqb-false}
-use lib.Dec.{T, eqb}
+use lib.Dec.{eqb}
 use lib.ListN.{length, drop}
 use Rattle.plpb.specs.Plan.{Plan, Assignment, value, flip, isVariable}
 use Rattle.plpb.specs.Book.{Call, flipCall, countsCall, entry, book}
 use Rattle.plpb.proofs.Lists.{not-not}
 use Rattle.plpb.proofs.Flip.{length-flip, flip-same, flip-other}
-use Rattle.format.specs.Limits.{lawful}
-use Rattle.format.specs.Tables.{planOfTables, Holds}
 use Rattle.format.proofs.Accepted.{accepted-lawful}
+use Rattle.format.proofs.ReadBack.{read-back}
 use Rattle.tallies.specs.Layout.{tallySize, bitsOf}
 use Rattle.tallies.specs.Calls.{Lent, plan}
 use Rattle.tallies.specs.Demand.{answers, after, opened, flipsOf, end, account, Agrees, Demand3}
@@ -102,8 +101,7 @@ module _ (l : Lent) (o : Opens l) (cs : List Call) where
       }
 
 -- The plan of the file is the plan read back from the tables that hold it.
-module _ (read-back : (p : Plan) (tables terms : List ℕ) → T (lawful p) → Holds p tables terms → planOfTables tables terms ≡ p) where
-  pub demand3 : Demand3
-  unfolding plan
-  demand3 file p l cs e h z =
-      subst (λ q. Agrees q l cs) (read-back p (l .tables) (l .terms) (accepted-lawful file p e) h) (agrees l (opens l z) cs)
+pub demand3 : Demand3
+unfolding plan
+demand3 file p l cs e h z =
+    subst (λ q. Agrees q l cs) (read-back p (l .tables) (l .terms) (accepted-lawful file p e) h) (agrees l (opens l z) cs)

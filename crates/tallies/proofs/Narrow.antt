@@ -22,10 +22,11 @@ use Rattle.plpb.proofs.Flip.{length-flip, flip-other, flip-twice, flip-literal-
 use Rattle.words.specs.Words.{bytesOf, wordBytes}
 use Rattle.words.proofs.Words.{length-bytesOf}
 use Rattle.format.specs.Tables.{padTo}
+use Rattle.format.proofs.Spells.{length-padTo}
 use Rattle.tallies.specs.Layout.{tallySize, bitsOf, tallyWords, tallyBytes}
 use Rattle.tallies.specs.Calls.{Lent, plan, callRefusal, turned, flipAssignment, flipTallies}
 use Rattle.tallies.specs.Demand.{answer, leaves}
-use Rattle.tallies.proofs.TallyBytes.{Fits, length-padTo, padded, fresh-rules, fresh-clauses, length-fresh-words, length-fresh}
+use Rattle.tallies.proofs.TallyBytes.{Fits, padded, fresh-rules, fresh-clauses, length-fresh-words, length-fresh}
 use Rattle.tallies.proofs.Bits.{length-bitsOf, length-turned}
 use Rattle.tallies.proofs.Refusals.{either, variable-range, Opens, takes, plan-fits, assignment-room, counts-leaves, refused-leaves}
 use Rattle.tallies.proofs.Steps.{holding, holding-tallies-room, holding-flip, holding-refusal, lent-holding}

@@ -1,11 +1,10 @@
 -- The bytes of a fresh count fill the tallies' full limits, because each section is padded to its size and a word is four bytes.
 use Prim.Native.Nat.{ℕ, zero, suc, _*_, _-_, _≤_}
 use native.Mathlib.Nat.{le-trans}
-use native.Mathlib.Omega.{arith}
 use mathlib.Core.Path.{_≡_, refl, ap, ap₂, _∙_}
 use mathlib.Core.List.{List, [], _∷_, _++_}
 use lib.Dec.{T, eqb, eqb→eq, eqb-refl, lit≤}
-use lib.ListN.{length, getD, take, drop, replicate, length-append, length-replicate, length-map}
+use lib.ListN.{length, getD, take, drop, replicate, length-append, length-map}
 use lib.Seq.{take-at, drop-at}
 use Rattle.plpb.specs.Plan.{Plan, Assignment}
 use Rattle.plpb.specs.Tallies.{Tallies, rulesOf, freshCount}
@@ -14,13 +13,10 @@ use Rattle.words.proofs.Words.{length-wordBytes}
 use Rattle.format.specs.Tables.{padTo, sameBytes}
 use Rattle.format.specs.Limits.{lawful}
 use Rattle.format.proofs.Lawful.{plan-parts}
+use Rattle.format.proofs.Spells.{length-padTo}
 use Rattle.tallies.specs.Layout.{tallySize, tallyWords, tallyBytes}
 
 -- ---- sizes
-
-pub length-padTo : (k : ℕ) (ws : List ℕ) → length ws ≤ k → length (padTo k ws) ≡ k
-unfolding padTo
-length-padTo k ws h = simp (length-append, length-replicate {A = ℕ}) (omega arith)
 
 -- What is padded with 0 is the same everywhere.
 zeros : (m i : ℕ) → _≡_ {A = ℕ} (getD (replicate m 0) i 0) 0
