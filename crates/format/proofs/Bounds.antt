@@ -11,7 +11,7 @@ use Rattle.plpb.specs.Plan.{Bound, absent, present}
 use Rattle.format.specs.Limits.{maxBound, boundLawful, isPresent}
 use Rattle.format.specs.File.{boundsLawful, boundOf}
 use Rattle.format.specs.Writer.{mode, boundNumber}
-use Rattle.format.proofs.Bools.{and-left, and-right, and-join, true-T}
+use Rattle.format.proofs.Bools.{and-left, and-right, true-T}
 
 -- Two bounds, one of them there and both within the range.
 unfoldable pub bothLawful : Bound ℤ → Bound ℤ → Bool

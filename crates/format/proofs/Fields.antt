@@ -1,15 +1,14 @@
 -- One field of a file: what it is for a field to meet no condition, and what reading does then. Each law follows `fault` and `readFrom` by cases.
-use Prim.Native.Nat.{ℕ, zero, suc, _+_, _≤_, _<_}
-use mathlib.Core.Path.{_≡_, refl, sym, ap, _∙_}
-use mathlib.Core.Bool.{Bool, true, false, not, cond}
+use Prim.Native.Nat.{ℕ, suc, _+_, _≤_}
+use mathlib.Core.Path.{_≡_, refl, sym}
+use mathlib.Core.Bool.{Bool, true, false, not}
 use mathlib.Core.List.{List}
 use native.Mathlib.Omega.{arith}
-use lib.Dec.{leb, ltb, eqb}
+use lib.Dec.{eqb}
 use lib.ListN.{length}
 use borrow.Author.Tests.{le-ltb, ltb-false}
 use Rattle.format.specs.Limits.{termsLawful}
-use Rattle.format.specs.File.{State, mayStand, tagAt, lengthAt, lengthLawful, pastLimits, wrongBounds, fieldTerms, refuse, fault, next, Contents, Reading, refused, accepted, addField, mapReading, finish, readFrom}
-use Rattle.format.proofs.Bools.{true-T}
+use Rattle.format.specs.File.{State, mayStand, tagAt, lengthAt, lengthLawful, pastLimits, wrongBounds, fieldTerms, refuse, fault, next, addField, mapReading, finish, readFrom}
 
 -- A field that meets none of the conditions.
 pub record Clean (s : List ℕ) (st : State) : Type 0 where

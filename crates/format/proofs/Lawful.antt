@@ -1,5 +1,5 @@
 -- The parts of what makes terms, rules, clauses and plans lawful, as facts: each test is taken apart and put together by 'and'.
-use Prim.Native.Nat.{ℕ, zero, suc, _+_, _≤_, _<_}
+use Prim.Native.Nat.{ℕ, _+_, _≤_, _<_}
 use mathlib.Core.Path.{_≡_, refl}
 use mathlib.Core.Bool.{Bool, true, not}
 use mathlib.Core.List.{List, [], _∷_}
@@ -12,7 +12,7 @@ use Rattle.plpb.specs.Lists.{_and_, all, isEmpty}
 use Rattle.plpb.specs.Plan.{Term, Rule, Clause, Plan, risingAbove, rising}
 use Rattle.plpb.specs.Tallies.{rulesOf}
 use Rattle.format.specs.Limits.{maxVariables, maxClauses, maxRules, maxTerms, weightLawful, termsLawful, ruleLawful, termCount, lawful}
-use Rattle.format.proofs.Bools.{and-left, and-right, and-join, and-assoc, T-true, true-T}
+use Rattle.format.proofs.Bools.{and-left, and-right, and-join, T-true, true-T}
 use Rattle.format.proofs.Bounds.{bothLawful}
 
 -- A term whose number and weight are in range.

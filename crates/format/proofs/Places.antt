@@ -1,7 +1,7 @@
 -- What stands at a place of a file is read as what was written there: the bytes from that place on begin with what was written.
-use Prim.Native.Nat.{ℕ, zero, suc, _+_, _*_, _^_, _≤_, _<_}
+use Prim.Native.Nat.{ℕ, _+_, _^_, _≤_, _<_}
 use mathlib.Core.Path.{_≡_, refl, sym, ap, ap₂, _∙_}
-use mathlib.Core.Bool.{true}
+use mathlib.Core.Bool.{true, false}
 use mathlib.Core.List.{List, [], _∷_, _++_, map, append-assoc}
 use native.Mathlib.Nat.{add-zero, add-assoc}
 use native.Mathlib.Omega.{arith}
@@ -13,9 +13,11 @@ use Rattle.plpb.specs.Lists.{all, concat}
 use Rattle.plpb.specs.Plan.{Term}
 use Rattle.words.specs.Words.{numAt, bytesOf, signed, unsigned}
 use Rattle.words.proofs.Words.{length-bytesOf, numAt-drop, numAt-bytesOf, signed-unsigned, unsigned-lt}
-use Rattle.format.specs.File.{tagAt, lengthAt, termAt, termsAt}
+use Rattle.format.specs.Limits.{termsLawful}
+use Rattle.format.specs.File.{Stage, mayStand, tagAt, lengthAt, lengthLawful, termAt, termsAt, pastLimits, wrongBounds, fieldTerms}
 use Rattle.format.specs.Writer.{field, termBytes}
 use Rattle.format.proofs.Bools.{and-left, and-right}
+use Rattle.format.proofs.Fields.{Clean}
 use Rattle.format.proofs.Lawful.{termWithin, weight-small}
 
 pub length-termBytes : (t : Term) → length (termBytes t) ≡ 6
@@ -99,3 +101,19 @@ module _ (s : List ℕ) where
         length-append (field tag body) rest ∙ ap (λ m. m + length rest) (length-field tag body) in
         let r = place-room at (field tag body ++ rest) e (omega arith) in
         omega arith
+
+    -- It meets no condition where its tag may stand here, its length is lawful, and so is what it says.
+    pub placed-clean :
+        (g : Stage) (n C R k : ℕ) → length body < 65_536 → mayStand g tag ≡ true → lengthLawful tag (length body) ≡ true
+        → pastLimits s (record { at = at; stage = g; variables = n; clauses = C; rules = R; terms = k }) ≡ false → wrongBounds s at ≡ false
+        → termsLawful n (fieldTerms s at) ≡ true
+        → Clean s (record { at = at; stage = g; variables = n; clauses = C; rules = R; terms = k })
+    placed-clean g n C R k l may size limits bounds terms = record {
+      head = omega (arith, place-whole);
+      tag = rw place-tag may;
+      size = rw (place-tag, place-length l) size;
+      body = omega (arith, place-whole, place-length l);
+      limits = limits;
+      bounds = bounds;
+      terms = terms;
+    }

@@ -1,7 +1,7 @@
 -- Assignments and tallies in bytes (docs/FORMAT.md has the layout with offsets).
 -- Assumes nothing.
 use Prim.Native.Nat.{ℕ}
-use mathlib.Core.Bool.{Bool}
+use mathlib.Core.Bool.{Bool, cond}
 use mathlib.Core.List.{List, [], _∷_, _++_, map}
 use lib.Dec.{leb, eqb}
 use lib.ListN.{take}
@@ -20,6 +20,10 @@ tallySize = 6_156
 -- The first n bytes of what is lent as assignment, 1 for true.
 unfoldable pub bitsOf : ℕ → List ℕ → Assignment
 bitsOf n bytes = map (λ b. eqb b 1) (take n bytes)
+
+-- The bytes of an assignment, 1 for true and 0 for false.
+unfoldable pub bitBytes : Assignment → List ℕ
+bitBytes a = map (λ b. cond b 1 0) a
 
 -- "24: one of the first n assignment bytes is not 0 or 1."
 unfoldable pub areBits : ℕ → List ℕ → Bool

@@ -2,3 +2,4 @@
 pub mod Layout
 pub mod Calls
 pub mod Demand
+pub mod Narrow

@@ -1,0 +1,92 @@
+-- A sum's terms and its coefficients by variable say the same: by induction over the variables, from the lowest.
+use Prim.Native.Nat.{ℕ, zero, suc, _+_, _≤_, _<_}
+use mathlib.Core.Path.{_≡_, refl, sym, ap, ap₂, _∙_}
+use mathlib.Core.Bool.{Bool, true}
+use mathlib.Core.List.{List, [], _∷_, map}
+use mathlib.Core.Logic.{⊎-elim}
+use native.Mathlib.Nat.{eq-or-lt-of-le}
+use native.Mathlib.Omega.{arith}
+use lib.Dec.{ltb}
+use lib.IntN.{ℤ, pos, natAbs}
+use borrow.Author.Tests.{leb-true, ltb-true, lt-ltb, le-ltb, eq-eqb, ne-eqb}
+use Rattle.plpb.specs.Lists.{all, keep, row}
+use Rattle.plpb.specs.Plan.{Term, risingAbove}
+use Rattle.format.specs.Tables.{coefficient}
+use Rattle.format.proofs.Bools.{and-left, and-right, and-join}
+use Rattle.format.proofs.Lawful.{termWithin, weight-some}
+
+-- A variable that stands below all terms, or above all, has coefficient 0.
+pub coefficient-below : (v x : ℕ) (ts : List Term) → risingAbove v ts ≡ true → x ≤ v → coefficient ts x ≡ pos 0
+unfolding coefficient risingAbove
+coefficient-below v x [] r h = refl
+coefficient-below v x (t ∷ ts) r h =
+    let a : v < t .variable = ltb-true _ _ (and-left _ _ r) in
+    rw (ne-eqb (t .variable) x (λ e. omega arith)) (coefficient-below (t .variable) x ts (and-right _ _ r) (omega arith))
+
+pub coefficient-above : (n x : ℕ) (ts : List Term) → all (termWithin n) ts ≡ true → n < x → coefficient ts x ≡ pos 0
+unfolding coefficient all termWithin
+coefficient-above n x [] w h = refl
+coefficient-above n x (t ∷ ts) w h =
+    let a : t .variable ≤ n = leb-true _ _ (and-left _ _ (and-left _ _ w)) in
+    rw (ne-eqb (t .variable) x (λ e. omega arith)) (coefficient-above n x ts (and-right _ _ w) h)
+
+unfoldable pub named : (ℕ → ℤ) → ℕ → Term
+named h x = record { variable = x; weight = h x }
+
+unfoldable pub isSome : Term → Bool
+isSome t = ltb 0 (natAbs (t .weight))
+
+-- The terms of the variables above v, k in number.
+unfoldable pub sparse : (ℕ → ℤ) → ℕ → ℕ → List Term
+sparse h v k = keep isSome (map (named h) (row (suc v) k))
+
+module _ (h : ℕ → ℤ) where
+  nothing : (v : ℕ) → sparse h v 0 ≡ []
+  unfolding sparse keep row
+  nothing v = refl
+
+  pub sparse-skip : (v k : ℕ) → natAbs (h (suc v)) ≡ 0 → sparse h v (suc k) ≡ sparse h (suc v) k
+  unfolding sparse keep row isSome named
+  sparse-skip v k e = rw (le-ltb 0 (natAbs (h (suc v))) (omega arith))
+
+  pub sparse-hold : (v k : ℕ) → 0 < natAbs (h (suc v)) → sparse h v (suc k) ≡ named h (suc v) ∷ sparse h (suc v) k
+  unfolding sparse keep row isSome named
+  sparse-hold v k e = rw (lt-ltb 0 (natAbs (h (suc v))) e)
+
+  -- Terms whose numbers rise from above v come back from their coefficients: the next variable has none, or the first term is its.
+  step-skip :
+      (n v k : ℕ) (ts : List Term) → v + suc k ≡ n → risingAbove (suc v) ts ≡ true
+      → ((x : ℕ) → v < x → x ≤ n → h x ≡ coefficient ts x) → sparse h (suc v) k ≡ ts → sparse h v (suc k) ≡ ts
+  step-skip n v k ts l r e ih =
+      sparse-skip v k (ap natAbs (e (suc v) (omega arith) (omega arith) ∙ coefficient-below (suc v) (suc v) ts r (omega arith))) ∙ ih
+
+  step-hold :
+      (n v k : ℕ) (t : Term) (ts : List Term) → v + suc k ≡ n → t .variable ≡ suc v → 0 < natAbs (t .weight)
+      → ((x : ℕ) → v < x → x ≤ n → h x ≡ coefficient (t ∷ ts) x) → sparse h (suc v) k ≡ ts → sparse h v (suc k) ≡ t ∷ ts
+  unfolding coefficient named
+  step-hold n v k t ts l m s e ih =
+      let w : h (suc v) ≡ t .weight = e (suc v) (omega arith) (omega arith) ∙ rw (eq-eqb (t .variable) (suc v) m) in
+      let same : named h (suc v) ≡ t = λ i. record { variable = sym m i; weight = w i } in
+      sparse-hold v k (rw w s) ∙ ap₂ (λ a b. a ∷ b) same ih
+
+  pub sparse-back :
+      (n v k : ℕ) (ts : List Term) → v + k ≡ n → risingAbove v ts ≡ true → all (termWithin n) ts ≡ true
+      → ((x : ℕ) → v < x → x ≤ n → h x ≡ coefficient ts x) → sparse h v k ≡ ts
+  unfolding risingAbove all termWithin coefficient
+  sparse-back n v zero [] l r w e = nothing v
+  sparse-back n v zero (t ∷ ts) l r w e =
+      let a : v < t .variable = ltb-true _ _ (and-left _ _ r) in
+      let b : t .variable ≤ n = leb-true _ _ (and-left _ _ (and-left _ _ w)) in
+      absurd (omega arith)
+  sparse-back n v (suc k) [] l r w e =
+      step-skip n v k [] l refl e (sparse-back n (suc v) k [] (omega arith) refl refl (λ x a b. e x (omega arith) b))
+  sparse-back n v (suc k) (t ∷ ts) l r w e =
+      let a : v < t .variable = ltb-true _ _ (and-left _ _ r) in
+      ⊎-elim
+      (λ m. step-hold n v k t ts l (sym m) (weight-some (t .weight) (and-right _ _ (and-left _ _ w))) e
+      (sparse-back n (suc v) k ts (omega arith) (rw m (and-right _ _ r)) (and-right _ _ w)
+      (λ x c d. e x (omega arith) d ∙ rw (ne-eqb (t .variable) x (λ z. omega arith)))))
+      (λ m.
+      let r' = and-join _ _ (lt-ltb (suc v) (t .variable) m) (and-right _ _ r) in
+      step-skip n v k (t ∷ ts) l r' e (sparse-back n (suc v) k (t ∷ ts) (omega arith) r' w (λ x c d. e x (omega arith) d)))
+      (eq-or-lt-of-le a)

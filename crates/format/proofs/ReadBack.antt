@@ -1,0 +1,163 @@
+-- The plan read back from a lawful plan's tables is that plan: each entry says where its part is, and the parts follow one another.
+use Prim.Native.Nat.{ℕ, suc, _+_, _*_, _≤_}
+use mathlib.Core.Path.{_≡_, sym, _∙_}
+use mathlib.Core.Bool.{true}
+use mathlib.Core.List.{List, [], _∷_, map}
+use native.Mathlib.Nat.{zero-add}
+use native.Mathlib.Numerals.{add-one}
+use native.Mathlib.Omega.{arith}
+use lib.Dec.{T}
+use lib.ListN.{length, take}
+use Rattle.plpb.specs.Lists.{all, concat, row}
+use Rattle.plpb.specs.Plan.{Term, Rule, Clause, Plan, rising}
+use Rattle.plpb.specs.Tallies.{rulesOf}
+use Rattle.words.specs.Words.{wordBytes, wordAt, signed, unsigned}
+use Rattle.words.proofs.Words.{Below, words-read, words-determine, signed-unsigned}
+use Rattle.format.specs.Limits.{ruleLawful, lawful}
+use Rattle.format.specs.File.{boundOf}
+use Rattle.format.specs.Writer.{mode, boundNumber}
+use Rattle.format.specs.Tables.{coefficient, clauseEntries, ruleEntries, termEntries, allTerms, tableWords, termWords, tableSize, termSize, Holds, termOf, ruleOf, clauseOf, objectiveOf, planIn, planOfTables}
+use Rattle.format.proofs.Bools.{and-left, and-right}
+use Rattle.format.proofs.Bounds.{bounds-written, bounds-tested, lower-back, upper-back}
+use Rattle.format.proofs.Lawful.{termWithin, weight-small, LawfulRule, rule-parts, LawfulPlan, plan-parts}
+use Rattle.format.proofs.Spells.{Spells, spells-at, spells-all, spells-left, spells-right, spells-map}
+use Rattle.format.proofs.Sections.{Sections, length-tableWords, length-termWords, spelt-sections, sections-table, sections-terms}
+use Rattle.format.proofs.WordBounds.{rules-lawful, terms-lawful, coefficient-small, table-below, term-below}
+use Rattle.format.proofs.Objective.{sparse, sparse-back, named, isSome}
+
+-- Terms.
+pub terms-back : (g : ℕ → ℕ) (n i : ℕ) (ts : List Term) → Spells g (2 * i) (termEntries ts) → all (termWithin n) ts ≡ true → Spells (termOf g) i ts
+unfolding Spells termEntries all termWithin termOf
+terms-back g n i [] s h = tt
+terms-back g n i (t ∷ ts) s h =
+    let small = weight-small (t .weight) (and-right _ _ (and-left _ _ h)) in
+    let w : signed (g (2 * i + 1)) ≡ t .weight = rw (add-one (2 * i), s .1 .0) (signed-unsigned (t .weight) (omega arith)) in
+    let m : suc (suc (2 * i)) ≡ 2 * suc i = omega arith in
+    ((λ j. record { variable = s .0 j; weight = w j }), terms-back g n (suc i) ts (rw m at (s .1 .1)) (and-right _ _ h))
+
+-- A rule's entry, and those behind it.
+pub record Entry (f : ℕ → ℕ) (i first : ℕ) (r : Rule) : Type 0 where
+  pub start : f (1_540 + 5 * i) ≡ first
+  pub count : f (1_541 + 5 * i) ≡ length (r .terms)
+  pub modeWord : f (1_542 + 5 * i) ≡ mode (r .lower) (r .upper)
+  pub lower : f (1_543 + 5 * i) ≡ unsigned (boundNumber (r .lower))
+  pub upper : f (1_544 + 5 * i) ≡ unsigned (boundNumber (r .upper))
+
+module _ (f : ℕ → ℕ) (i first : ℕ) (r : Rule) (rs : List Rule) (s : Spells f (1_540 + 5 * i) (ruleEntries first (r ∷ rs))) where
+  pub entry-here : Entry f i first r
+  unfolding Spells ruleEntries
+  entry-here =
+      let a : 1_541 + 5 * i ≡ suc (1_540 + 5 * i) = omega arith in
+      let b : 1_542 + 5 * i ≡ suc (suc (1_540 + 5 * i)) = omega arith in
+      let c : 1_543 + 5 * i ≡ suc (suc (suc (1_540 + 5 * i))) = omega arith in
+      let d : 1_544 + 5 * i ≡ suc (suc (suc (suc (1_540 + 5 * i)))) = omega arith in
+      record { start = s .0; count = rw a (s .1 .0); modeWord = rw b (s .1 .1 .0); lower = rw c (s .1 .1 .1 .0); upper = rw d (s .1 .1 .1 .1 .0) }
+
+  pub entries-behind : Spells f (1_540 + 5 * suc i) (ruleEntries (first + length (r .terms)) rs)
+  unfolding Spells ruleEntries
+  entries-behind = let e : 1_540 + 5 * suc i ≡ suc (suc (suc (suc (suc (1_540 + 5 * i))))) = omega arith in rw e (s .1 .1 .1 .1 .1)
+
+pub rule-back :
+    (f g : ℕ → ℕ) (n i first : ℕ) (r : Rule) → Entry f i first r → LawfulRule n r → Spells (termOf g) first (r .terms) → ruleOf f g i ≡ r
+unfolding ruleOf
+rule-back f g n i first r e l s =
+    let t = bounds-tested _ _ _ (bounds-written _ _ (l .both)) in
+    let a = signed-unsigned (boundNumber (r .lower)) (omega (arith, t .lower)) in
+    let b = signed-unsigned (boundNumber (r .upper)) (omega (arith, t .upper)) in
+    let lo : boundOf 2 (f (1_542 + 5 * i)) (signed (f (1_543 + 5 * i))) ≡ r .lower = rw (e .modeWord, e .lower, a) (lower-back _ _ (l .both)) in
+    let up : boundOf 1 (f (1_542 + 5 * i)) (signed (f (1_544 + 5 * i))) ≡ r .upper = rw (e .modeWord, e .upper, b) (upper-back _ _ (l .both)) in
+    let ts : map (termOf g) (row (f (1_540 + 5 * i)) (f (1_541 + 5 * i))) ≡ r .terms = rw (e .start, e .count) (spells-map (termOf g) first (r .terms) s) in
+    λ j. record { lower = lo j; upper = up j; terms = ts j }
+
+pub rules-back :
+    (f g : ℕ → ℕ) (n i first : ℕ) (rs : List Rule) → Spells f (1_540 + 5 * i) (ruleEntries first rs) → all (ruleLawful n) rs ≡ true
+    → Spells (termOf g) first (concat (map (λ r. r .terms) rs)) → Spells (ruleOf f g) i rs
+unfolding Spells all concat
+rules-back f g n i first [] s l t = tt
+rules-back f g n i first (r ∷ rs) s l t = (
+  rule-back f g n i first r (entry-here f i first r rs s) (rule-parts n r (and-left _ _ l)) (spells-left (termOf g) first (r .terms) _ t),
+  rules-back f g n (suc i) (first + length (r .terms)) rs (entries-behind f i first r rs s) (and-right _ _ l) (spells-right (termOf g) first (r .terms) _ t),
+)
+
+-- Clauses.
+pub clauses-back :
+    (f g : ℕ → ℕ) (i first : ℕ) (cs : List Clause) → Spells f (516 + 2 * i) (clauseEntries first cs) → Spells (ruleOf f g) first (concat cs)
+    → Spells (clauseOf f g) i cs
+unfolding Spells clauseEntries concat clauseOf
+clauses-back f g i first [] s t = tt
+clauses-back f g i first (c ∷ cs) s t =
+    let a : 517 + 2 * i ≡ suc (516 + 2 * i) = omega arith in
+    let b : 516 + 2 * suc i ≡ suc (suc (516 + 2 * i)) = omega arith in (
+      rw (s .0, a, s .1 .0) (spells-map (ruleOf f g) first c (spells-left (ruleOf f g) first c (concat cs) t)),
+      clauses-back f g (suc i) (first + length c) cs (rw b (s .1 .1)) (spells-right (ruleOf f g) first c (concat cs) t),
+    )
+
+-- The whole plan.
+module _ (p : Plan) (l : LawfulPlan p) (f g : ℕ → ℕ) (s : Sections p f g) where
+  rulesHere : all (ruleLawful (p .variables)) (rulesOf p) ≡ true
+  unfolding rulesOf
+  rulesHere = rules-lawful (p .variables) (p .clauses) (l .clauses)
+
+  pub terms-spelt : Spells (termOf g) 0 (allTerms p)
+  unfolding allTerms
+  terms-spelt = terms-back g (p .variables) 0 (allTerms p) (s .termEntry) (terms-lawful (p .variables) (rulesOf p) rulesHere)
+
+  pub rules-spelt : Spells (ruleOf f g) 0 (rulesOf p)
+  unfolding allTerms
+  rules-spelt = rules-back f g (p .variables) 0 0 (rulesOf p) (s .ruleEntry) rulesHere terms-spelt
+
+  clauses-spelt : Spells (clauseOf f g) 0 (p .clauses)
+  unfolding rulesOf
+  clauses-spelt = clauses-back f g 0 0 (p .clauses) (s .clauseEntry) rules-spelt
+
+  pub cost-back : (x : ℕ) → 1 ≤ x → x ≤ 512 → signed (f (3 + x)) ≡ coefficient (p .objective) x
+  cost-back x a b =
+      rw (s .objective x a b)
+      (signed-unsigned _ (omega (arith, coefficient-small (p .variables) (p .objective) x (l .objective .within))))
+
+  objective-back : objectiveOf f ≡ p .objective
+  unfolding objectiveOf sparse named isSome rising
+  objective-back =
+      sparse-back (λ x. signed (f (3 + x))) (p .variables) 0 (f 0) (p .objective) (zero-add (f 0) ∙ s .variables) (l .objective .rise) (l .objective .within)
+      (λ x a b. cost-back x a (omega (arith, l .high)))
+
+  pub plan-back : planIn f g ≡ p
+  unfolding planIn
+  plan-back =
+      let cs : map (clauseOf f g) (row 0 (f 1)) ≡ p .clauses = rw (s .clauseCount) (spells-map (clauseOf f g) 0 (p .clauses) clauses-spelt) in
+      λ j. record { variables = s .variables j; objective = objective-back j; clauses = cs j }
+
+-- The bytes of the tables.
+module _ (p : Plan) (l : LawfulPlan p) (tables terms : List ℕ) where
+  pub holds-sections : Holds p tables terms → Sections p (wordAt tables) (wordAt terms)
+  unfolding Holds
+  holds-sections h =
+      let a : take (4 * length (tableWords p)) tables ≡ wordBytes (tableWords p) = rw (length-tableWords p l) (h .0) in
+      let b : take (4 * length (termWords p)) terms ≡ wordBytes (termWords p) = rw (length-termWords p l) (h .1) in
+      spelt-sections p l (wordAt tables) (wordAt terms)
+      (spells-all (wordAt tables) 0 (tableWords p) 0 (λ j u. rw (zero-add j) (words-read (tableWords p) tables j (table-below p l) a u)))
+      (spells-all (wordAt terms) 0 (termWords p) 0 (λ j u. rw (zero-add j) (words-read (termWords p) terms j (term-below p l) b u)))
+
+  pub sections-holds :
+      Below 256 tables → Below 256 terms → tableSize ≤ length tables → termSize ≤ length terms → Sections p (wordAt tables) (wordAt terms)
+      → Holds p tables terms
+  unfolding Holds
+  sections-holds bt bs nt ns s =
+      let a = spells-at (wordAt tables) 0 (tableWords p) (sections-table p l (wordAt tables) (wordAt terms) s) 0 in
+      let b = spells-at (wordAt terms) 0 (termWords p) (sections-terms p l (wordAt tables) (wordAt terms) s) 0 in
+      let room : 4 * length (tableWords p) ≤ length tables = omega (arith, length-tableWords p l) in
+      let space : 4 * length (termWords p) ≤ length terms = omega (arith, length-termWords p l) in (
+        rw (length-tableWords p l) at (words-determine (tableWords p) tables bt room (λ j u. rw zero-add at (a j u))),
+        rw (length-termWords p l) at (words-determine (termWords p) terms bs space (λ j u. rw zero-add at (b j u))),
+      )
+
+pub read-back : (p : Plan) (tables terms : List ℕ) → T (lawful p) → Holds p tables terms → planOfTables tables terms ≡ p
+unfolding planOfTables
+read-back p tables terms h e =
+    let l = plan-parts p h in
+    plan-back p l (wordAt tables) (wordAt terms) (holds-sections p l tables terms e)
+
+-- Two lawful plans with the same tables are one.
+pub loading-injective :
+    (p q : Plan) (tables terms : List ℕ) → T (lawful p) → T (lawful q) → Holds p tables terms → Holds q tables terms → p ≡ q
+loading-injective p q tables terms hp hq ep eq = sym (read-back p tables terms hp ep) ∙ read-back q tables terms hq eq

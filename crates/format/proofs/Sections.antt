@@ -1,0 +1,159 @@
+-- The words of a lawful plan's tables, section by section: each section has its full length, so the next begins where the layout says.
+use Prim.Native.Nat.{ℕ, _+_, _*_, _-_, _≤_}
+use mathlib.Core.Path.{_≡_, refl, _∙_}
+use mathlib.Core.Bool.{true}
+use mathlib.Core.List.{List, [], _∷_, _++_, map}
+use native.Mathlib.Nat.{zero-add}
+use native.Mathlib.Omega.{arith}
+use lib.ListN.{length, length-append, length-map}
+use Rattle.plpb.specs.Lists.{row}
+use Rattle.plpb.specs.Plan.{Term, Rule, Clause, Plan}
+use Rattle.plpb.specs.Tallies.{rulesOf}
+use Rattle.words.specs.Words.{unsigned}
+use Rattle.format.specs.Limits.{termCount}
+use Rattle.format.specs.Tables.{coefficient, padTo, clauseEntries, ruleEntries, termEntries, allTerms, tableWords, termWords}
+use Rattle.format.proofs.Good.{zerosFrom}
+use Rattle.format.proofs.Lists.{length-row, length-concat}
+use Rattle.format.proofs.Lawful.{LawfulPlan}
+use Rattle.format.proofs.Spells.{Spells, spells-left, spells-right, spells-join, spells-zeros, zeros-spell, spells-row, row-spells, length-padTo}
+
+-- How long the sections are.
+pub length-clauseEntries : (first : ℕ) (cs : List Clause) → length (clauseEntries first cs) ≡ 2 * length cs
+unfolding clauseEntries
+length-clauseEntries first [] = refl
+length-clauseEntries first (c ∷ cs) = omega (arith, length-clauseEntries (first + length c) cs)
+
+pub length-ruleEntries : (first : ℕ) (rs : List Rule) → length (ruleEntries first rs) ≡ 5 * length rs
+unfolding ruleEntries
+length-ruleEntries first [] = refl
+length-ruleEntries first (r ∷ rs) = omega (arith, length-ruleEntries (first + length (r .terms)) rs)
+
+pub length-termEntries : (ts : List Term) → length (termEntries ts) ≡ 2 * length ts
+unfolding termEntries
+length-termEntries [] = refl
+length-termEntries (t ∷ ts) = omega (arith, length-termEntries ts)
+
+pub length-allTerms : (p : Plan) → length (allTerms p) ≡ termCount p
+unfolding allTerms termCount
+length-allTerms p = length-concat (λ r. r .terms) (rulesOf p)
+
+-- What the two tables say, section by section.
+pub record Sections (p : Plan) (f g : ℕ → ℕ) : Type 0 where
+  pub variables : f 0 ≡ p .variables
+  pub clauseCount : f 1 ≡ length (p .clauses)
+  pub ruleCount : f 2 ≡ length (rulesOf p)
+  pub terms : f 3 ≡ termCount p
+  pub objective : (x : ℕ) → 1 ≤ x → x ≤ 512 → f (3 + x) ≡ unsigned (coefficient (p .objective) x)
+  pub clauseEntry : Spells f 516 (clauseEntries 0 (p .clauses))
+  pub ruleEntry : Spells f 1_540 (ruleEntries 0 (rulesOf p))
+  pub termEntry : Spells g 0 (termEntries (allTerms p))
+  pub clauseRest : zerosFrom f (516 + 2 * f 1) (1_024 - 2 * f 1) ≡ true
+  pub ruleRest : zerosFrom f (1_540 + 5 * f 2) (5_120 - 5 * f 2) ≡ true
+  pub termRest : zerosFrom g (2 * f 3) (12_000 - 2 * f 3) ≡ true
+
+-- A padded section: its words, then zeros.
+module _ (f : ℕ → ℕ) (i k n : ℕ) (ws : List ℕ) (l : length ws ≡ n) where
+  pad-words : Spells f i (padTo k ws) → Spells f i ws
+  unfolding padTo
+  pad-words s = spells-left f i ws _ s
+
+  pad-rest : Spells f i (padTo k ws) → zerosFrom f (i + n) (k - n) ≡ true
+  unfolding padTo
+  pad-rest s = rw l at (spells-zeros f (i + length ws) (k - length ws) (spells-right f i ws _ s))
+
+  pad-whole : Spells f i ws → zerosFrom f (i + n) (k - n) ≡ true → Spells f i (padTo k ws)
+  unfolding padTo
+  pad-whole s z = spells-join f i ws _ s (zeros-spell f (i + length ws) (k - length ws) (rw l z))
+
+module _ (p : Plan) (l : LawfulPlan p) where
+  abbrev objectiveWords : List ℕ
+  objectiveWords = map (λ x. unsigned (coefficient (p .objective) x)) (row 1 512)
+
+  abbrev clauseWords : List ℕ
+  clauseWords = padTo 1_024 (clauseEntries 0 (p .clauses))
+
+  abbrev ruleWords : List ℕ
+  ruleWords = padTo 5_120 (ruleEntries 0 (rulesOf p))
+
+  length-objective : length objectiveWords ≡ 512
+  length-objective = length-map (row 1 512) (λ x. unsigned (coefficient (p .objective) x)) ∙ length-row 1 512
+
+  length-clauseWords : length clauseWords ≡ 1_024
+  length-clauseWords = length-padTo 1_024 _ (omega (arith, length-clauseEntries 0 (p .clauses), l .clauseCount))
+
+  length-ruleWords : length ruleWords ≡ 5_120
+  length-ruleWords = length-padTo 5_120 _ (omega (arith, length-ruleEntries 0 (rulesOf p), l .ruleCount))
+
+  pub length-tableWords : length (tableWords p) ≡ 6_660
+  unfolding tableWords
+  length-tableWords =
+      omega (arith, length-append objectiveWords (clauseWords ++ ruleWords), length-append clauseWords ruleWords, length-objective, length-clauseWords, length-ruleWords)
+
+  pub length-termWords : length (termWords p) ≡ 12_000
+  unfolding termWords
+  length-termWords = length-padTo 12_000 _ (omega (arith, length-termEntries (allTerms p), length-allTerms p, l .terms))
+
+  module _ (f g : ℕ → ℕ) where
+    abbrev cost : ℕ → ℕ
+    cost x = unsigned (coefficient (p .objective) x)
+
+    objective-at : Spells f 4 objectiveWords → (x : ℕ) → 1 ≤ x → x ≤ 512 → f (3 + x) ≡ cost x
+    objective-at s x a b =
+        let m : 4 + (x - 1) ≡ 3 + x = omega arith in
+        let n : 1 + (x - 1) ≡ x = omega arith in
+        rw (m, n) at (spells-row f cost 4 1 512 s (x - 1) (omega arith))
+
+    objective-all : ((x : ℕ) → 1 ≤ x → x ≤ 512 → f (3 + x) ≡ cost x) → Spells f 4 objectiveWords
+    objective-all h =
+        row-spells f cost 4 1 512 (λ j b. let m : 3 + (1 + j) ≡ 4 + j = omega arith in rw m at (h (1 + j) (omega arith) (omega arith)))
+
+    pub spelt-sections : Spells f 0 (tableWords p) → Spells g 0 (termWords p) → Sections p f g
+    unfolding Spells tableWords termWords
+    spelt-sections s t =
+        let body : Spells f 4 (objectiveWords ++ (clauseWords ++ ruleWords)) = s .1 .1 .1 .1 in
+        let rest = rw length-objective at (spells-right f 4 objectiveWords (clauseWords ++ ruleWords) body) in
+        let cs = spells-left f 516 clauseWords ruleWords rest in
+        let rs = rw length-clauseWords at (spells-right f 516 clauseWords ruleWords rest) in
+        let n₁ : f 1 ≡ length (p .clauses) = s .1 .0 in
+        let n₂ : f 2 ≡ length (rulesOf p) = s .1 .1 .0 in
+        let n₃ : f 3 ≡ termCount p = s .1 .1 .1 .0 in
+        record {
+          variables = s .0;
+          clauseCount = n₁;
+          ruleCount = n₂;
+          terms = n₃;
+          objective = objective-at (spells-left f 4 objectiveWords (clauseWords ++ ruleWords) body);
+          clauseEntry = pad-words f 516 1_024 _ _ refl cs;
+          ruleEntry = pad-words f 1_540 5_120 _ _ refl rs;
+          termEntry = pad-words g 0 12_000 _ _ refl t;
+          clauseRest = pad-rest f 516 1_024 (2 * f 1) _ (omega (arith, length-clauseEntries 0 (p .clauses))) cs;
+          ruleRest = pad-rest f 1_540 5_120 (5 * f 2) _ (omega (arith, length-ruleEntries 0 (rulesOf p))) rs;
+          termRest = rw zero-add at (pad-rest g 0 12_000 (2 * f 3) _ (omega (arith, length-termEntries (allTerms p), length-allTerms p)) t);
+        }
+
+    pub sections-table : Sections p f g → Spells f 0 (tableWords p)
+    unfolding Spells tableWords
+    sections-table s =
+        let n₁ : length (clauseEntries 0 (p .clauses)) ≡ 2 * f 1 = omega (arith, length-clauseEntries 0 (p .clauses), s .clauseCount) in
+        let n₂ : length (ruleEntries 0 (rulesOf p)) ≡ 5 * f 2 = omega (arith, length-ruleEntries 0 (rulesOf p), s .ruleCount) in
+        let cs = pad-whole f 516 1_024 (2 * f 1) _ n₁ (s .clauseEntry) (s .clauseRest) in
+        let rs = pad-whole f 1_540 5_120 (5 * f 2) _ n₂ (s .ruleEntry) (s .ruleRest) in
+        let rest = spells-join f 516 clauseWords ruleWords cs (rw length-clauseWords rs) in (
+          s .variables,
+          (
+            s .clauseCount,
+            (
+              s .ruleCount,
+              (
+                s .terms,
+                spells-join f 4 objectiveWords (clauseWords ++ ruleWords) (objective-all (s .objective)) (rw length-objective rest),
+              ),
+            ),
+          ),
+        )
+
+    pub sections-terms : Sections p f g → Spells g 0 (termWords p)
+    unfolding termWords
+    sections-terms s =
+        let n : length (termEntries (allTerms p)) ≡ 2 * f 3 = omega (arith, length-termEntries (allTerms p), length-allTerms p, s .terms) in
+        pad-whole g 0 12_000 (2 * f 3) _ n (s .termEntry) (rw zero-add (s .termRest))
