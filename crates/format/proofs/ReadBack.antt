@@ -37,25 +37,25 @@ terms-back g n i (t ∷ ts) s h =
 
 -- A rule's entry, and those behind it.
 pub record Entry (f : ℕ → ℕ) (i first : ℕ) (r : Rule) : Type 0 where
-  pub start : f (1_540 + 5 * i) ≡ first
-  pub count : f (1_541 + 5 * i) ≡ length (r .terms)
-  pub modeWord : f (1_542 + 5 * i) ≡ mode (r .lower) (r .upper)
-  pub lower : f (1_543 + 5 * i) ≡ unsigned (boundNumber (r .lower))
-  pub upper : f (1_544 + 5 * i) ≡ unsigned (boundNumber (r .upper))
+  pub start : f (1_542 + 5 * i) ≡ first
+  pub count : f (1_543 + 5 * i) ≡ length (r .terms)
+  pub modeWord : f (1_544 + 5 * i) ≡ mode (r .lower) (r .upper)
+  pub lower : f (1_545 + 5 * i) ≡ unsigned (boundNumber (r .lower))
+  pub upper : f (1_546 + 5 * i) ≡ unsigned (boundNumber (r .upper))
 
-module _ (f : ℕ → ℕ) (i first : ℕ) (r : Rule) (rs : List Rule) (s : Spells f (1_540 + 5 * i) (ruleEntries first (r ∷ rs))) where
+module _ (f : ℕ → ℕ) (i first : ℕ) (r : Rule) (rs : List Rule) (s : Spells f (1_542 + 5 * i) (ruleEntries first (r ∷ rs))) where
   pub entry-here : Entry f i first r
   unfolding Spells ruleEntries
   entry-here =
-      let a : 1_541 + 5 * i ≡ suc (1_540 + 5 * i) = omega arith in
-      let b : 1_542 + 5 * i ≡ suc (suc (1_540 + 5 * i)) = omega arith in
-      let c : 1_543 + 5 * i ≡ suc (suc (suc (1_540 + 5 * i))) = omega arith in
-      let d : 1_544 + 5 * i ≡ suc (suc (suc (suc (1_540 + 5 * i)))) = omega arith in
+      let a : 1_543 + 5 * i ≡ suc (1_542 + 5 * i) = omega arith in
+      let b : 1_544 + 5 * i ≡ suc (suc (1_542 + 5 * i)) = omega arith in
+      let c : 1_545 + 5 * i ≡ suc (suc (suc (1_542 + 5 * i))) = omega arith in
+      let d : 1_546 + 5 * i ≡ suc (suc (suc (suc (1_542 + 5 * i)))) = omega arith in
       record { start = s .0; count = rw a (s .1 .0); modeWord = rw b (s .1 .1 .0); lower = rw c (s .1 .1 .1 .0); upper = rw d (s .1 .1 .1 .1 .0) }
 
-  pub entries-behind : Spells f (1_540 + 5 * suc i) (ruleEntries (first + length (r .terms)) rs)
+  pub entries-behind : Spells f (1_542 + 5 * suc i) (ruleEntries (first + length (r .terms)) rs)
   unfolding Spells ruleEntries
-  entries-behind = let e : 1_540 + 5 * suc i ≡ suc (suc (suc (suc (suc (1_540 + 5 * i))))) = omega arith in rw e (s .1 .1 .1 .1 .1)
+  entries-behind = let e : 1_542 + 5 * suc i ≡ suc (suc (suc (suc (suc (1_542 + 5 * i))))) = omega arith in rw e (s .1 .1 .1 .1 .1)
 
 pub rule-back :
     (f g : ℕ → ℕ) (n i first : ℕ) (r : Rule) → Entry f i first r → LawfulRule n r → Spells (termOf g) first (r .terms) → ruleOf f g i ≡ r
@@ -64,13 +64,13 @@ rule-back f g n i first r e l s =
     let t = bounds-tested _ _ _ (bounds-written _ _ (l .both)) in
     let a = signed-unsigned (boundNumber (r .lower)) (omega (arith, t .lower)) in
     let b = signed-unsigned (boundNumber (r .upper)) (omega (arith, t .upper)) in
-    let lo : boundOf 2 (f (1_542 + 5 * i)) (signed (f (1_543 + 5 * i))) ≡ r .lower = rw (e .modeWord, e .lower, a) (lower-back _ _ (l .both)) in
-    let up : boundOf 1 (f (1_542 + 5 * i)) (signed (f (1_544 + 5 * i))) ≡ r .upper = rw (e .modeWord, e .upper, b) (upper-back _ _ (l .both)) in
-    let ts : map (termOf g) (row (f (1_540 + 5 * i)) (f (1_541 + 5 * i))) ≡ r .terms = rw (e .start, e .count) (spells-map (termOf g) first (r .terms) s) in
+    let lo : boundOf 2 (f (1_544 + 5 * i)) (signed (f (1_545 + 5 * i))) ≡ r .lower = rw (e .modeWord, e .lower, a) (lower-back _ _ (l .both)) in
+    let up : boundOf 1 (f (1_544 + 5 * i)) (signed (f (1_546 + 5 * i))) ≡ r .upper = rw (e .modeWord, e .upper, b) (upper-back _ _ (l .both)) in
+    let ts : map (termOf g) (row (f (1_542 + 5 * i)) (f (1_543 + 5 * i))) ≡ r .terms = rw (e .start, e .count) (spells-map (termOf g) first (r .terms) s) in
     λ j. record { lower = lo j; upper = up j; terms = ts j }
 
 pub rules-back :
-    (f g : ℕ → ℕ) (n i first : ℕ) (rs : List Rule) → Spells f (1_540 + 5 * i) (ruleEntries first rs) → all (ruleLawful n) rs ≡ true
+    (f g : ℕ → ℕ) (n i first : ℕ) (rs : List Rule) → Spells f (1_542 + 5 * i) (ruleEntries first rs) → all (ruleLawful n) rs ≡ true
     → Spells (termOf g) first (concat (map (λ r. r .terms) rs)) → Spells (ruleOf f g) i rs
 unfolding Spells all concat
 rules-back f g n i first [] s l t = tt

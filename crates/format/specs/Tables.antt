@@ -50,7 +50,8 @@ termEntries (t ∷ ts) = t .variable ∷ unsigned (t .weight) ∷ termEntries ts
 unfoldable pub allTerms : Plan → List Term
 allTerms p = concat (map (λ r. r .terms) (rulesOf p))
 
--- The table of counts, objective (dense, by variable), clauses and rules: 4 + 512 + 2·512 + 5·1,024 words.
+-- The table of counts, objective (dense, by variable), clauses and rules: 4 + 512 + 2·513 + 5·1,025 words. There is room for one clause and
+-- rule more than a plan may have, so that the tables of a search, which adds one, are laid out alike.
 unfoldable pub tableWords : Plan → List ℕ
 tableWords p =
     p .variables
@@ -58,17 +59,17 @@ tableWords p =
     ∷ length (rulesOf p)
     ∷ termCount p
     ∷ (map (λ x. unsigned (coefficient (p .objective) x)) (row 1 512)
-    ++ (padTo 1_024 (clauseEntries 0 (p .clauses)) ++ padTo 5_120 (ruleEntries 0 (rulesOf p))))
+    ++ (padTo 1_026 (clauseEntries 0 (p .clauses)) ++ padTo 5_125 (ruleEntries 0 (rulesOf p))))
 
--- The term table: 2·6,000 words.
+-- The term table: 2·6,512 words, with room for the terms of one rule more.
 unfoldable pub termWords : Plan → List ℕ
-termWords p = padTo 12_000 (termEntries (allTerms p))
+termWords p = padTo 13_024 (termEntries (allTerms p))
 
 abbrev pub tableSize : ℕ
-tableSize = 26_640
+tableSize = 26_668
 
 abbrev pub termSize : ℕ
-termSize = 48_000
+termSize = 52_096
 
 -- The two tables hold the words of a plan; what stands past the full limits does not matter.
 unfoldable pub Holds : Plan → List ℕ → List ℕ → Type 0
@@ -85,9 +86,9 @@ termOf g i = record { variable = g (2 * i); weight = signed (g (2 * i + 1)) }
 unfoldable pub ruleOf : (ℕ → ℕ) → (ℕ → ℕ) → ℕ → Rule
 ruleOf f g r =
     record {
-      lower = boundOf 2 (f (1_542 + 5 * r)) (signed (f (1_543 + 5 * r)));
-      upper = boundOf 1 (f (1_542 + 5 * r)) (signed (f (1_544 + 5 * r)));
-      terms = map (termOf g) (row (f (1_540 + 5 * r)) (f (1_541 + 5 * r)));
+      lower = boundOf 2 (f (1_544 + 5 * r)) (signed (f (1_545 + 5 * r)));
+      upper = boundOf 1 (f (1_544 + 5 * r)) (signed (f (1_546 + 5 * r)));
+      terms = map (termOf g) (row (f (1_542 + 5 * r)) (f (1_543 + 5 * r)));
     }
 
 unfoldable pub clauseOf : (ℕ → ℕ) → (ℕ → ℕ) → ℕ → Clause
