@@ -1,4 +1,4 @@
--- The plan read back from a lawful plan's tables is that plan: each entry says where its part is, and the parts follow one another.
+-- The plan read back from a plan's tables is that plan, where they have room for it: each entry says where its part is, and the parts follow one another.
 use Prim.Native.Nat.{ℕ, suc, _+_, _*_, _≤_}
 use mathlib.Core.Path.{_≡_, sym, _∙_}
 use mathlib.Core.Bool.{true}
@@ -13,13 +13,13 @@ use Rattle.plpb.specs.Plan.{Term, Rule, Clause, Plan, rising}
 use Rattle.plpb.specs.Tallies.{rulesOf}
 use Rattle.words.specs.Words.{wordBytes, wordAt, signed, unsigned}
 use Rattle.words.proofs.Words.{Below, words-read, words-determine, signed-unsigned}
-use Rattle.format.specs.Limits.{ruleLawful, lawful}
+use Rattle.format.specs.Limits.{ruleLawful, roomy}
 use Rattle.format.specs.File.{boundOf}
 use Rattle.format.specs.Writer.{mode, boundNumber}
 use Rattle.format.specs.Tables.{coefficient, clauseEntries, ruleEntries, termEntries, allTerms, tableWords, termWords, tableSize, termSize, Holds, termOf, ruleOf, clauseOf, objectiveOf, planIn, planOfTables}
 use Rattle.format.proofs.Bools.{and-left, and-right}
 use Rattle.format.proofs.Bounds.{bounds-written, bounds-tested, lower-back, upper-back}
-use Rattle.format.proofs.Lawful.{termWithin, weight-small, LawfulRule, rule-parts, LawfulPlan, plan-parts}
+use Rattle.format.proofs.Lawful.{termWithin, weight-small, LawfulRule, rule-parts, RoomyPlan, roomy-parts}
 use Rattle.format.proofs.Spells.{Spells, spells-at, spells-all, spells-left, spells-right, spells-map}
 use Rattle.format.proofs.Sections.{Sections, length-tableWords, length-termWords, spelt-sections, sections-table, sections-terms}
 use Rattle.format.proofs.WordBounds.{rules-lawful, terms-lawful, coefficient-small, table-below, term-below}
@@ -93,7 +93,7 @@ clauses-back f g i first (c ∷ cs) s t =
     )
 
 -- The whole plan.
-module _ (p : Plan) (l : LawfulPlan p) (f g : ℕ → ℕ) (s : Sections p f g) where
+module _ (p : Plan) (l : RoomyPlan p) (f g : ℕ → ℕ) (s : Sections p f g) where
   rulesHere : all (ruleLawful (p .variables)) (rulesOf p) ≡ true
   unfolding rulesOf
   rulesHere = rules-lawful (p .variables) (p .clauses) (l .clauses)
@@ -128,7 +128,7 @@ module _ (p : Plan) (l : LawfulPlan p) (f g : ℕ → ℕ) (s : Sections p f g) 
       λ j. record { variables = s .variables j; objective = objective-back j; clauses = cs j }
 
 -- The bytes of the tables.
-module _ (p : Plan) (l : LawfulPlan p) (tables terms : List ℕ) where
+module _ (p : Plan) (l : RoomyPlan p) (tables terms : List ℕ) where
   pub holds-sections : Holds p tables terms → Sections p (wordAt tables) (wordAt terms)
   unfolding Holds
   holds-sections h =
@@ -151,13 +151,13 @@ module _ (p : Plan) (l : LawfulPlan p) (tables terms : List ℕ) where
         rw (length-termWords p l) at (words-determine (termWords p) terms bs space (λ j u. rw zero-add at (b j u))),
       )
 
-pub read-back : (p : Plan) (tables terms : List ℕ) → T (lawful p) → Holds p tables terms → planOfTables tables terms ≡ p
+pub read-back : (p : Plan) (tables terms : List ℕ) → T (roomy p) → Holds p tables terms → planOfTables tables terms ≡ p
 unfolding planOfTables
 read-back p tables terms h e =
-    let l = plan-parts p h in
+    let l = roomy-parts p h in
     plan-back p l (wordAt tables) (wordAt terms) (holds-sections p l tables terms e)
 
--- Two lawful plans with the same tables are one.
+-- Two plans with the same tables are one.
 pub loading-injective :
-    (p q : Plan) (tables terms : List ℕ) → T (lawful p) → T (lawful q) → Holds p tables terms → Holds q tables terms → p ≡ q
+    (p q : Plan) (tables terms : List ℕ) → T (roomy p) → T (roomy q) → Holds p tables terms → Holds q tables terms → p ≡ q
 loading-injective p q tables terms hp hq ep eq = sym (read-back p tables terms hp ep) ∙ read-back q tables terms hq eq

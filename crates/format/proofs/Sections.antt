@@ -14,7 +14,7 @@ use Rattle.format.specs.Limits.{termCount}
 use Rattle.format.specs.Tables.{coefficient, padTo, clauseEntries, ruleEntries, termEntries, allTerms, tableWords, termWords}
 use Rattle.format.proofs.Good.{zerosFrom}
 use Rattle.format.proofs.Lists.{length-row, length-concat}
-use Rattle.format.proofs.Lawful.{LawfulPlan}
+use Rattle.format.proofs.Lawful.{RoomyPlan}
 use Rattle.format.proofs.Spells.{Spells, spells-left, spells-right, spells-join, spells-zeros, zeros-spell, spells-row, row-spells, length-padTo}
 
 -- How long the sections are.
@@ -65,7 +65,7 @@ module _ (f : ℕ → ℕ) (i k n : ℕ) (ws : List ℕ) (l : length ws ≡ n) w
   unfolding padTo
   pad-whole s z = spells-join f i ws _ s (zeros-spell f (i + length ws) (k - length ws) (rw l z))
 
-module _ (p : Plan) (l : LawfulPlan p) where
+module _ (p : Plan) (l : RoomyPlan p) where
   abbrev objectiveWords : List ℕ
   objectiveWords = map (λ x. unsigned (coefficient (p .objective) x)) (row 1 512)
 

@@ -18,7 +18,7 @@ use Rattle.format.specs.Tables.{coefficient, padTo, clauseEntries, ruleE
 use Rattle.format.proofs.Bools.{and-left, and-right}
 use Rattle.format.proofs.Lists.{all-append}
 use Rattle.format.proofs.Bounds.{bounds-written, bounds-tested}
-use Rattle.format.proofs.Lawful.{termWithin, weight-small, rule-parts, clauseLawful, clause-rules, LawfulPlan}
+use Rattle.format.proofs.Lawful.{termWithin, weight-small, rule-parts, clauseLawful, clause-rules, RoomyPlan}
 use Rattle.format.proofs.Sizes.{termsOf}
 
 abbrev pub wordLimit : ℕ
@@ -96,7 +96,7 @@ each-term n (t ∷ ts) s h =
     (omega arith, (unsigned-lt _ (omega arith), each-term n ts s (and-right _ _ h)))
 
 -- The two tables.
-module _ (p : Plan) (l : LawfulPlan p) where
+module _ (p : Plan) (l : RoomyPlan p) where
   rulesHere : all (ruleLawful (p .variables)) (rulesOf p) ≡ true
   unfolding rulesOf
   rulesHere = rules-lawful (p .variables) (p .clauses) (l .clauses)

@@ -15,6 +15,7 @@ use Rattle.plpb.specs.Book.{Call, flipCall, countsCall, entry, book}
 use Rattle.plpb.proofs.Lists.{not-not}
 use Rattle.plpb.proofs.Flip.{length-flip, flip-same, flip-other}
 use Rattle.format.proofs.Accepted.{accepted-lawful}
+use Rattle.format.proofs.Lawful.{lawful-roomy}
 use Rattle.format.proofs.ReadBack.{read-back}
 use Rattle.tallies.specs.Layout.{tallySize, bitsOf}
 use Rattle.tallies.specs.Calls.{Lent, plan}
@@ -104,4 +105,4 @@ module _ (l : Lent) (o : Opens l) (cs : List Call) where
 pub demand3 : Demand3
 unfolding plan
 demand3 file p l cs e h z =
-    subst (λ q. Agrees q l cs) (read-back p (l .tables) (l .terms) (accepted-lawful file p e) h) (agrees l (opens l z) cs)
+    subst (λ q. Agrees q l cs) (read-back p (l .tables) (l .terms) (lawful-roomy p (accepted-lawful file p e)) h) (agrees l (opens l z) cs)
