@@ -53,7 +53,7 @@ pub record Meant (m : ℕ) (l u : ℤ) : Type 0 where
   pub lowerBack : boundNumber (boundOf 2 m l) ≡ l
   pub upperBack : boundNumber (boundOf 1 m u) ≡ u
 
-natAbs-zero : (z : ℤ) → natAbs z ≡ 0 → pos 0 ≡ z
+pub natAbs-zero : (z : ℤ) → natAbs z ≡ 0 → pos 0 ≡ z
 natAbs-zero (pos n) e = ap pos (sym e)
 natAbs-zero (negsuc n) e = absurd (omega arith)
 

@@ -1,5 +1,5 @@
 -- A sum's terms and its coefficients by variable say the same: by induction over the variables, from the lowest.
-use Prim.Native.Nat.{ℕ, zero, suc, _+_, _≤_, _<_}
+use Prim.Native.Nat.{ℕ, zero, suc, _+_, _≤_, _<_, zero-le}
 use mathlib.Core.Path.{_≡_, refl, sym, ap, ap₂, _∙_}
 use mathlib.Core.Bool.{Bool, true}
 use mathlib.Core.List.{List, [], _∷_, map}
@@ -8,11 +8,13 @@ use native.Mathlib.Nat.{eq-or-lt-of-le}
 use native.Mathlib.Omega.{arith}
 use lib.Dec.{ltb}
 use lib.IntN.{ℤ, pos, natAbs}
-use borrow.Author.Tests.{leb-true, ltb-true, lt-ltb, le-ltb, eq-eqb, ne-eqb}
+use borrow.Author.Tests.{leb-true, ltb-true, le-leb, lt-ltb, le-ltb, eq-eqb, ne-eqb}
 use Rattle.plpb.specs.Lists.{all, keep, row}
 use Rattle.plpb.specs.Plan.{Term, risingAbove}
+use Rattle.format.specs.Limits.{weightLawful}
 use Rattle.format.specs.Tables.{coefficient}
 use Rattle.format.proofs.Bools.{and-left, and-right, and-join}
+use Rattle.format.proofs.Bounds.{natAbs-zero}
 use Rattle.format.proofs.Lawful.{termWithin, weight-some}
 
 -- A variable that stands below all terms, or above all, has coefficient 0.
@@ -89,4 +91,41 @@ module _ (h : ℕ → ℤ) where
       (λ m.
       let r' = and-join _ _ (lt-ltb (suc v) (t .variable) m) (and-right _ _ r) in
       step-skip n v k (t ∷ ts) l r' e (sparse-back n (suc v) k (t ∷ ts) (omega arith) r' w (λ x c d. e x (omega arith) d)))
+      (eq-or-lt-of-le a)
+
+  -- The other way: such terms rise, are in range, and have the coefficients that they were taken from.
+  one-more :
+      (P : List Term → Type 0) (v k : ℕ) → (natAbs (h (suc v)) ≡ 0 → P (sparse h (suc v) k))
+      → (0 < natAbs (h (suc v)) → P (named h (suc v) ∷ sparse h (suc v) k)) → P (sparse h v (suc k))
+  one-more P v k a b =
+      ⊎-elim (λ e. rw (sparse-skip v k (sym e)) (a (sym e))) (λ e. rw (sparse-hold v k e) (b e)) (eq-or-lt-of-le {n = 0} zero-le)
+
+  pub sparse-rising : (u v k : ℕ) → u ≤ v → risingAbove u (sparse h v k) ≡ true
+  unfolding risingAbove named
+  sparse-rising u v zero l = rw (nothing v)
+  sparse-rising u v (suc k) l =
+      one-more (λ ts. risingAbove u ts ≡ true) v k (λ z. sparse-rising u (suc v) k (omega arith))
+      (λ z. and-join _ _ (lt-ltb u (suc v) (omega arith)) (sparse-rising (suc v) (suc v) k (omega arith)))
+
+  pub sparse-within :
+      (n v k : ℕ) → v + k ≡ n → ((x : ℕ) → v < x → x ≤ n → natAbs (h x) ≤ 1_000_000) → all (termWithin n) (sparse h v k) ≡ true
+  unfolding all termWithin weightLawful named
+  sparse-within n v zero l s = rw (nothing v)
+  sparse-within n v (suc k) l s =
+      let rest = sparse-within n (suc v) k (omega arith) (λ x a b. s x (omega arith) b) in
+      one-more (λ ts. all (termWithin n) ts ≡ true) v k (λ z. rest)
+      (λ z. and-join _ _
+      (and-join _ _ (le-leb (suc v) n (omega arith)) (and-join _ _ (lt-ltb 0 _ z) (le-leb _ _ (s (suc v) (omega arith) (omega arith))))) rest)
+
+  pub sparse-coefficient : (v k x : ℕ) → v < x → x ≤ v + k → coefficient (sparse h v k) x ≡ h x
+  unfolding coefficient named
+  sparse-coefficient v zero x a b = absurd (omega arith)
+  sparse-coefficient v (suc k) x a b =
+      ⊎-elim
+      (λ e. one-more (λ ts. coefficient ts x ≡ h x) v k
+      (λ z. coefficient-below (suc v) x (sparse h (suc v) k) (sparse-rising (suc v) (suc v) k (omega arith)) (omega arith) ∙ natAbs-zero (h x) (rw (← e) z))
+      (λ z. rw (← e, eq-eqb (suc v) (suc v) refl)))
+      (λ m.
+      let rest = sparse-coefficient (suc v) k x m (omega arith) in
+      one-more (λ ts. coefficient ts x ≡ h x) v k (λ z. rest) (λ z. rw (ne-eqb (suc v) x (λ e. omega arith)) rest))
       (eq-or-lt-of-le a)

@@ -11,17 +11,18 @@ use lib.ListN.{length, take}
 use Rattle.plpb.specs.Lists.{all, concat, row}
 use Rattle.plpb.specs.Plan.{Term, Rule, Clause, Plan, rising}
 use Rattle.plpb.specs.Tallies.{rulesOf}
-use Rattle.words.specs.Words.{wordBytes, wordAt, signed, unsigned}
+use Rattle.words.specs.Words.{wordBytes, wordAt, signed}
 use Rattle.words.proofs.Words.{Below, words-read, words-determine, signed-unsigned}
 use Rattle.format.specs.Limits.{ruleLawful, roomy}
 use Rattle.format.specs.File.{boundOf}
-use Rattle.format.specs.Writer.{mode, boundNumber}
+use Rattle.format.specs.Writer.{boundNumber}
 use Rattle.format.specs.Tables.{coefficient, clauseEntries, ruleEntries, termEntries, allTerms, tableWords, termWords, tableSize, termSize, Holds, termOf, ruleOf, clauseOf, objectiveOf, planIn, planOfTables}
 use Rattle.format.proofs.Bools.{and-left, and-right}
 use Rattle.format.proofs.Bounds.{bounds-written, bounds-tested, lower-back, upper-back}
 use Rattle.format.proofs.Lawful.{termWithin, weight-small, LawfulRule, rule-parts, RoomyPlan, roomy-parts}
 use Rattle.format.proofs.Spells.{Spells, spells-at, spells-all, spells-left, spells-right, spells-map}
 use Rattle.format.proofs.Sections.{Sections, length-tableWords, length-termWords, spelt-sections, sections-table, sections-terms}
+use Rattle.format.proofs.Entries.{Entry, entry-here, entries-behind}
 use Rattle.format.proofs.WordBounds.{rules-lawful, terms-lawful, coefficient-small, table-below, term-below}
 use Rattle.format.proofs.Objective.{sparse, sparse-back, named, isSome}
 
@@ -35,28 +36,7 @@ terms-back g n i (t ∷ ts) s h =
     let m : suc (suc (2 * i)) ≡ 2 * suc i = omega arith in
     ((λ j. record { variable = s .0 j; weight = w j }), terms-back g n (suc i) ts (rw m at (s .1 .1)) (and-right _ _ h))
 
--- A rule's entry, and those behind it.
-pub record Entry (f : ℕ → ℕ) (i first : ℕ) (r : Rule) : Type 0 where
-  pub start : f (1_542 + 5 * i) ≡ first
-  pub count : f (1_543 + 5 * i) ≡ length (r .terms)
-  pub modeWord : f (1_544 + 5 * i) ≡ mode (r .lower) (r .upper)
-  pub lower : f (1_545 + 5 * i) ≡ unsigned (boundNumber (r .lower))
-  pub upper : f (1_546 + 5 * i) ≡ unsigned (boundNumber (r .upper))
-
-module _ (f : ℕ → ℕ) (i first : ℕ) (r : Rule) (rs : List Rule) (s : Spells f (1_542 + 5 * i) (ruleEntries first (r ∷ rs))) where
-  pub entry-here : Entry f i first r
-  unfolding Spells ruleEntries
-  entry-here =
-      let a : 1_543 + 5 * i ≡ suc (1_542 + 5 * i) = omega arith in
-      let b : 1_544 + 5 * i ≡ suc (suc (1_542 + 5 * i)) = omega arith in
-      let c : 1_545 + 5 * i ≡ suc (suc (suc (1_542 + 5 * i))) = omega arith in
-      let d : 1_546 + 5 * i ≡ suc (suc (suc (suc (1_542 + 5 * i)))) = omega arith in
-      record { start = s .0; count = rw a (s .1 .0); modeWord = rw b (s .1 .1 .0); lower = rw c (s .1 .1 .1 .0); upper = rw d (s .1 .1 .1 .1 .0) }
-
-  pub entries-behind : Spells f (1_542 + 5 * suc i) (ruleEntries (first + length (r .terms)) rs)
-  unfolding Spells ruleEntries
-  entries-behind = let e : 1_542 + 5 * suc i ≡ suc (suc (suc (suc (suc (1_542 + 5 * i))))) = omega arith in rw e (s .1 .1 .1 .1 .1)
-
+-- Rules.
 pub rule-back :
     (f g : ℕ → ℕ) (n i first : ℕ) (r : Rule) → Entry f i first r → LawfulRule n r → Spells (termOf g) first (r .terms) → ruleOf f g i ≡ r
 unfolding ruleOf

@@ -1,13 +1,13 @@
 -- Reading what was written gives the plan back: by induction over the fields, each of which is read as what it was written from.
 use Prim.Native.Nat.{ℕ, zero, suc, _+_, _*_, _-_, _/_, _%_, _≤_, _<_}
 use mathlib.Core.Path.{_≡_, refl, sym, ap, _∙_}
-use mathlib.Core.Bool.{Bool, true, false}
+use mathlib.Core.Bool.{true}
 use mathlib.Core.List.{List, [], _∷_, _++_, map, append-assoc, append-nil}
 use native.Mathlib.Omega.{arith}
 use lib.Dec.{T}
 use lib.ListN.{length, drop, length-append}
 use borrow.Author.Tests.{eq-eqb, le-leb, lt-leb, le-ltb}
-use Rattle.plpb.specs.Lists.{_and_, _or_, all, concat, sumBy}
+use Rattle.plpb.specs.Lists.{_and_, all, concat, sumBy}
 use Rattle.plpb.specs.Plan.{Term, Rule, Clause, Plan, risingAbove, rising}
 use Rattle.plpb.specs.Tallies.{rulesOf}
 use Rattle.words.specs.Words.{numAt, bytesOf}
@@ -22,44 +22,11 @@ use Rattle.format.proofs.Fields.{read-on, read-end}
 use Rattle.format.proofs.Places.{place-num, place-terms, place-tag, place-length, place-body, place-rest, place-whole, placed-clean}
 use Rattle.format.proofs.Sizes.{termsOf, length-write}
 use Rattle.format.proofs.WrittenRule.{length-terms, rule-tag, rule-read, rule-behind, rule-clean, rule-next}
+use Rattle.format.proofs.Order.{fieldsFrom, follows, may-rule, may-clause, follows-some, rules, behind}
 
--- The fields from some place on, and how many they are.
-unfoldable pub fieldsFrom : List Rule → List Clause → List ℕ
-fieldsFrom rs cs = concat (map ruleField rs) ++ (concat (map clauseFields cs) ++ field 5 [])
-
+-- How many fields they are.
 steps : List Rule → List Clause → ℕ
 steps rs cs = length rs + (length cs + length (concat cs))
-
--- Which rules may come next in a stage.
-unfoldable pub follows : Stage → List Rule → Bool
-follows atCount rs = false
-follows atObjective rs = false
-follows atClause [] = true
-follows atClause (r ∷ rs) = false
-follows atRule [] = false
-follows atRule (r ∷ rs) = true
-follows afterRule rs = true
-
-may-rule : (g : Stage) (r : Rule) (rs : List Rule) → follows g (r ∷ rs) ≡ true → mayStand g 4 ≡ true
-unfolding follows mayStand _or_
-may-rule atCount r rs h = h
-may-rule atObjective r rs h = h
-may-rule atClause r rs h = h
-may-rule atRule r rs h = refl
-may-rule afterRule r rs h = refl
-
-may-clause : (g : Stage) → follows g [] ≡ true → (mayStand g 3 ≡ true) × (mayStand g 5 ≡ true)
-unfolding follows mayStand _or_
-may-clause atCount h = (h, h)
-may-clause atObjective h = (h, h)
-may-clause atClause h = (refl, refl)
-may-clause atRule h = (h, h)
-may-clause afterRule h = (refl, refl)
-
-follows-some : (rs : List Rule) → 0 < length rs → follows atRule rs ≡ true
-unfolding follows
-follows-some [] h = absurd (omega arith)
-follows-some (r ∷ rs) h = refl
 
 no-terms : (n : ℕ) → termsLawful n [] ≡ true
 unfolding termsLawful rising risingAbove all _and_
