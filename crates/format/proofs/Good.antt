@@ -80,6 +80,10 @@ module _ (f : ℕ → ℕ) where
   unfolding zerosFrom
   zeros-fail i e h t = every-fail _ i e h (ne-eqb _ _ t)
 
+  pub zeros-split : (i a b : ℕ) → zerosFrom f i (a + b) ≡ (zerosFrom f i a and zerosFrom f (i + a) b)
+  unfolding zerosFrom
+  zeros-split i a b = every-split _ i a b
+
   pub zeros-at : (i k : ℕ) → zerosFrom f i k ≡ true → (j : ℕ) → i ≤ j → j < i + k → f j ≡ 0
   unfolding zerosFrom
   zeros-at i k h j l u = eqb-true _ _ (every-at _ i k h j l u)

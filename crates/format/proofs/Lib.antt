@@ -1,9 +1,12 @@
--- What holds of the plan file and the tables.
+-- What holds of the plan file and the tables. The theorems are in RoundTrip, Accepted, ReadBack and GoodTables; Good has the test of
+-- tables for code, Sound what code knows of tables that pass it.
+
+-- Tests, lists and what is lawful.
 pub mod Bools
 pub mod Lists
-pub mod Good
 pub mod Bounds
 pub mod Lawful
+-- The file: what is written is read back, and what is accepted was written.
 pub mod Fields
 pub mod Places
 pub mod WrittenRule
@@ -14,12 +17,16 @@ pub mod RoundTrip
 pub mod Peel
 pub mod Held
 pub mod Accepted
+pub mod Example
+-- The tables: the plan comes back from them.
+pub mod Good
 pub mod Spells
 pub mod Sections
 pub mod WordBounds
 pub mod Objective
 pub mod Entries
 pub mod ReadBack
+-- The test of tables: what it says, and that it means 22.
 pub mod Chains
 pub mod Sound
 pub mod GoodPlan

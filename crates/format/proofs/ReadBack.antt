@@ -1,6 +1,6 @@
 -- The plan read back from a plan's tables is that plan, where they have room for it: each entry says where its part is, and the parts follow one another.
 use Prim.Native.Nat.{ℕ, suc, _+_, _*_, _≤_}
-use mathlib.Core.Path.{_≡_, sym, _∙_}
+use mathlib.Core.Path.{_≡_, refl, sym, _∙_}
 use mathlib.Core.Bool.{true}
 use mathlib.Core.List.{List, [], _∷_, map}
 use native.Mathlib.Nat.{zero-add}
@@ -18,9 +18,10 @@ use Rattle.format.specs.File.{boundOf}
 use Rattle.format.specs.Writer.{boundNumber}
 use Rattle.format.specs.Tables.{coefficient, clauseEntries, ruleEntries, termEntries, allTerms, tableWords, termWords, tableSize, termSize, Holds, termOf, ruleOf, clauseOf, objectiveOf, planIn, planOfTables}
 use Rattle.format.proofs.Bools.{and-left, and-right}
+use Rattle.format.proofs.Lists.{length-spread}
 use Rattle.format.proofs.Bounds.{bounds-written, bounds-tested, lower-back, upper-back}
 use Rattle.format.proofs.Lawful.{termWithin, weight-small, LawfulRule, rule-parts, RoomyPlan, roomy-parts}
-use Rattle.format.proofs.Spells.{Spells, spells-at, spells-all, spells-left, spells-right, spells-map}
+use Rattle.format.proofs.Spells.{Spells, row-spells, spells-at, spells-all, spells-left, spells-right, spells-map}
 use Rattle.format.proofs.Sections.{Sections, length-tableWords, length-termWords, spelt-sections, sections-table, sections-terms}
 use Rattle.format.proofs.Entries.{Entry, entry-here, entries-behind}
 use Rattle.format.proofs.WordBounds.{rules-lawful, terms-lawful, coefficient-small, table-below, term-below}
@@ -106,6 +107,13 @@ module _ (p : Plan) (l : RoomyPlan p) (f g : ℕ → ℕ) (s : Sections p f g) w
   plan-back =
       let cs : map (clauseOf f g) (row 0 (f 1)) ≡ p .clauses = rw (s .clauseCount) (spells-map (clauseOf f g) 0 (p .clauses) clauses-spelt) in
       λ j. record { variables = s .variables j; objective = objective-back j; clauses = cs j }
+
+-- Bytes are the bytes of their words.
+pub words-row : (s : List ℕ) (k : ℕ) → Below 256 s → 4 * k ≤ length s → take (4 * k) s ≡ wordBytes (map (wordAt s) (row 0 k))
+words-row s k b h =
+    let n = length-spread (wordAt s) 0 k in
+    let spelt = spells-at (wordAt s) 0 (map (wordAt s) (row 0 k)) (row-spells (wordAt s) (wordAt s) 0 0 k (λ j l. refl)) 0 in
+    rw n at (words-determine (map (wordAt s) (row 0 k)) s b (omega arith) (λ j l. rw zero-add at (spelt j l)))
 
 -- The bytes of the tables.
 module _ (p : Plan) (l : RoomyPlan p) (tables terms : List ℕ) where
