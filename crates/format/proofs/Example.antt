@@ -8,7 +8,7 @@ use Rattle.plpb.specs.Lists.{_and_, _or_, all, isEmpty, concat, sumBy}
 use Rattle.plpb.specs.Plan.{Plan, absent, present, rising, risingAbove}
 use Rattle.plpb.specs.Tallies.{rulesOf}
 use Rattle.words.specs.Words.{numAt, bytesOf, signed, unsigned}
-use Rattle.format.specs.Limits.{lawful, termsLawful, ruleLawful, weightLawful, boundLawful, isPresent, termCount}
+use Rattle.format.specs.Limits.{lawful, termsLawful, ruleLawful, weightLawful, boundLawful, isPresent, termCount, within}
 use Rattle.format.specs.File.{refused, accepted, read, mapReading, readFrom, begin, fault, refuse, mayStand, tagAt, lengthAt, lengthLawful, pastLimits, wrongBounds, boundsLawful, fieldTerms, termsIn, termsAt, termAt, modeAt, lowerAt, upperAt, next, stageAfter, finish}
 use Rattle.format.specs.Writer.{write, field, termBytes, clauseFields, ruleField, mode, boundNumber}
 use Rattle.format.proofs.RoundTrip.{read-write}
@@ -37,7 +37,7 @@ file =
     ∷ 5 ∷ 0 ∷ 0 ∷ []
 
 pub example-lawful : T (lawful example)
-unfolding example lawful termsLawful ruleLawful weightLawful boundLawful isPresent rising risingAbove all isEmpty rulesOf concat termCount sumBy _and_ _or_
+unfolding example lawful within termsLawful ruleLawful weightLawful boundLawful isPresent rising risingAbove all isEmpty rulesOf concat termCount sumBy _and_ _or_
 example-lawful = tt
 
 pub example-written : write example ≡ file

@@ -165,21 +165,21 @@ objectiveGood f = everyFrom (coefficientGood f) 1 (f 0) and zerosFrom f (4 + f 0
 -- The clauses share out the rules in order; unused entries 0.
 unfoldable pub clausesGood : (ℕ → ℕ) → Bool
 clausesGood f =
-    chainFrom (λ c. f (516 + 2 * c)) (λ c. f (517 + 2 * c)) (f 2) 0 0 (f 1) and zerosFrom f (516 + 2 * f 1) (1_024 - 2 * f 1)
+    chainFrom (λ c. f (516 + 2 * c)) (λ c. f (517 + 2 * c)) (f 2) 0 0 (f 1) and zerosFrom f (516 + 2 * f 1) (1_026 - 2 * f 1)
 
 -- The rules share out the terms in order; unused entries 0.
 unfoldable pub rulesGood : (ℕ → ℕ) → Bool
 rulesGood f =
-    chainFrom (λ r. f (1_540 + 5 * r)) (λ r. f (1_541 + 5 * r)) (f 3) 0 0 (f 2) and zerosFrom f (1_540 + 5 * f 2) (5_120 - 5 * f 2)
+    chainFrom (λ r. f (1_542 + 5 * r)) (λ r. f (1_543 + 5 * r)) (f 3) 0 0 (f 2) and zerosFrom f (1_542 + 5 * f 2) (5_125 - 5 * f 2)
 
 -- A rule's mode, bounds and terms.
 unfoldable pub ruleGood : (ℕ → ℕ) → (ℕ → ℕ) → ℕ → Bool
 ruleGood f g r =
-    boundsLawful (f (1_542 + 5 * r)) (signed (f (1_543 + 5 * r))) (signed (f (1_544 + 5 * r)))
-    and termsFrom g (f 0) 0 (f (1_540 + 5 * r)) (f (1_541 + 5 * r))
+    boundsLawful (f (1_544 + 5 * r)) (signed (f (1_545 + 5 * r))) (signed (f (1_546 + 5 * r)))
+    and termsFrom g (f 0) 0 (f (1_542 + 5 * r)) (f (1_543 + 5 * r))
 
 -- Whether two tables, as words, are those of a lawful plan.
 unfoldable pub goodBy : (ℕ → ℕ) → (ℕ → ℕ) → Bool
 goodBy f g =
     countsGood f and objectiveGood f and clausesGood f and rulesGood f and everyFrom (ruleGood f g) 0 (f 2)
-    and zerosFrom g (2 * f 3) (12_000 - 2 * f 3)
+    and zerosFrom g (2 * f 3) (13_024 - 2 * f 3)

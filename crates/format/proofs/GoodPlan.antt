@@ -45,9 +45,9 @@ module _ (f g : ℕ → ℕ) (wf : (i : ℕ) → f i < wordLimit) (wg : (i : ℕ
   unfolding clauseOf
   length-clause c = length-spread (ruleOf f g) (f (516 + 2 * c)) (f (517 + 2 * c))
 
-  length-rule : (r : ℕ) → length (ruleOf f g r .terms) ≡ f (1_541 + 5 * r)
+  length-rule : (r : ℕ) → length (ruleOf f g r .terms) ≡ f (1_543 + 5 * r)
   unfolding ruleOf
-  length-rule r = length-spread (termOf g) (f (1_540 + 5 * r)) (f (1_541 + 5 * r))
+  length-rule r = length-spread (termOf g) (f (1_542 + 5 * r)) (f (1_543 + 5 * r))
 
   clauses-again :
       (at i k : ℕ) → at ≤ f 2 → chainFrom (λ c. f (516 + 2 * c)) (λ c. f (517 + 2 * c)) (f 2) at i k ≡ true
@@ -61,7 +61,7 @@ module _ (f g : ℕ → ℕ) (wf : (i : ℕ) → f i < wordLimit) (wg : (i : ℕ
       let n : length (clauseOf f g i) ≡ f (517 + 2 * i) = length-clause i in
       (l .start, (rw (a, n), rw (b, n) (clauses-again (at + f (517 + 2 * i)) (suc i) k (l .fits) (chain-rest _ _ (f 2) at i k c))))
 
-  entry-again : (i : ℕ) → i < f 2 → Entry f i (f (1_540 + 5 * i)) (ruleOf f g i)
+  entry-again : (i : ℕ) → i < f 2 → Entry f i (f (1_542 + 5 * i)) (ruleOf f g i)
   unfolding ruleOf
   entry-again i l =
       let m = bounds-meant _ _ _ (bounds-tested _ _ _ (rule-bounds f g s i l)) in
@@ -69,18 +69,18 @@ module _ (f g : ℕ → ℕ) (wf : (i : ℕ) → f i < wordLimit) (wg : (i : ℕ
         start = refl;
         count = sym (length-rule i);
         modeWord = sym (m .modeBack);
-        lower = sym (ap unsigned (m .lowerBack) ∙ unsigned-signed _ (wf (1_543 + 5 * i)));
-        upper = sym (ap unsigned (m .upperBack) ∙ unsigned-signed _ (wf (1_544 + 5 * i)));
+        lower = sym (ap unsigned (m .lowerBack) ∙ unsigned-signed _ (wf (1_545 + 5 * i)));
+        upper = sym (ap unsigned (m .upperBack) ∙ unsigned-signed _ (wf (1_546 + 5 * i)));
       }
 
   rules-again :
-      (at i k : ℕ) → at ≤ f 3 → i + k ≤ f 2 → chainFrom (λ r. f (1_540 + 5 * r)) (λ r. f (1_541 + 5 * r)) (f 3) at i k ≡ true
-      → Spells f (1_540 + 5 * i) (ruleEntries at (map (ruleOf f g) (row i k)))
+      (at i k : ℕ) → at ≤ f 3 → i + k ≤ f 2 → chainFrom (λ r. f (1_542 + 5 * r)) (λ r. f (1_543 + 5 * r)) (f 3) at i k ≡ true
+      → Spells f (1_542 + 5 * i) (ruleEntries at (map (ruleOf f g) (row i k)))
   unfolding row Spells ruleEntries
   rules-again at i zero r b c = tt
   rules-again at i (suc k) r b c =
       let l = chain-link _ _ (f 3) at i k r c in
-      let rest = rules-again (at + f (1_541 + 5 * i)) (suc i) k (l .fits) (omega arith) (chain-rest _ _ (f 3) at i k c) in
+      let rest = rules-again (at + f (1_543 + 5 * i)) (suc i) k (l .fits) (omega arith) (chain-rest _ _ (f 3) at i k c) in
       entry-join f i at (ruleOf f g i) (map (ruleOf f g) (row (suc i) k)) (rw (l .start) at (entry-again i (omega arith))) (rw (length-rule i) rest)
 
   -- All rules and all terms of the plan read back.

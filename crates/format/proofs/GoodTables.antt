@@ -12,7 +12,7 @@ use Rattle.format.specs.Limits.{lawful}
 use Rattle.format.specs.Writer.{write}
 use Rattle.format.specs.Tables.{tableSize, termSize, Holds, Loaded, planIn, planOfTables}
 use Rattle.format.proofs.Good.{goodBy}
-use Rattle.format.proofs.Lawful.{LawfulPlan, plan-parts, plan-whole}
+use Rattle.format.proofs.Lawful.{LawfulPlan, plan-parts, plan-whole, room-for}
 use Rattle.format.proofs.Sections.{Sections}
 use Rattle.format.proofs.Sound.{good-sound, sound-good}
 use Rattle.format.proofs.GoodPlan.{plan-sound, plan-sections}
@@ -37,7 +37,7 @@ module _ (tables terms : List ℕ) where
 
     pub good-holds : tableSize ≤ length tables → termSize ≤ length terms → Holds (planOfTables tables terms) tables terms
     unfolding planOfTables
-    good-holds nt ns = sections-holds _ lawful-here tables terms bt bs nt ns sections-here
+    good-holds nt ns = sections-holds _ (room-for _ lawful-here) tables terms bt bs nt ns sections-here
 
     pub good-loaded : tableSize ≤ length tables → termSize ≤ length terms → Loaded tables terms
     unfolding Loaded
@@ -51,4 +51,4 @@ module _ (tables terms : List ℕ) where
   loaded-good l =
       let (file, p, bytes, accepted, holds) = l in
       let q = plan-parts p (accepted-lawful file p accepted) in
-      sound-good _ _ (sections-sound p q (wordAt tables) (wordAt terms) (holds-sections p q tables terms holds))
+      sound-good _ _ (sections-sound p q (wordAt tables) (wordAt terms) (holds-sections p (room-for p q) tables terms holds))

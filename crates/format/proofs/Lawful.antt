@@ -11,7 +11,7 @@ use borrow.Author.Tests.{leb-true, ltb-true, le-leb}
 use Rattle.plpb.specs.Lists.{_and_, all, isEmpty}
 use Rattle.plpb.specs.Plan.{Term, Rule, Clause, Plan, risingAbove, rising}
 use Rattle.plpb.specs.Tallies.{rulesOf}
-use Rattle.format.specs.Limits.{maxVariables, maxClauses, maxRules, maxTerms, weightLawful, termsLawful, ruleLawful, termCount, lawful}
+use Rattle.format.specs.Limits.{maxVariables, weightLawful, termsLawful, ruleLawful, termCount, within, lawful, roomy}
 use Rattle.format.proofs.Bools.{and-left, and-right, and-join, T-true, true-T}
 use Rattle.format.proofs.Bounds.{bothLawful}
 
@@ -88,40 +88,79 @@ pub clause-whole : (n : ℕ) (c : Clause) → 0 < length c → all (ruleLawful n
 unfolding clauseLawful
 clause-whole n c s h = and-join _ _ (length-some c s) h
 
-pub record LawfulPlan (p : Plan) : Type 0 where
+pub record Within (clauseLimit ruleLimit termLimit : ℕ) (p : Plan) : Type 0 where
   pub low : 1 ≤ p .variables
   pub high : p .variables ≤ maxVariables
   pub objective : LawfulTerms (p .variables) (p .objective)
   pub clauses : all (clauseLawful (p .variables)) (p .clauses) ≡ true
-  pub clauseCount : length (p .clauses) ≤ maxClauses
-  pub ruleCount : length (rulesOf p) ≤ maxRules
-  pub terms : termCount p ≤ maxTerms
+  pub clauseCount : length (p .clauses) ≤ clauseLimit
+  pub ruleCount : length (rulesOf p) ≤ ruleLimit
+  pub terms : termCount p ≤ termLimit
+
+module _ (C R K : ℕ) (p : Plan) where
+  pub within-parts : T (within C R K p) → Within C R K p
+  unfolding within clauseLawful
+  within-parts t =
+      let a = T-true _ t in
+      let b = and-left _ _ a in
+      let c = and-left _ _ b in
+      let d = and-left _ _ c in
+      let e = and-left _ _ d in
+      record {
+        low = leb-true _ _ (and-left _ _ (and-left _ _ e));
+        high = leb-true _ _ (and-right _ _ (and-left _ _ e));
+        objective = terms-parts _ _ (and-right _ _ e);
+        clauses = and-right _ _ d;
+        clauseCount = leb-true _ _ (and-right _ _ c);
+        ruleCount = leb-true _ _ (and-right _ _ b);
+        terms = leb-true _ _ (and-right _ _ a);
+      }
+
+  pub within-whole : Within C R K p → T (within C R K p)
+  unfolding within clauseLawful
+  within-whole l =
+      true-T _
+      (and-join _ _
+      (and-join _ _
+      (and-join _ _
+      (and-join _ _
+      (and-join _ _ (and-join _ _ (le-leb _ _ (l .low)) (le-leb _ _ (l .high))) (terms-whole _ _ (l .objective)))
+      (l .clauses)) (le-leb _ _ (l .clauseCount))) (le-leb _ _ (l .ruleCount))) (le-leb _ _ (l .terms)))
+
+-- A plan that a file may hold, and one that the tables have room for.
+abbrev pub LawfulPlan : Plan → Type 0
+LawfulPlan p = Within 512 1_024 6_000 p
+
+abbrev pub RoomyPlan : Plan → Type 0
+RoomyPlan p = Within 513 1_025 6_512 p
 
 pub plan-parts : (p : Plan) → T (lawful p) → LawfulPlan p
-unfolding lawful clauseLawful
-plan-parts p t =
-    let a = T-true _ t in
-    let b = and-left _ _ a in
-    let c = and-left _ _ b in
-    let d = and-left _ _ c in
-    let e = and-left _ _ d in
-    record {
-      low = leb-true _ _ (and-left _ _ (and-left _ _ e));
-      high = leb-true _ _ (and-right _ _ (and-left _ _ e));
-      objective = terms-parts _ _ (and-right _ _ e);
-      clauses = and-right _ _ d;
-      clauseCount = leb-true _ _ (and-right _ _ c);
-      ruleCount = leb-true _ _ (and-right _ _ b);
-      terms = leb-true _ _ (and-right _ _ a);
-    }
+unfolding lawful
+plan-parts p t = within-parts 512 1_024 6_000 p t
 
 pub plan-whole : (p : Plan) → LawfulPlan p → T (lawful p)
-unfolding lawful clauseLawful
-plan-whole p l =
-    true-T _
-    (and-join _ _
-    (and-join _ _
-    (and-join _ _
-    (and-join _ _
-    (and-join _ _ (and-join _ _ (le-leb _ _ (l .low)) (le-leb _ _ (l .high))) (terms-whole _ _ (l .objective)))
-    (l .clauses)) (le-leb _ _ (l .clauseCount))) (le-leb _ _ (l .ruleCount))) (le-leb _ _ (l .terms)))
+unfolding lawful
+plan-whole p l = within-whole 512 1_024 6_000 p l
+
+pub roomy-parts : (p : Plan) → T (roomy p) → RoomyPlan p
+unfolding roomy
+roomy-parts p t = within-parts 513 1_025 6_512 p t
+
+pub roomy-whole : (p : Plan) → RoomyPlan p → T (roomy p)
+unfolding roomy
+roomy-whole p l = within-whole 513 1_025 6_512 p l
+
+pub room-for : (p : Plan) → LawfulPlan p → RoomyPlan p
+room-for p l =
+    record {
+      low = l .low;
+      high = l .high;
+      objective = l .objective;
+      clauses = l .clauses;
+      clauseCount = omega (arith, l .clauseCount);
+      ruleCount = omega (arith, l .ruleCount);
+      terms = omega (arith, l .terms);
+    }
+
+pub lawful-roomy : (p : Plan) → T (lawful p) → T (roomy p)
+lawful-roomy p t = roomy-whole p (room-for p (plan-parts p t))

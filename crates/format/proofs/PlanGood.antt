@@ -16,7 +16,7 @@ use Rattle.format.specs.Writer.{boundNumber}
 use Rattle.format.specs.Tables.{clauseEntries, ruleEntries, allTerms, termOf}
 use Rattle.format.proofs.Bools.{and-left, and-right, and-join}
 use Rattle.format.proofs.Bounds.{bounds-tested, bounds-written}
-use Rattle.format.proofs.Lawful.{LawfulRule, rule-parts, clauseLawful, clause-some, LawfulPlan}
+use Rattle.format.proofs.Lawful.{LawfulRule, rule-parts, clauseLawful, clause-some, LawfulPlan, room-for}
 use Rattle.format.proofs.Good.{everyFrom, every-at, chainFrom, ruleGood}
 use Rattle.format.proofs.Spells.{Spells, spells-left, spells-right, spells-map}
 use Rattle.format.proofs.Sections.{Sections, length-allTerms}
@@ -42,9 +42,9 @@ clause-chain f n e at i (c ∷ cs) s l m =
     (rw count (clause-chain f n e (at + length c) (suc i) cs (rw b at (s .1 .1)) (and-right _ _ l) (omega arith)))
 
 rule-chain :
-    (f : ℕ → ℕ) (n e at i : ℕ) (rs : List Rule) → Spells f (1_540 + 5 * i) (ruleEntries at rs) → all (ruleLawful n) rs ≡ true
+    (f : ℕ → ℕ) (n e at i : ℕ) (rs : List Rule) → Spells f (1_542 + 5 * i) (ruleEntries at rs) → all (ruleLawful n) rs ≡ true
     → at + length (concat (map (λ r. r .terms) rs)) ≡ e
-    → chainFrom (λ r. f (1_540 + 5 * r)) (λ r. f (1_541 + 5 * r)) e at i (length rs) ≡ true
+    → chainFrom (λ r. f (1_542 + 5 * r)) (λ r. f (1_543 + 5 * r)) e at i (length rs) ≡ true
 unfolding all concat
 rule-chain f n e at i [] s l m = chain-close _ _ e at i (omega arith)
 rule-chain f n e at i (r ∷ rs) s l m =
@@ -67,7 +67,7 @@ rule-good f g n i first r z e l s =
     (rw (z, e .start, e .count) (terms-good g n 0 first (length (r .terms)) (rw same (l .terms .rise)) (rw same (l .terms .within))))
 
 rules-good :
-    (f g : ℕ → ℕ) (n i first : ℕ) (rs : List Rule) → f 0 ≡ n → Spells f (1_540 + 5 * i) (ruleEntries first rs) → all (ruleLawful n) rs ≡ true
+    (f g : ℕ → ℕ) (n i first : ℕ) (rs : List Rule) → f 0 ≡ n → Spells f (1_542 + 5 * i) (ruleEntries first rs) → all (ruleLawful n) rs ≡ true
     → Spells (termOf g) first (concat (map (λ r. r .terms) rs)) → everyFrom (ruleGood f g) i (length rs) ≡ true
 unfolding everyFrom all concat
 rules-good f g n i first [] z s l t = refl
@@ -81,14 +81,14 @@ unfolding rulesOf allTerms unsigned
 sections-sound p l f g s =
     let n = p .variables in
     let rs = rules-lawful n (p .clauses) (l .clauses) in
-    let every = rules-good f g n 0 0 (rulesOf p) (s .variables) (s .ruleEntry) rs (terms-spelt p l f g s) in
+    let every = rules-good f g n 0 0 (rulesOf p) (s .variables) (s .ruleEntry) rs (terms-spelt p (room-for p l) f g s) in
     record {
       some = omega (arith, s .variables, l .low);
       variables = omega (arith, s .variables, l .high);
       clauses = omega (arith, s .clauseCount, l .clauseCount);
       rules = omega (arith, s .ruleCount, l .ruleCount);
       terms = omega (arith, s .terms, l .terms);
-      cost = λ x a b. rw (cost-back p l f g s x a (omega (arith, s .variables, l .high))) (coefficient-small n (p .objective) x (l .objective .within));
+      cost = λ x a b. rw (cost-back p (room-for p l) f g s x a (omega (arith, s .variables, l .high))) (coefficient-small n (p .objective) x (l .objective .within));
       costRest = λ x a b. s .objective x (omega arith) b ∙ rw (coefficient-above n x (p .objective) (l .objective .within) (omega (arith, s .variables)));
       clauseChain = rw (s .clauseCount) (clause-chain f n (f 2) 0 0 (p .clauses) (s .clauseEntry) (l .clauses) (zero-add _ ∙ sym (s .ruleCount)));
       clauseRest = s .clauseRest;

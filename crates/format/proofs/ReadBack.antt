@@ -1,4 +1,4 @@
--- The plan read back from a lawful plan's tables is that plan: each entry says where its part is, and the parts follow one another.
+-- The plan read back from a plan's tables is that plan, where they have room for it: each entry says where its part is, and the parts follow one another.
 use Prim.Native.Nat.{ℕ, suc, _+_, _*_, _≤_}
 use mathlib.Core.Path.{_≡_, refl, sym, _∙_}
 use mathlib.Core.Bool.{true}
@@ -13,14 +13,14 @@ use Rattle.plpb.specs.Plan.{Term, Rule, Clause, Plan, rising}
 use Rattle.plpb.specs.Tallies.{rulesOf}
 use Rattle.words.specs.Words.{wordBytes, wordAt, signed}
 use Rattle.words.proofs.Words.{Below, words-read, words-determine, signed-unsigned}
-use Rattle.format.specs.Limits.{ruleLawful, lawful}
+use Rattle.format.specs.Limits.{ruleLawful, roomy}
 use Rattle.format.specs.File.{boundOf}
 use Rattle.format.specs.Writer.{boundNumber}
 use Rattle.format.specs.Tables.{coefficient, clauseEntries, ruleEntries, termEntries, allTerms, tableWords, termWords, tableSize, termSize, Holds, termOf, ruleOf, clauseOf, objectiveOf, planIn, planOfTables}
 use Rattle.format.proofs.Bools.{and-left, and-right}
 use Rattle.format.proofs.Lists.{length-spread}
 use Rattle.format.proofs.Bounds.{bounds-written, bounds-tested, lower-back, upper-back}
-use Rattle.format.proofs.Lawful.{termWithin, weight-small, LawfulRule, rule-parts, LawfulPlan, plan-parts}
+use Rattle.format.proofs.Lawful.{termWithin, weight-small, LawfulRule, rule-parts, RoomyPlan, roomy-parts}
 use Rattle.format.proofs.Spells.{Spells, row-spells, spells-at, spells-all, spells-left, spells-right, spells-map}
 use Rattle.format.proofs.Sections.{Sections, length-tableWords, length-termWords, spelt-sections, sections-table, sections-terms}
 use Rattle.format.proofs.Entries.{Entry, entry-here, entries-behind}
@@ -45,13 +45,13 @@ rule-back f g n i first r e l s =
     let t = bounds-tested _ _ _ (bounds-written _ _ (l .both)) in
     let a = signed-unsigned (boundNumber (r .lower)) (omega (arith, t .lower)) in
     let b = signed-unsigned (boundNumber (r .upper)) (omega (arith, t .upper)) in
-    let lo : boundOf 2 (f (1_542 + 5 * i)) (signed (f (1_543 + 5 * i))) ≡ r .lower = rw (e .modeWord, e .lower, a) (lower-back _ _ (l .both)) in
-    let up : boundOf 1 (f (1_542 + 5 * i)) (signed (f (1_544 + 5 * i))) ≡ r .upper = rw (e .modeWord, e .upper, b) (upper-back _ _ (l .both)) in
-    let ts : map (termOf g) (row (f (1_540 + 5 * i)) (f (1_541 + 5 * i))) ≡ r .terms = rw (e .start, e .count) (spells-map (termOf g) first (r .terms) s) in
+    let lo : boundOf 2 (f (1_544 + 5 * i)) (signed (f (1_545 + 5 * i))) ≡ r .lower = rw (e .modeWord, e .lower, a) (lower-back _ _ (l .both)) in
+    let up : boundOf 1 (f (1_544 + 5 * i)) (signed (f (1_546 + 5 * i))) ≡ r .upper = rw (e .modeWord, e .upper, b) (upper-back _ _ (l .both)) in
+    let ts : map (termOf g) (row (f (1_542 + 5 * i)) (f (1_543 + 5 * i))) ≡ r .terms = rw (e .start, e .count) (spells-map (termOf g) first (r .terms) s) in
     λ j. record { lower = lo j; upper = up j; terms = ts j }
 
 pub rules-back :
-    (f g : ℕ → ℕ) (n i first : ℕ) (rs : List Rule) → Spells f (1_540 + 5 * i) (ruleEntries first rs) → all (ruleLawful n) rs ≡ true
+    (f g : ℕ → ℕ) (n i first : ℕ) (rs : List Rule) → Spells f (1_542 + 5 * i) (ruleEntries first rs) → all (ruleLawful n) rs ≡ true
     → Spells (termOf g) first (concat (map (λ r. r .terms) rs)) → Spells (ruleOf f g) i rs
 unfolding Spells all concat
 rules-back f g n i first [] s l t = tt
@@ -74,7 +74,7 @@ clauses-back f g i first (c ∷ cs) s t =
     )
 
 -- The whole plan.
-module _ (p : Plan) (l : LawfulPlan p) (f g : ℕ → ℕ) (s : Sections p f g) where
+module _ (p : Plan) (l : RoomyPlan p) (f g : ℕ → ℕ) (s : Sections p f g) where
   rulesHere : all (ruleLawful (p .variables)) (rulesOf p) ≡ true
   unfolding rulesOf
   rulesHere = rules-lawful (p .variables) (p .clauses) (l .clauses)
@@ -116,7 +116,7 @@ words-row s k b h =
     rw n at (words-determine (map (wordAt s) (row 0 k)) s b (omega arith) (λ j l. rw zero-add at (spelt j l)))
 
 -- The bytes of the tables.
-module _ (p : Plan) (l : LawfulPlan p) (tables terms : List ℕ) where
+module _ (p : Plan) (l : RoomyPlan p) (tables terms : List ℕ) where
   pub holds-sections : Holds p tables terms → Sections p (wordAt tables) (wordAt terms)
   unfolding Holds
   holds-sections h =
@@ -139,13 +139,13 @@ module _ (p : Plan) (l : LawfulPlan p) (tables terms : List ℕ) where
         rw (length-termWords p l) at (words-determine (termWords p) terms bs space (λ j u. rw zero-add at (b j u))),
       )
 
-pub read-back : (p : Plan) (tables terms : List ℕ) → T (lawful p) → Holds p tables terms → planOfTables tables terms ≡ p
+pub read-back : (p : Plan) (tables terms : List ℕ) → T (roomy p) → Holds p tables terms → planOfTables tables terms ≡ p
 unfolding planOfTables
 read-back p tables terms h e =
-    let l = plan-parts p h in
+    let l = roomy-parts p h in
     plan-back p l (wordAt tables) (wordAt terms) (holds-sections p l tables terms e)
 
--- Two lawful plans with the same tables are one.
+-- Two plans with the same tables are one.
 pub loading-injective :
-    (p q : Plan) (tables terms : List ℕ) → T (lawful p) → T (lawful q) → Holds p tables terms → Holds q tables terms → p ≡ q
+    (p q : Plan) (tables terms : List ℕ) → T (roomy p) → T (roomy q) → Holds p tables terms → Holds q tables terms → p ≡ q
 loading-injective p q tables terms hp hq ep eq = sym (read-back p tables terms hp ep) ∙ read-back q tables terms hq eq

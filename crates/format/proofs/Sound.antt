@@ -68,11 +68,11 @@ pub record Sound (f g : ℕ → ℕ) : Type 0 where
   pub cost : (x : ℕ) → 1 ≤ x → x ≤ f 0 → natAbs (signed (f (3 + x))) ≤ maxWeight
   pub costRest : (x : ℕ) → f 0 < x → x ≤ 512 → f (3 + x) ≡ 0
   pub clauseChain : chainFrom (λ c. f (516 + 2 * c)) (λ c. f (517 + 2 * c)) (f 2) 0 0 (f 1) ≡ true
-  pub clauseRest : zerosFrom f (516 + 2 * f 1) (1_024 - 2 * f 1) ≡ true
-  pub ruleChain : chainFrom (λ r. f (1_540 + 5 * r)) (λ r. f (1_541 + 5 * r)) (f 3) 0 0 (f 2) ≡ true
-  pub ruleRest : zerosFrom f (1_540 + 5 * f 2) (5_120 - 5 * f 2) ≡ true
+  pub clauseRest : zerosFrom f (516 + 2 * f 1) (1_026 - 2 * f 1) ≡ true
+  pub ruleChain : chainFrom (λ r. f (1_542 + 5 * r)) (λ r. f (1_543 + 5 * r)) (f 3) 0 0 (f 2) ≡ true
+  pub ruleRest : zerosFrom f (1_542 + 5 * f 2) (5_125 - 5 * f 2) ≡ true
   pub rule : (r : ℕ) → r < f 2 → ruleGood f g r ≡ true
-  pub termRest : zerosFrom g (2 * f 3) (12_000 - 2 * f 3) ≡ true
+  pub termRest : zerosFrom g (2 * f 3) (13_024 - 2 * f 3) ≡ true
 
 module _ (f g : ℕ → ℕ) where
   pub good-sound : goodBy f g ≡ true → Sound f g
@@ -124,37 +124,37 @@ module _ (f g : ℕ → ℕ) (s : Sound f g) where
   pub clause-within : (c : ℕ) → c < f 1 → (1 ≤ f (517 + 2 * c)) × (f (516 + 2 * c) + f (517 + 2 * c) ≤ f 2)
   clause-within c l = chain-at _ _ (f 2) 0 0 (f 1) (omega arith) (s .clauseChain) c (omega arith) (omega arith)
 
-  pub rule-within : (r : ℕ) → r < f 2 → (1 ≤ f (1_541 + 5 * r)) × (f (1_540 + 5 * r) + f (1_541 + 5 * r) ≤ f 3)
+  pub rule-within : (r : ℕ) → r < f 2 → (1 ≤ f (1_543 + 5 * r)) × (f (1_542 + 5 * r) + f (1_543 + 5 * r) ≤ f 3)
   rule-within r l = chain-at _ _ (f 3) 0 0 (f 2) (omega arith) (s .ruleChain) r (omega arith) (omega arith)
 
-  pub rule-bounds : (r : ℕ) → r < f 2 → boundsLawful (f (1_542 + 5 * r)) (signed (f (1_543 + 5 * r))) (signed (f (1_544 + 5 * r))) ≡ true
+  pub rule-bounds : (r : ℕ) → r < f 2 → boundsLawful (f (1_544 + 5 * r)) (signed (f (1_545 + 5 * r))) (signed (f (1_546 + 5 * r))) ≡ true
   unfolding ruleGood
   rule-bounds r l = and-left _ _ (s .rule r l)
 
-  pub rule-terms : (r : ℕ) → r < f 2 → termsFrom g (f 0) 0 (f (1_540 + 5 * r)) (f (1_541 + 5 * r)) ≡ true
+  pub rule-terms : (r : ℕ) → r < f 2 → termsFrom g (f 0) 0 (f (1_542 + 5 * r)) (f (1_543 + 5 * r)) ≡ true
   unfolding ruleGood
   rule-terms r l = and-right _ _ (s .rule r l)
 
   -- A term of a rule: its variable is one of the plan's, its weight is lawful.
   pub term-within :
-      (r : ℕ) → r < f 2 → (t : ℕ) → f (1_540 + 5 * r) ≤ t → t < f (1_540 + 5 * r) + f (1_541 + 5 * r)
+      (r : ℕ) → r < f 2 → (t : ℕ) → f (1_542 + 5 * r) ≤ t → t < f (1_542 + 5 * r) + f (1_543 + 5 * r)
       → (0 < g (2 * t)) × (g (2 * t) ≤ f 0) × (weightLawful (signed (g (2 * t + 1))) ≡ true)
-  term-within r l t a b = term-range g (f 0) 0 (f (1_540 + 5 * r)) (f (1_541 + 5 * r)) (rule-terms r l) t a b
+  term-within r l t a b = term-range g (f 0) 0 (f (1_542 + 5 * r)) (f (1_543 + 5 * r)) (rule-terms r l) t a b
 
   -- A rule that is read back is lawful, and has no more terms than there are variables.
   pub rule-sound : (r : ℕ) → r < f 2 → LawfulRule (f 0) (ruleOf f g r)
   unfolding ruleOf rising
   rule-sound r l =
-      let n = length-map (row (f (1_540 + 5 * r)) (f (1_541 + 5 * r))) (termOf g) ∙ length-row _ _ in
+      let n = length-map (row (f (1_542 + 5 * r)) (f (1_543 + 5 * r))) (termOf g) ∙ length-row _ _ in
       record {
         both = bounds-meant _ _ _ (bounds-tested _ _ _ (rule-bounds r l)) .lawful;
         some = omega (arith, n, rule-within r l);
         terms = record { rise = terms-rise g (f 0) 0 _ _ (rule-terms r l); within = terms-range g (f 0) 0 _ _ (rule-terms r l) };
       }
 
-  pub rule-short : (r : ℕ) → r < f 2 → f (1_541 + 5 * r) ≤ f 0
+  pub rule-short : (r : ℕ) → r < f 2 → f (1_543 + 5 * r) ≤ f 0
   unfolding rising ruleOf
   rule-short r l =
       let t = rule-sound r l .terms in
-      let n = length-map (row (f (1_540 + 5 * r)) (f (1_541 + 5 * r))) (termOf g) ∙ length-row _ _ in
+      let n = length-map (row (f (1_542 + 5 * r)) (f (1_543 + 5 * r))) (termOf g) ∙ length-row _ _ in
       omega (arith, n, terms-short (f 0) 0 (ruleOf f g r .terms) (t .rise) (t .within) (omega arith))

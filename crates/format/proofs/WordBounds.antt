@@ -18,7 +18,7 @@ use Rattle.format.specs.Tables.{coefficient, padTo, clauseEntries, ruleE
 use Rattle.format.proofs.Bools.{and-left, and-right}
 use Rattle.format.proofs.Lists.{all-append}
 use Rattle.format.proofs.Bounds.{bounds-written, bounds-tested}
-use Rattle.format.proofs.Lawful.{termWithin, weight-small, rule-parts, clauseLawful, clause-rules, LawfulPlan}
+use Rattle.format.proofs.Lawful.{termWithin, weight-small, rule-parts, clauseLawful, clause-rules, RoomyPlan}
 use Rattle.format.proofs.Sizes.{termsOf}
 
 abbrev pub wordLimit : ℕ
@@ -96,7 +96,7 @@ each-term n (t ∷ ts) s h =
     (omega arith, (unsigned-lt _ (omega arith), each-term n ts s (and-right _ _ h)))
 
 -- The two tables.
-module _ (p : Plan) (l : LawfulPlan p) where
+module _ (p : Plan) (l : RoomyPlan p) where
   rulesHere : all (ruleLawful (p .variables)) (rulesOf p) ≡ true
   unfolding rulesOf
   rulesHere = rules-lawful (p .variables) (p .clauses) (l .clauses)
@@ -105,12 +105,12 @@ module _ (p : Plan) (l : LawfulPlan p) where
   unfolding tableWords termCount rulesOf
   table-below =
       let a = map (λ x. unsigned (coefficient (p .objective) x)) (row 1 512) in
-      let b = padTo 1_024 (clauseEntries 0 (p .clauses)) in
-      let c = padTo 5_120 (ruleEntries 0 (rulesOf p)) in
+      let b = padTo 1_026 (clauseEntries 0 (p .clauses)) in
+      let c = padTo 5_125 (ruleEntries 0 (rulesOf p)) in
       let costs : Each a =
       each-map _ (row 1 512) (λ x. unsigned-lt (coefficient (p .objective) x) (omega (arith, coefficient-small (p .variables) (p .objective) x (l .objective .within)))) in
-      let clauses : Each b = each-padTo 1_024 _ (each-clause 0 (p .clauses) (omega (arith, l .ruleCount))) in
-      let rules : Each c = each-padTo 5_120 _ (each-rule (p .variables) 0 (rulesOf p) rulesHere (omega (arith, l .terms))) in
+      let clauses : Each b = each-padTo 1_026 _ (each-clause 0 (p .clauses) (omega (arith, l .ruleCount))) in
+      let rules : Each c = each-padTo 5_125 _ (each-rule (p .variables) 0 (rulesOf p) rulesHere (omega (arith, l .terms))) in
       each-below (tableWords p)
       (omega (arith, l .high), (omega (arith, l .clauseCount), (omega (arith, l .ruleCount), (omega (arith, l .terms), each-append a (b ++ c) costs (each-append b c clauses rules)))))
 
@@ -118,4 +118,4 @@ module _ (p : Plan) (l : LawfulPlan p) where
   unfolding termWords allTerms
   term-below =
       each-below (termWords p)
-      (each-padTo 12_000 (termEntries (allTerms p)) (each-term (p .variables) (allTerms p) (omega (arith, l .high)) (terms-lawful (p .variables) (rulesOf p) rulesHere)))
+      (each-padTo 13_024 (termEntries (allTerms p)) (each-term (p .variables) (allTerms p) (omega (arith, l .high)) (terms-lawful (p .variables) (rulesOf p) rulesHere)))

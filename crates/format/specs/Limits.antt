@@ -55,9 +55,17 @@ ruleLawful n r =
 unfoldable pub termCount : Plan → ℕ
 termCount p = sumBy (λ r. length (r .terms)) (rulesOf p)
 
--- A plan within every limit and range, each clause with "one or more" rules.
-unfoldable pub lawful : Plan → Bool
-lawful p =
+-- A plan within every range, each clause with "one or more" rules, and with so many clauses, rules and terms at most.
+unfoldable pub within : ℕ → ℕ → ℕ → Plan → Bool
+within clauses rules terms p =
     leb 1 (p .variables) and leb (p .variables) maxVariables and termsLawful (p .variables) (p .objective)
     and all (λ c. not (isEmpty c) and all (ruleLawful (p .variables)) c) (p .clauses)
-    and leb (length (p .clauses)) maxClauses and leb (length (rulesOf p)) maxRules and leb (termCount p) maxTerms
+    and leb (length (p .clauses)) clauses and leb (length (rulesOf p)) rules and leb (termCount p) terms
+
+-- A plan that a file may hold.
+unfoldable pub lawful : Plan → Bool
+lawful p = within maxClauses maxRules maxTerms p
+
+-- A plan that the tables have room for: "one clause and rule more, with its 512 terms".
+unfoldable pub roomy : Plan → Bool
+roomy p = within 513 1_025 6_512 p

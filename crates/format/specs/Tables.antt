@@ -2,17 +2,17 @@
 -- Assumes nothing.
 use Prim.Native.Nat.{ℕ, zero, suc, _+_, _*_, _-_}
 use mathlib.Core.Path.{_≡_}
-use mathlib.Core.Bool.{cond}
+use mathlib.Core.Bool.{Bool, true, false, cond}
 use mathlib.Core.List.{List, [], _∷_, _++_, map}
 use lib.Dec.{T, ltb, eqb}
 use lib.IntN.{ℤ, pos, natAbs}
 use lib.ListN.{length, replicate, take}
 use lib.Pow.{areBytes}
-use Rattle.plpb.specs.Lists.{concat, keep, row}
+use Rattle.plpb.specs.Lists.{_and_, concat, keep, row}
 use Rattle.plpb.specs.Plan.{Bound, absent, present, Term, Rule, Clause, Plan}
 use Rattle.plpb.specs.Tallies.{rulesOf}
 use Rattle.words.specs.Words.{wordBytes, wordAt, signed, unsigned}
-use Rattle.format.specs.Limits.{termCount}
+use Rattle.format.specs.Limits.{termCount, lawful}
 use Rattle.format.specs.File.{Reading, accepted, read, boundOf}
 use Rattle.format.specs.Writer.{mode, boundNumber}
 
@@ -50,7 +50,8 @@ termEntries (t ∷ ts) = t .variable ∷ unsigned (t .weight) ∷ termEntries ts
 unfoldable pub allTerms : Plan → List Term
 allTerms p = concat (map (λ r. r .terms) (rulesOf p))
 
--- The table of counts, objective (dense, by variable), clauses and rules: 4 + 512 + 2·512 + 5·1,024 words.
+-- The table of counts, objective (dense, by variable), clauses and rules: 4 + 512 + 2·513 + 5·1,025 words. There is room for one clause and
+-- rule more than a plan may have, so that the tables of a search, which adds one, are laid out alike.
 unfoldable pub tableWords : Plan → List ℕ
 tableWords p =
     p .variables
@@ -58,17 +59,17 @@ tableWords p =
     ∷ length (rulesOf p)
     ∷ termCount p
     ∷ (map (λ x. unsigned (coefficient (p .objective) x)) (row 1 512)
-    ++ (padTo 1_024 (clauseEntries 0 (p .clauses)) ++ padTo 5_120 (ruleEntries 0 (rulesOf p))))
+    ++ (padTo 1_026 (clauseEntries 0 (p .clauses)) ++ padTo 5_125 (ruleEntries 0 (rulesOf p))))
 
--- The term table: 2·6,000 words.
+-- The term table: 2·6,512 words, with room for the terms of one rule more.
 unfoldable pub termWords : Plan → List ℕ
-termWords p = padTo 12_000 (termEntries (allTerms p))
+termWords p = padTo 13_024 (termEntries (allTerms p))
 
 abbrev pub tableSize : ℕ
-tableSize = 26_640
+tableSize = 26_668
 
 abbrev pub termSize : ℕ
-termSize = 48_000
+termSize = 52_096
 
 -- The two tables hold the words of a plan; what stands past the full limits does not matter.
 unfoldable pub Holds : Plan → List ℕ → List ℕ → Type 0
@@ -85,9 +86,9 @@ termOf g i = record { variable = g (2 * i); weight = signed (g (2 * i + 1)) }
 unfoldable pub ruleOf : (ℕ → ℕ) → (ℕ → ℕ) → ℕ → Rule
 ruleOf f g r =
     record {
-      lower = boundOf 2 (f (1_542 + 5 * r)) (signed (f (1_543 + 5 * r)));
-      upper = boundOf 1 (f (1_542 + 5 * r)) (signed (f (1_544 + 5 * r)));
-      terms = map (termOf g) (row (f (1_540 + 5 * r)) (f (1_541 + 5 * r)));
+      lower = boundOf 2 (f (1_544 + 5 * r)) (signed (f (1_545 + 5 * r)));
+      upper = boundOf 1 (f (1_544 + 5 * r)) (signed (f (1_546 + 5 * r)));
+      terms = map (termOf g) (row (f (1_542 + 5 * r)) (f (1_543 + 5 * r)));
     }
 
 unfoldable pub clauseOf : (ℕ → ℕ) → (ℕ → ℕ) → ℕ → Clause
@@ -103,3 +104,16 @@ planIn f g = record { variables = f 0; objective = objectiveOf f; clauses = map 
 -- The plan that two tables hold.
 unfoldable pub planOfTables : List ℕ → List ℕ → Plan
 planOfTables tables terms = planIn (wordAt tables) (wordAt terms)
+
+unfoldable pub sameBytes : List ℕ → List ℕ → Bool
+sameBytes [] [] = true
+sameBytes [] (y ∷ ys) = false
+sameBytes (x ∷ xs) [] = false
+sameBytes (x ∷ xs) (y ∷ ys) = eqb x y and sameBytes xs ys
+
+-- Whether two tables are those that an accepted loading leaves: the plan read back is lawful, and they hold its words.
+unfoldable pub isLoaded : List ℕ → List ℕ → Bool
+isLoaded tables terms =
+    lawful (planOfTables tables terms)
+    and sameBytes (take tableSize tables) (wordBytes (tableWords (planOfTables tables terms)))
+    and sameBytes (take termSize terms) (wordBytes (termWords (planOfTables tables terms)))

@@ -11,4 +11,5 @@ pub mod Numbers
 pub mod Walk
 pub mod Choice
 pub mod Search
+pub mod Sound
 pub mod Stars

@@ -1,0 +1,5 @@
+pub mod Difference
+pub mod Examples
+pub mod Joining
+pub mod Signed
+pub mod Words

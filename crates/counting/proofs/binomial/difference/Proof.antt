@@ -1,0 +1,45 @@
+-- `difference` meets its contract: it is at least the entry before it in the row above, and exact where that one is.
+-- Assumes nothing.
+use borrow.Author.Needs.{needs}
+use native.Mathlib.Omega.{arith}
+use Rattle.counting.proofs.Difference.{none-taken, none-added, too-few, at-cap, below-cap}
+use Rattle.counting.proofs.binomial.difference.Statement.{statement}
+use Rattle.counting.proofs.binomial.difference.Tie as tie
+
+returns : tie.Need-returns
+returns c = none-taken _ _ _ (c .if1 .taken)
+
+returns-2 : tie.Need-returns-2
+returns-2 c = none-added _ _ _ (c .if2 .taken)
+
+returns-3 : tie.Need-returns-3
+returns-3 c = too-few _ _ _ (c .if3 .taken)
+
+returns-4 : tie.Need-returns-4
+returns-4 c = at-cap _ _ _ _ (omega arith) (omega arith) (c .before .before .before .binomial .ensures) (c .if4 .taken)
+
+exact-difference-requires : tie.Need-exact-difference-requires
+exact-difference-requires c κs = (
+  search needs,
+  search needs,
+  search needs,
+  search needs,
+  below-cap _ _ (c .before .before .before .before .binomial .ensures) (search needs),
+)
+
+pub difference-spec : {M : Type 1} → statement M
+difference-spec =
+    tie.close
+    (tie.spec
+    returns
+    returns-2
+    (λ c. search needs)
+    returns-3
+    (λ c. search needs)
+    (λ c. search needs)
+    (λ c. search needs)
+    (λ c κs. search needs)
+    returns-4
+    (λ c. search needs)
+    exact-difference-requires
+    (λ c. search needs))

@@ -1,0 +1,87 @@
+// Binomials as capped counts: of m over k, and the difference of two with the same lower number.
+ghost use mathlib.Core.Path.{_≡_};
+ghost use Prim.Native.Nat.{_+_, _-_, _≤_, _<_};
+ghost use Rattle.plpb.specs.Count.{capped};
+ghost use Rattle.plpb.specs.Equations.{binom};
+ghost use Rattle.counting.specs.Count.{number};
+use crate::count::Count;
+
+// m over k for k up to the middle, where the entries only rise: once past the cap, past it to the end.
+fn lower_half(m: u64, k: u64) -> Count
+    requires { ⌜ (m < 4294967296) × (k + k ≤ m) ⌝ }
+    ensures { λ r. ⌜ number r ≡ capped (binom m k) ⌝ }
+{
+    if k == 0 {
+        return Count::ONE;
+    }
+    let mut entry = m;
+    let mut i = 1;
+    while i < k {
+        entry = entry * (m - i) / (i + 1);
+        if (Count::CAP.value as u64) < entry {
+            return Count::CAP;
+        }
+        i += 1;
+    }
+    Count {
+        value: entry as u32,
+    }
+}
+
+// m over k. A row reads the same from both ends, so the nearer one is counted from.
+pub fn binomial(m: u64, k: u64) -> Count
+    requires { ⌜ m < 4294967296 ⌝ }
+    ensures { λ r. ⌜ number r ≡ capped (binom m k) ⌝ }
+{
+    if m < k {
+        return Count::ZERO;
+    }
+    if m - k < k {
+        lower_half(m, m - k)
+    } else {
+        lower_half(m, k)
+    }
+}
+
+// m over k from the entry before it in the row above, m − 1 over k − 1.
+fn absorbed(before: u64, m: u64, k: u64) -> u64
+    requires { ⌜ (m < 4294967296) × (0 < m) × (0 < k) × (before < 4294967296) × (before ≡ binom (m - 1) (k - 1)) ⌝ }
+    ensures { λ r. ⌜ r ≡ binom m k ⌝ }
+{
+    before * m / k
+}
+
+// The difference below, where it gains less than the cap in its last row: then the entries behind both numbers are exact.
+fn exact_difference(gain: u64, m: u64, w: u64, k: u64) -> Count
+    requires { ⌜ (m + w < 4294967296) × (0 < w) × (0 < k) × (gain < 4294967295) × (gain ≡ binom (m + w - 1) (k - 1)) ⌝ }
+    ensures { λ r. ⌜ number r ≡ capped (binom (m + w) k - binom m k) ⌝ }
+{
+    let above = absorbed(gain, m + w, k);
+    if m < k {
+        return Count::of(above);
+    }
+    let before = binomial(m - 1, k - 1);
+    Count::of(above - absorbed(before.value as u64, m, k))
+}
+
+// m + w over k less m over k. Both may be past the cap where their difference is not, so neither is capped first:
+// the difference is at least m + w − 1 over k − 1, and both come exactly from such entries while these are below the cap.
+pub fn difference(m: u64, w: u64, k: u64) -> Count
+    requires { ⌜ m + w < 4294967296 ⌝ }
+    ensures { λ r. ⌜ number r ≡ capped (binom (m + w) k - binom m k) ⌝ }
+{
+    if k == 0 {
+        return Count::ZERO;
+    }
+    if w == 0 {
+        return Count::ZERO;
+    }
+    if m + w < k {
+        return Count::ZERO;
+    }
+    let gain = binomial(m + w - 1, k - 1);
+    if gain.value == Count::CAP.value {
+        return Count::CAP;
+    }
+    exact_difference(gain.value as u64, m, w, k)
+}

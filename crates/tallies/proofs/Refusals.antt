@@ -1,0 +1,132 @@
+-- A call is not refused exactly where each of its tests passes; a counts call and a refused flip leave all as it was, by definition.
+use Prim.Native.Nat.{ℕ, zero, suc, _≤_}
+use native.Mathlib.Nat.{le-trans, le-of-suc-le-suc}
+use native.Mathlib.Omega.{arith}
+use mathlib.Core.Path.{_≡_, refl, _∙_}
+use mathlib.Core.Bool.{Bool, true, false, not, cond}
+use lib.Dec.{T, ltb, eqb, ltb→lt, nltb→le, eqb·suc-zero}
+use lib.ListN.{length, take}
+use Rattle.plpb.specs.Lists.{_and_}
+use Rattle.plpb.specs.Plan.{Plan, isVariable}
+use Rattle.plpb.specs.Book.{flipCall, countsCall}
+use Rattle.plpb.proofs.Lists.{and-left, and-right, is-true, not-not, not-or}
+use Rattle.format.specs.File.{refuse}
+use Rattle.format.specs.Limits.{lawful}
+use Rattle.format.specs.Tables.{isLoaded, sameBytes}
+use Rattle.format.proofs.Lawful.{plan-parts}
+use Rattle.tallies.specs.Layout.{assignmentSize, tallySize, areBits}
+use Rattle.tallies.specs.Calls.{Lent, plan, tooSmall, freshBytes, openRefusal, callRefusal, flipAssignment, flipTallies}
+use Rattle.tallies.specs.Demand.{leaves}
+use Rattle.tallies.proofs.TallyBytes.{Fits, lawful-fits, same-self, same-bytes}
+
+-- ---- what is not refused
+
+refuse-none : (c : Bool) (k m : ℕ) → refuse c (suc k) m ≡ 0 → T (not c) × (m ≡ 0)
+unfolding refuse
+refuse-none true k m e = omega arith
+refuse-none false k m e = (tt, e)
+
+refuse-pass : (c : Bool) (k m : ℕ) → T (not c) → refuse c k m ≡ m
+unfolding refuse
+refuse-pass true k m t = absurd t
+refuse-pass false k m t = refl
+
+refuse-unless : (c : Bool) (k : ℕ) → refuse (not c) k 0 ≡ cond c 0 k
+unfolding refuse
+refuse-unless true k = refl
+refuse-unless false k = refl
+
+pub either : {A : Type 0} (c : Bool) → (c ≡ true → A) → (c ≡ false → A) → A
+either true f g = f refl
+either false f g = g refl
+
+pub variable-range : (p : Plan) (x : ℕ) → isVariable p x ≡ true → (1 ≤ x) × (x ≤ p .variables)
+unfolding isVariable
+variable-range p x e =
+    let t : T (ltb 0 x and ltb x (suc (p .variables))) = rw e tt in
+    (ltb→lt 0 x (and-left _ _ t), le-of-suc-le-suc (ltb→lt x (suc (p .variables)) (and-right _ _ t)))
+
+-- What an accepted opening has tested.
+pub record Opens (l : Lent) : Type 0 where
+  pub sizes : T (not (tooSmall l))
+  pub loaded : T (isLoaded (l .tables) (l .terms))
+  pub bits : T (areBits (plan l .variables) (l .assignment))
+
+pub opens : (l : Lent) → openRefusal l ≡ 0 → Opens l
+unfolding openRefusal
+opens l e =
+    let s = refuse-none (tooSmall l) 20 _ e in
+    let t = refuse-none (not (isLoaded (l .tables) (l .terms))) 21 _ (s .1) in
+    let u = refuse-none (not (areBits (plan l .variables) (l .assignment))) 23 _ (t .1) in
+    record {
+      sizes = s .0;
+      loaded = rw not-not at (t .0);
+      bits = rw not-not at (u .0);
+    }
+
+pub opens-accepted : (l : Lent) → Opens l → openRefusal l ≡ 0
+unfolding openRefusal
+opens-accepted l o =
+    refuse-pass (tooSmall l) 21 _ (o .sizes)
+    ∙ refuse-pass (not (isLoaded (l .tables) (l .terms))) 22 _ (rw not-not (o .loaded))
+    ∙ refuse-pass (not (areBits (plan l .variables) (l .assignment))) 24 _ (rw not-not (o .bits))
+
+stop-first : (k m : ℕ) → cond (eqb k 0) m k ≡ 0 → (k ≡ 0) × (m ≡ 0)
+stop-first zero m e = (refl, e)
+stop-first (suc k) m e = let z : suc k ≡ 0 = rw eqb·suc-zero at e in omega arith
+
+-- What an accepted call has tested.
+pub record Takes (l : Lent) (x : ℕ) : Type 0 where
+  pub opening : Opens l
+  pub fresh : take tallySize (l .tallies) ≡ freshBytes l
+  pub variable : isVariable (plan l) x ≡ true
+
+pub takes : (l : Lent) (x : ℕ) → callRefusal l x ≡ 0 → Takes l x
+unfolding callRefusal
+takes l x e =
+    let o = stop-first (openRefusal l) _ e in
+    let s = refuse-none (not (sameBytes (take tallySize (l .tallies)) (freshBytes l))) 24 _ (o .1) in
+    let t = refuse-none (not (isVariable (plan l) x)) 22 0 (s .1) in
+    record {
+      opening = opens l (o .0);
+      fresh = same-bytes (take tallySize (l .tallies)) (freshBytes l) (rw not-not at (s .0));
+      variable = is-true (isVariable (plan l) x) (rw not-not at (t .0));
+    }
+
+-- With an accepted opening and its tallies only the variable can be at fault.
+pub only-variable : (l : Lent) (x : ℕ) → Opens l → take tallySize (l .tallies) ≡ freshBytes l → callRefusal l x ≡ cond (isVariable (plan l) x) 0 23
+unfolding callRefusal
+only-variable l x o e =
+    rw (opens-accepted l o, e)
+    (refuse-pass (not (sameBytes (freshBytes l) (freshBytes l))) 25 _ (rw not-not (same-self (freshBytes l)))
+    ∙ refuse-unless (isVariable (plan l) x) 23)
+
+-- ---- what is left as it was
+
+pub counts-leaves : (l : Lent) (x : ℕ) → leaves l (countsCall x) ≡ l
+unfolding leaves
+counts-leaves l x = refl
+
+pub refused-leaves : (l : Lent) (x : ℕ) {k : ℕ} → callRefusal l x ≡ suc k → leaves l (flipCall x) ≡ l
+unfolding leaves flipAssignment flipTallies
+refused-leaves l x {k} e = rw (e, eqb·suc-zero k) refl
+
+-- ---- sizes
+
+module _ (l : Lent) (o : Opens l) where
+  pub plan-lawful : T (lawful (plan l))
+  unfolding plan isLoaded
+  plan-lawful = and-left _ _ (and-left _ _ (o .loaded))
+
+  pub plan-fits : Fits (plan l)
+  plan-fits = lawful-fits (plan l) plan-lawful
+
+  pub assignment-room : plan l .variables ≤ length (l .assignment)
+  unfolding tooSmall
+  assignment-room =
+      le-trans (plan-parts (plan l) plan-lawful .high)
+      (nltb→le (length (l .assignment)) assignmentSize (and-right _ _ (rw not-or at (and-left _ _ (rw not-or at (o .sizes))))))
+
+  pub tallies-room : tallySize ≤ length (l .tallies)
+  unfolding tooSmall
+  tallies-room = nltb→le (length (l .tallies)) tallySize (and-right _ _ (rw not-or at (o .sizes)))

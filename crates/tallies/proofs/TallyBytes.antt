@@ -1,0 +1,86 @@
+-- The bytes of a fresh count fill the tallies' full limits, because each section is padded to its size and a word is four bytes.
+use Prim.Native.Nat.{ℕ, zero, suc, _*_, _-_, _≤_}
+use native.Mathlib.Nat.{le-trans}
+use mathlib.Core.Path.{_≡_, refl, ap, ap₂, _∙_}
+use mathlib.Core.List.{List, [], _∷_, _++_}
+use lib.Dec.{T, eqb, eqb→eq, eqb-refl, lit≤}
+use lib.ListN.{length, getD, take, drop, replicate, length-append, length-map}
+use lib.Seq.{take-at, drop-at}
+use Rattle.plpb.specs.Plan.{Plan, Assignment}
+use Rattle.plpb.specs.Tallies.{Tallies, rulesOf, freshCount}
+use Rattle.plpb.proofs.Lists.{and-left, and-right, and-both}
+use Rattle.words.proofs.Words.{length-wordBytes}
+use Rattle.format.specs.Tables.{padTo, sameBytes}
+use Rattle.format.specs.Limits.{lawful}
+use Rattle.format.proofs.Lawful.{plan-parts}
+use Rattle.format.proofs.Spells.{length-padTo}
+use Rattle.tallies.specs.Layout.{tallySize, tallyWords, tallyBytes}
+
+-- ---- sizes
+
+-- What is padded with 0 is the same everywhere.
+zeros : (m i : ℕ) → _≡_ {A = ℕ} (getD (replicate m 0) i 0) 0
+zeros zero i = refl
+zeros (suc m) zero = refl
+zeros (suc m) (suc i) = zeros m i
+
+pub padded : (ws : List ℕ) (k i : ℕ) → getD (padTo k ws) i 0 ≡ getD ws i 0
+unfolding padTo
+padded ws k i = more ws (k - length ws) i
+  where
+    more : (us : List ℕ) (m j : ℕ) → getD (us ++ replicate m 0) j 0 ≡ getD us j 0
+    more [] m j = zeros m j
+    more (u ∷ us) m zero = refl
+    more (u ∷ us) m (suc j) = more us m j
+
+pub length-tallyWords : (t : Tallies) → length (t .trueWeights) ≤ 1_025 → length (t .rulesHolding) ≤ 513 → length (tallyWords t) ≡ 1_539
+unfolding tallyWords
+length-tallyWords t h k =
+    simp (length-append, length-padTo 1_025 (t .trueWeights) h, length-padTo 513 (t .rulesHolding) k)
+
+-- A plan whose rules and clauses the tallies have room for.
+pub record Fits (p : Plan) : Type 0 where
+  pub rules : length (rulesOf p) ≤ 1_025
+  pub clauses : length (p .clauses) ≤ 513
+
+pub lawful-fits : (p : Plan) → T (lawful p) → Fits p
+lawful-fits p t =
+    let q = plan-parts p t in
+    record { rules = le-trans (q .ruleCount) (lit≤ tt); clauses = le-trans (q .clauseCount) (lit≤ tt) }
+
+module _ (p : Plan) (fits : Fits p) (a : Assignment) where
+  pub fresh-rules : length (freshCount p a .trueWeights) ≤ 1_025
+  unfolding freshCount
+  fresh-rules = simp length-map (fits .rules)
+
+  pub fresh-clauses : length (freshCount p a .rulesHolding) ≤ 513
+  unfolding freshCount
+  fresh-clauses = simp length-map (fits .clauses)
+
+  pub length-fresh-words : length (tallyWords (freshCount p a)) ≡ 1_539
+  length-fresh-words = length-tallyWords (freshCount p a) fresh-rules fresh-clauses
+
+  pub length-fresh : length (tallyBytes (freshCount p a)) ≡ tallySize
+  unfolding tallyBytes
+  length-fresh = length-wordBytes (tallyWords (freshCount p a)) ∙ ap (λ k. 4 * k) length-fresh-words
+
+  pub take-fresh : (rest : List ℕ) → take tallySize (tallyBytes (freshCount p a) ++ rest) ≡ tallyBytes (freshCount p a)
+  take-fresh rest = take-at (tallyBytes (freshCount p a)) rest tallySize length-fresh
+
+  pub drop-fresh : (rest : List ℕ) → drop tallySize (tallyBytes (freshCount p a) ++ rest) ≡ rest
+  drop-fresh rest = drop-at (tallyBytes (freshCount p a)) rest tallySize length-fresh
+
+-- ---- the test of equal bytes
+
+pub same-self : (xs : List ℕ) → T (sameBytes xs xs)
+unfolding sameBytes
+same-self [] = tt
+same-self (x ∷ xs) = and-both (eqb x x) (sameBytes xs xs) (eqb-refl x) (same-self xs)
+
+pub same-bytes : (xs ys : List ℕ) → T (sameBytes xs ys) → xs ≡ ys
+unfolding sameBytes
+same-bytes [] [] t = refl
+same-bytes [] (y ∷ ys) t = absurd t
+same-bytes (x ∷ xs) [] t = absurd t
+same-bytes (x ∷ xs) (y ∷ ys) t =
+    ap₂ _∷_ (eqb→eq x y (and-left (eqb x y) (sameBytes xs ys) t)) (same-bytes xs ys (and-right (eqb x y) (sameBytes xs ys) t))

@@ -1,0 +1,73 @@
+-- Opening, flip and counts as definitions on what is lent: the refusal, the answer and the bytes left (document 01, "Who can cause which refusal" and "Tallies").
+-- Assumes nothing.
+use Prim.Native.Nat.{ℕ, zero, suc, _-_}
+use mathlib.Core.Bool.{Bool, not, cond}
+use mathlib.Core.List.{List, [], _∷_, _++_}
+use lib.Dec.{ltb, eqb}
+use lib.ListN.{length, getD, set, take, drop}
+use Rattle.plpb.specs.Lists.{_or_, _and_}
+use Rattle.plpb.specs.Plan.{Plan, isVariable}
+use Rattle.plpb.specs.Count.{cappedBreak, cappedMake}
+use Rattle.plpb.specs.Tallies.{freshCount}
+use Rattle.format.specs.File.{refuse}
+use Rattle.format.specs.Tables.{tableSize, termSize, planOfTables, isLoaded, sameBytes}
+use Rattle.tallies.specs.Layout.{assignmentSize, tallySize, bitsOf, areBits, tallyBytes}
+
+-- What the host program lends: the two tables, the assignment and the tallies.
+pub record Lent : Type 0 where
+  pub tables : List ℕ
+  pub terms : List ℕ
+  pub assignment : List ℕ
+  pub tallies : List ℕ
+
+unfoldable pub plan : Lent → Plan
+plan l = planOfTables (l .tables) (l .terms)
+
+-- "21: a buffer or table smaller than the full limits need"
+unfoldable pub tooSmall : Lent → Bool
+tooSmall l =
+    ltb (length (l .tables)) tableSize or ltb (length (l .terms)) termSize or ltb (length (l .assignment)) assignmentSize
+    or ltb (length (l .tallies)) tallySize
+
+-- The tallies that a fresh count gives for what is lent as assignment.
+unfoldable pub freshBytes : Lent → List ℕ
+freshBytes l = tallyBytes (freshCount (plan l) (bitsOf (plan l .variables) (l .assignment)))
+
+-- "Opening (tallies from an assignment): 21, 22, 24."
+unfoldable pub openRefusal : Lent → ℕ
+openRefusal l =
+    refuse (tooSmall l) 21 (refuse (not (isLoaded (l .tables) (l .terms))) 22 (refuse (not (areBits (plan l .variables) (l .assignment))) 24 0))
+
+-- "Opening writes them, and 0 in unused entries." "Opening writes tallies alone"
+unfoldable pub openTallies : Lent → List ℕ
+openTallies l = cond (eqb (openRefusal l) 0) (freshBytes l ++ drop tallySize (l .tallies)) (l .tallies)
+
+-- "Flip and counts: 21, 22, 24, 25, 23." "25: tallies other than opening would write for this assignment, unused entries too."
+unfoldable pub callRefusal : Lent → ℕ → ℕ
+callRefusal l x =
+    cond (eqb (openRefusal l) 0)
+    (refuse (not (sameBytes (take tallySize (l .tallies)) (freshBytes l))) 25 (refuse (not (isVariable (plan l) x)) 23 0))
+    (openRefusal l)
+
+-- "An accepted flip turns over one assignment byte"
+unfoldable pub turned : List ℕ → ℕ → List ℕ
+turned bytes zero = bytes
+turned bytes (suc i) = set bytes i (1 - getD bytes i 0)
+
+unfoldable pub flipAssignment : Lent → ℕ → List ℕ
+flipAssignment l x = cond (eqb (callRefusal l x) 0) (turned (l .assignment) x) (l .assignment)
+
+-- .. and leaves the fresh count of what is then the assignment.
+unfoldable pub flipTallies : Lent → ℕ → List ℕ
+flipTallies l x =
+    cond (eqb (callRefusal l x) 0)
+    (freshBytes (record { tables = l .tables; terms = l .terms; assignment = turned (l .assignment) x; tallies = l .tallies })
+    ++ drop tallySize (l .tallies))
+    (l .tallies)
+
+-- The capped numbers of expansion clauses that the variable's flip would spoil and mend; 0 with a refusal.
+unfoldable pub countsBreak : Lent → ℕ → ℕ
+countsBreak l x = cond (eqb (callRefusal l x) 0) (cappedBreak (plan l) (bitsOf (plan l .variables) (l .assignment)) x) 0
+
+unfoldable pub countsMake : Lent → ℕ → ℕ
+countsMake l x = cond (eqb (callRefusal l x) 0) (cappedMake (plan l) (bitsOf (plan l .variables) (l .assignment)) x) 0

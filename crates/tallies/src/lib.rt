@@ -1,0 +1,1 @@
+// Opening, flip and counts.

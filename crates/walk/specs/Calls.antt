@@ -1,0 +1,81 @@
+-- The search as a definition on what is lent: the refusal, the answer and the bytes left (document 01, "Who can cause which refusal" and "The walk").
+-- Assumes nothing.
+use Prim.Native.Nat.{ℕ, zero, suc}
+use mathlib.Core.Bool.{Bool, not, cond}
+use mathlib.Core.List.{List, _++_}
+use lib.Dec.{leb, ltb, eqb}
+use lib.IntN.{ℤ}
+use lib.ListN.{length, drop, replicate}
+use Rattle.plpb.specs.Lists.{_and_, _or_}
+use Rattle.plpb.specs.Plan.{Plan}
+use Rattle.plpb.specs.Search.{Mode, linear, lbs, Settings, Reached, failed, reached, Ending, floor, ended, none, short-found, short-none, Answer, search}
+use Rattle.format.specs.File.{refuse}
+use Rattle.format.specs.Tables.{tableSize, termSize, planOfTables, isLoaded}
+use Rattle.tallies.specs.Layout.{assignmentSize, tallySize, bitBytes}
+use Rattle.walk.specs.Numbers.{numbersOf}
+
+-- What the planner sets.
+pub record Asked : Type 0 where
+  pub noise : ℕ
+  pub tries : ℕ
+  pub flips : ℕ
+  pub mode : ℕ
+
+-- What the host program lends: the plan's tables, the list of numbers, the assignment, and the work tables: those of the plan with one clause
+-- more, an assignment, its tallies, and what the choice marks of each variable.
+pub record Lent : Type 0 where
+  pub tables : List ℕ
+  pub terms : List ℕ
+  pub numbers : List ℕ
+  pub assignment : List ℕ
+  pub workTables : List ℕ
+  pub workTerms : List ℕ
+  pub workAssignment : List ℕ
+  pub workTallies : List ℕ
+  pub workMarks : List ℕ
+
+abbrev pub markSize : ℕ
+markSize = 2_560
+
+unfoldable pub tooSmall : Lent → Bool
+tooSmall l =
+    ltb (length (l .tables)) tableSize or ltb (length (l .terms)) termSize or ltb (length (l .assignment)) assignmentSize
+    or ltb (length (l .workTables)) tableSize or ltb (length (l .workTerms)) termSize or ltb (length (l .workAssignment)) assignmentSize
+    or ltb (length (l .workTallies)) tallySize or ltb (length (l .workMarks)) markSize
+
+-- "11: noise outside 0 to 1,000. 12: tries outside 1 to 1,000. 13: flips outside 1 to 1,000,000. 14: mode other than 0 (linear) or 1 (LBS)."
+unfoldable pub settingsRefusal : Asked → ℕ
+settingsRefusal k =
+    refuse (ltb 1_000 (k .noise)) 11
+    (refuse (not (leb 1 (k .tries) and leb (k .tries) 1_000)) 12
+    (refuse (not (leb 1 (k .flips) and leb (k .flips) 1_000_000)) 13 (refuse (ltb 1 (k .mode)) 14 0)))
+
+-- "Search: 21, 22, 11, 12, 13, 14."
+unfoldable pub searchRefusal : Lent → Asked → ℕ
+searchRefusal l k = refuse (tooSmall l) 21 (refuse (not (isLoaded (l .tables) (l .terms))) 22 (settingsRefusal k))
+
+unfoldable pub modeOf : ℕ → Mode
+modeOf zero = linear
+modeOf (suc m) = lbs
+
+unfoldable pub settings : Asked → Settings
+settings k = record { noise = k .noise; tries = k .tries; flips = k .flips; mode = modeOf (k .mode) }
+
+-- What a search that is not refused answers.
+unfoldable pub answer : Lent → Asked → Answer
+answer l k = search (settings k) (planOfTables (l .tables) (l .terms)) (numbersOf (l .numbers))
+
+-- "With a find, the first n assignment bytes hold the last one found; otherwise they are unchanged, as are all beyond n always."
+unfoldable pub withFind : Reached → ℕ → List ℕ → List ℕ
+withFind failed n bytes = bytes
+withFind (reached a) n bytes = bitBytes a ++ drop n bytes
+
+unfoldable pub searchAssignment : Lent → Asked → List ℕ
+searchAssignment l k =
+    cond (eqb (searchRefusal l k) 0)
+    (withFind (answer l k .assignment) (planOfTables (l .tables) (l .terms) .variables) (l .assignment))
+    (l .assignment)
+
+-- "The work tables end filled with 0.", and are as they were past the full limits, and with a refusal.
+unfoldable pub cleared : Lent → Asked → ℕ → List ℕ → List ℕ
+cleared l k size bytes = cond (eqb (searchRefusal l k) 0) (replicate size 0 ++ drop size bytes) bytes

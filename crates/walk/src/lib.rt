@@ -1,0 +1,1 @@
+// The search on lent tables: definitions in specs/.

@@ -1,0 +1,72 @@
+//! The plain book of demand 3 (document 01, "Tallies").
+
+use crate::counts::Counter;
+use crate::plan::{flipped, Plan};
+use crate::tallies::Tallies;
+
+/// "Its calls are flip and counts", with "any variable number".
+#[derive(Clone, Copy, Debug, PartialEq, Eq)]
+pub enum Call {
+    Flip(u32),
+    Counts(u32),
+}
+
+/// What the book answers to a call.
+#[derive(Clone, Copy, Debug, PartialEq, Eq)]
+pub enum Answer {
+    Flipped,
+    Counts { break_count: u32, make_count: u32 },
+    Refused(u32),
+}
+
+/// "It holds n bits, at first those opened."
+pub struct Book<'a> {
+    plan: &'a Plan,
+    counter: Counter,
+    bits: Vec<bool>,
+}
+
+impl<'a> Book<'a> {
+    pub fn open(plan: &'a Plan, assignment: &[bool]) -> Book<'a> {
+        assert_eq!(assignment.len(), plan.variables);
+        Book {
+            plan,
+            counter: Counter::new(plan),
+            bits: assignment.to_vec(),
+        }
+    }
+
+    /// "A variable outside 1 to n: 23, and no bit changes. Flip: accepted, and that bit turns
+    /// over. Counts: the capped numbers of expansion clauses that turning that bit over would
+    /// spoil and mend; no bit changes."
+    pub fn call(&mut self, call: Call) -> Answer {
+        let (Call::Flip(variable) | Call::Counts(variable)) = call;
+        let variable = variable as usize;
+        if !(1..=self.plan.variables).contains(&variable) {
+            return Answer::Refused(23);
+        }
+        match call {
+            Call::Flip(_) => {
+                self.bits = flipped(&self.bits, variable);
+                Answer::Flipped
+            }
+            Call::Counts(_) => {
+                let counts = self.counter.counts(&self.tallies(), &self.bits, variable);
+                Answer::Counts {
+                    break_count: counts.break_count.capped(),
+                    make_count: counts.make_count.capped(),
+                }
+            }
+        }
+    }
+
+    /// "After the list ... the first n assignment bytes [are] its bits."
+    pub fn bits(&self) -> &[bool] {
+        &self.bits
+    }
+
+    /// "The tallies their fresh count."
+    pub fn tallies(&self) -> Tallies {
+        Tallies::fresh(self.plan, &self.bits)
+    }
+}

@@ -1,0 +1,253 @@
+//! The walk (document 01, "The walk"; paper 004, Algorithms 1 and 2; paper 000, Algorithm 1).
+
+use crate::counts::Counter;
+use crate::file::Refusal;
+use crate::plan::{flipped, Clause, Plan};
+use crate::tallies::Tallies;
+
+pub const LINEAR: u32 = 0;
+pub const LBS: u32 = 1;
+
+/// What walk.bin gives.
+#[derive(Clone, Copy, Debug, PartialEq, Eq)]
+pub struct Settings {
+    pub noise: u32,
+    pub tries: u32,
+    pub flips: u32,
+    pub mode: u32,
+}
+
+impl Settings {
+    /// "11: noise outside 0 to 1,000. 12: tries outside 1 to 1,000. 13: flips outside 1 to
+    /// 1,000,000. 14: mode other than 0 (linear) or 1 (LBS)." In this order.
+    pub fn refusal(&self) -> Option<u32> {
+        if self.noise > 1_000 {
+            Some(11)
+        } else if !(1..=1_000).contains(&self.tries) {
+            Some(12)
+        } else if !(1..=1_000_000).contains(&self.flips) {
+            Some(13)
+        } else if self.mode != LINEAR && self.mode != LBS {
+            Some(14)
+        } else {
+            None
+        }
+    }
+}
+
+/// "Endings: floor (v = l(O)), ended, none (first call failed), short-found, short-none (numbers
+/// gone)."
+#[derive(Clone, Copy, Debug, PartialEq, Eq)]
+pub enum Ending {
+    Floor,
+    Ended,
+    None,
+    ShortFound,
+    ShortNone,
+}
+
+impl Ending {
+    pub fn name(self) -> &'static str {
+        match self {
+            Ending::Floor => "floor",
+            Ending::Ended => "ended",
+            Ending::None => "none",
+            Ending::ShortFound => "short-found",
+            Ending::ShortNone => "short-none",
+        }
+    }
+}
+
+/// "The answer also holds cost, finds, flips made and numbers used; cost is 0 with nothing found."
+#[derive(Clone, Debug, PartialEq, Eq)]
+pub struct Answer {
+    pub ending: Ending,
+    pub cost: i64,
+    /// Every assignment found, in order; the last is the one handed out.
+    pub finds: Vec<Vec<bool>>,
+    pub flips: u64,
+    pub used: usize,
+}
+
+impl Answer {
+    /// The last assignment found, if any.
+    pub fn found(&self) -> Option<&[bool]> {
+        self.finds.last().map(Vec::as_slice)
+    }
+}
+
+/// "When fewer numbers are left than the next need, the search ends and takes none of them."
+#[derive(Clone, Copy, Debug, PartialEq, Eq)]
+pub struct Short;
+
+/// "Numbers are 32 bits, used in list order."
+pub struct Numbers<'a> {
+    list: &'a [u32],
+    used: usize,
+}
+
+impl<'a> Numbers<'a> {
+    pub fn new(list: &'a [u32]) -> Numbers<'a> {
+        Numbers { list, used: 0 }
+    }
+
+    pub fn used(&self) -> usize {
+        self.used
+    }
+
+    /// The next numbers, all that are needed or none.
+    pub fn take(&mut self, need: usize) -> Result<&'a [u32], Short> {
+        if self.list.len() - self.used < need {
+            return Err(Short);
+        }
+        let taken = &self.list[self.used..self.used + need];
+        self.used += need;
+        Ok(taken)
+    }
+
+    /// "A pick among m uses one number r and takes place r mod m, from 0 ... m = 1 uses one too."
+    pub fn pick(&mut self, m: usize) -> Result<usize, Short> {
+        Ok(self.take(1)?[0] as usize % m)
+    }
+}
+
+/// A try's start: "take ⌈n/32⌉ numbers; variable i gets bit (i−1) mod 32, bit 0 being the lowest, of
+/// number ⌊(i−1)/32⌋, counted from 0".
+pub fn start(plan: &Plan, numbers: &mut Numbers) -> Result<Vec<bool>, Short> {
+    let taken = numbers.take(plan.variables.div_ceil(32))?;
+    Ok((1..=plan.variables)
+        .map(|i| taken[(i - 1) / 32] >> ((i - 1) % 32) & 1 == 1)
+        .collect())
+}
+
+/// The variables a clause offers to the choice: all it names, "each once".
+pub fn choosable(clause: &Clause) -> Vec<usize> {
+    clause.variables()
+}
+
+/// "Choice (Algorithm 2, SKC) among the clause's variables, each once: if any has break count 0,
+/// pick among those. Otherwise a number r with r mod 1000 < noise leads to a pick among the least
+/// break counts, else to a pick among all." Least is least of the counts given out, the capped ones.
+pub fn choose(
+    variables: &[usize],
+    break_count: impl Fn(usize) -> u32,
+    noise: u32,
+    numbers: &mut Numbers,
+) -> Result<usize, Short> {
+    let breaks: Vec<u32> = variables.iter().map(|&v| break_count(v)).collect();
+    let least = *breaks.iter().min().expect("a clause names a variable");
+    let with_least: Vec<usize> = (0..variables.len())
+        .filter(|&place| breaks[place] == least)
+        .map(|place| variables[place])
+        .collect();
+    if least == 0 {
+        return Ok(with_least[numbers.pick(with_least.len())?]);
+    }
+    if numbers.pick(1000)? < noise as usize {
+        Ok(with_least[numbers.pick(with_least.len())?])
+    } else {
+        Ok(variables[numbers.pick(variables.len())?])
+    }
+}
+
+/// One call (paper 004, Algorithm 1): a satisfying assignment, or None where all tries failed.
+/// "The look comes before each flip, so what the last flip reaches is not looked at."
+fn call(
+    plan: &Plan,
+    settings: &Settings,
+    numbers: &mut Numbers,
+    flips: &mut u64,
+) -> Result<Option<Vec<bool>>, Short> {
+    let counter = Counter::new(plan);
+    for _ in 0..settings.tries {
+        let mut assignment = start(plan, numbers)?;
+        for _ in 0..settings.flips {
+            let tallies = Tallies::fresh(plan, &assignment);
+            let unsatisfied = tallies.unsatisfied_clauses();
+            if unsatisfied.is_empty() {
+                return Ok(Some(assignment));
+            }
+            let clause = unsatisfied[numbers.pick(unsatisfied.len())?];
+            let variables = choosable(&plan.clauses[clause]);
+            let break_count = |variable| {
+                let counts = counter.counts(&tallies, &assignment, variable);
+                counts.break_count.capped()
+            };
+            let variable = choose(&variables, break_count, settings.noise, numbers)?;
+            assignment = flipped(&assignment, variable);
+            *flips += 1;
+        }
+    }
+    Ok(None)
+}
+
+/// "m = (l(O) + 2v)/3, rounded down, below zero as well."
+pub fn lbs_bound(least_cost: i64, v: i64) -> i64 {
+    (least_cost + 2 * v).div_euclid(3)
+}
+
+/// "Linear: O ≤ v − 1."
+pub fn linear_bound(v: i64) -> i64 {
+    v - 1
+}
+
+/// Tightening (paper 000, as document 01 settles it). The finds are added to the list; the answer
+/// is the ending, or Short where the numbers ran out.
+fn tighten(
+    plan: &Plan,
+    settings: &Settings,
+    numbers: &mut Numbers,
+    flips: &mut u64,
+    finds: &mut Vec<Vec<bool>>,
+) -> Result<Ending, Short> {
+    // "The first call has the plan alone."
+    let Some(found) = call(plan, settings, numbers, flips)? else {
+        return Ok(Ending::None);
+    };
+    let mut v = plan.cost(&found);
+    finds.push(found);
+    let mut lbs = settings.mode == LBS;
+    loop {
+        // "A found assignment of cost v with v = l(O) ends the search."
+        if v == plan.least_cost() {
+            return Ok(Ending::Floor);
+        }
+        let bound = if lbs {
+            lbs_bound(plan.least_cost(), v)
+        } else {
+            linear_bound(v)
+        };
+        // "Each added clause replaces the one before."
+        match call(&plan.tightened(bound), settings, numbers, flips)? {
+            Some(found) => {
+                v = plan.cost(&found);
+                finds.push(found);
+            }
+            // "At the first failure goes over to linear."
+            None if lbs => lbs = false,
+            // "Until a call fails."
+            None => return Ok(Ending::Ended),
+        }
+    }
+}
+
+/// The whole search; refused for its settings alone.
+pub fn search(plan: &Plan, settings: &Settings, list: &[u32]) -> Result<Answer, Refusal> {
+    if let Some(number) = settings.refusal() {
+        return Err(Refusal { number, offset: 0 });
+    }
+    let mut numbers = Numbers::new(list);
+    let (mut flips, mut finds) = (0, Vec::new());
+    let ending = match tighten(plan, settings, &mut numbers, &mut flips, &mut finds) {
+        Ok(ending) => ending,
+        Err(Short) if finds.is_empty() => Ending::ShortNone,
+        Err(Short) => Ending::ShortFound,
+    };
+    Ok(Answer {
+        ending,
+        cost: finds.last().map_or(0, |found| plan.cost(found)),
+        finds,
+        flips,
+        used: numbers.used(),
+    })
+}

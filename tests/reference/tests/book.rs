@@ -1,0 +1,145 @@
+//! The plain book of demand 3, held to the real lists of the expansion and to fresh counts.
+
+mod common;
+
+use common::*;
+use reference::book::{Answer, Book, Call};
+use reference::expansion;
+use reference::random::{call, full_plan, small_plan, Random};
+use reference::tallies::Tallies;
+
+#[test]
+fn fresh_tallies_by_hand() {
+    // Clause 1: 5x1 − 6x2 + 2x3 ≥ 2 or x1 + x2 + x3 ≤ 1; clause 2: 1 ≤ x1 + x3 ≤ 1.
+    let rules = [
+        at_least(2, &[(1, 5), (2, -6), (3, 2)]),
+        at_most(1, &[(1, 1), (2, 1), (3, 1)]),
+    ];
+    let other = [between(1, &[(1, 1), (3, 1)], 1)];
+    let plan = plan(3, &[], &[&rules, &other]);
+    let tallies = Tallies::fresh(&plan, &bits("100"));
+    assert_eq!(tallies.true_weights, [11, 1, 1]);
+    assert_eq!(tallies.holding_rules, [2, 1]);
+    assert_eq!(tallies.unsatisfied, 0);
+    let tallies = Tallies::fresh(&plan, &bits("111"));
+    assert_eq!(tallies.true_weights, [7, 3, 2]);
+    assert_eq!(tallies.holding_rules, [0, 0]);
+    assert_eq!(tallies.unsatisfied, 2);
+    assert_eq!(tallies.unsatisfied_clauses(), [0, 1]);
+    let tallies = Tallies::fresh(&plan, &bits("010"));
+    assert_eq!(tallies.true_weights, [0, 1, 0]);
+    assert_eq!(tallies.holding_rules, [1, 0]);
+    assert_eq!(tallies.unsatisfied_clauses(), [1]);
+}
+
+#[test]
+fn calls_by_hand() {
+    let plan = plan(3, &[], &[&[between(1, &[(1, 1), (2, 1), (3, 1)], 1)]]);
+    let mut book = Book::open(&plan, &bits("000"));
+    let counted = |break_count, make_count| Answer::Counts {
+        break_count,
+        make_count,
+    };
+    for (call, answer, after) in [
+        (Call::Counts(1), counted(0, 1), "000"),
+        (Call::Flip(1), Answer::Flipped, "100"),
+        (Call::Counts(2), counted(1, 0), "100"),
+        (Call::Flip(0), Answer::Refused(23), "100"),
+        (Call::Flip(4), Answer::Refused(23), "100"),
+        (Call::Counts(0), Answer::Refused(23), "100"),
+        (Call::Counts(4), Answer::Refused(23), "100"),
+        (Call::Flip(u32::MAX), Answer::Refused(23), "100"),
+        (Call::Flip(65_537), Answer::Refused(23), "100"),
+        (Call::Flip(3), Answer::Flipped, "101"),
+        (Call::Flip(1), Answer::Flipped, "001"),
+        (Call::Flip(3), Answer::Flipped, "000"),
+    ] {
+        assert_eq!(book.call(call), answer, "{call:?}");
+        assert_eq!(book.bits(), bits(after), "{call:?}");
+        assert_eq!(book.tallies(), Tallies::fresh(&plan, &bits(after)));
+    }
+}
+
+#[test]
+fn any_list_of_calls() {
+    let mut random = Random::new(41);
+    let (mut flips, mut counts, mut refused) = (0, 0, 0);
+    for _ in 0..600 {
+        let plan = small_plan(&mut random);
+        let Some(lists) = expansion::plan(&plan, 5_000) else {
+            continue;
+        };
+        let opened = random.assignment(plan.variables);
+        let mut book = Book::open(&plan, &opened);
+        // How often each variable was named by an accepted flip.
+        let mut flipped = vec![0; plan.variables];
+        for _ in 0..random.below(30) {
+            let before = book.bits().to_vec();
+            let next = call(&mut random, plan.variables);
+            let answer = book.call(next);
+            let (Call::Flip(variable) | Call::Counts(variable)) = next;
+            let variable = variable as usize;
+            let named = variable >= 1 && variable <= plan.variables;
+            match (next, answer) {
+                (Call::Flip(_), Answer::Flipped) => {
+                    assert!(named);
+                    flipped[variable - 1] += 1;
+                    flips += 1;
+                }
+                (
+                    Call::Counts(_),
+                    Answer::Counts {
+                        break_count,
+                        make_count,
+                    },
+                ) => {
+                    assert!(named);
+                    let spoiled = expansion::spoiled(&lists, &before, variable);
+                    let mended = expansion::mended(&lists, &before, variable);
+                    let given = (break_count as usize, make_count as usize);
+                    assert_eq!(given, (spoiled, mended));
+                    counts += 1;
+                }
+                (_, answer) => {
+                    assert_eq!(answer, Answer::Refused(23));
+                    assert!(!named);
+                    refused += 1;
+                }
+            }
+        }
+        for variable in 1..=plan.variables {
+            let differs = book.bits()[variable - 1] != opened[variable - 1];
+            assert_eq!(differs, flipped[variable - 1] % 2 == 1);
+        }
+    }
+    assert!(flips > 500 && counts > 500 && refused > 200);
+}
+
+#[test]
+fn a_flip_changes_what_concerns_it_and_twice_restores_all() {
+    let mut random = Random::new(42);
+    let plan = full_plan(&mut random);
+    let mut book = Book::open(&plan, &random.assignment(512));
+    for _ in 0..200 {
+        let variable = 1 + random.below(512);
+        let (bits, before) = (book.bits().to_vec(), book.tallies());
+        book.call(Call::Flip(variable as u32));
+        let after = book.tallies();
+        let mut place = 0;
+        for (number, clause) in plan.clauses.iter().enumerate() {
+            let mut concerned = false;
+            for rule in &clause.rules {
+                let term = rule.terms.iter().find(|term| term.variable == variable);
+                let change = (after.true_weights[place] - before.true_weights[place]).abs();
+                assert_eq!(change, term.map_or(0, |term| term.weight.abs()));
+                concerned |= term.is_some();
+                place += 1;
+            }
+            let same = before.holding_rules[number] == after.holding_rules[number];
+            assert!(concerned || same);
+        }
+        book.call(Call::Flip(variable as u32));
+        assert_eq!((book.bits(), book.tallies()), (&bits[..], before));
+        book.call(Call::Flip(variable as u32));
+    }
+}

@@ -1,0 +1,243 @@
+//! Big integers, binomials, and counts on both sides of the cap.
+
+mod common;
+
+use common::*;
+use reference::big::Big;
+use reference::counts::{choices, choices_with, counts, Number, CAP, MOST_COPIES};
+use reference::exact::{self, binomial};
+use reference::plan::Plan;
+use reference::random::{heavy_plan, Random};
+
+fn power_of_two(exponent: u32) -> Big {
+    (0..exponent).fold(Big::from(1), |n, _| n.add(&n))
+}
+
+#[test]
+fn big_integers_agree_with_128_bits() {
+    let mut random = Random::new(1);
+    for _ in 0..20_000 {
+        let number = |random: &mut Random| {
+            let bits = random.below(63);
+            random.draw() as u128 & ((1 << bits) - 1)
+        };
+        let (x, y) = (number(&mut random), number(&mut random));
+        let (big_x, big_y) = (Big::from(x), Big::from(y));
+        assert_eq!(big_x.add(&big_y).to_u128(), Some(x + y));
+        assert_eq!(big_x.mul(&big_y).to_u128(), Some(x * y));
+        assert_eq!(big_x.cmp(&big_y), x.cmp(&y));
+        let (large, small) = (x.max(y), x.min(y));
+        let difference = Big::from(large).sub(&Big::from(small));
+        assert_eq!(difference, Big::from(large - small));
+        let divisor = random.number().max(1);
+        let (quotient, rest) = big_x.mul(&big_y).div_small(divisor);
+        assert_eq!(quotient.to_u128(), Some(x * y / divisor as u128));
+        assert_eq!(rest as u128, x * y % divisor as u128);
+    }
+    // Beyond 128 bits: (2^200 + 1)(2^200 − 1) = 2^400 − 1.
+    let (power, one) = (power_of_two(200), Big::from(1));
+    let product = power.add(&one).mul(&power.sub(&one));
+    assert_eq!(product, power_of_two(400).sub(&one));
+    assert_eq!(product.to_u128(), None);
+}
+
+#[test]
+fn exact_binomials_obey_pascal() {
+    for m in 0..90 {
+        let mut row = Big::from(0);
+        for k in 0..=m {
+            let this = binomial(m, k, 1_000).unwrap();
+            row = row.add(&this);
+            if m > 0 && k > 0 {
+                let left = binomial(m - 1, k - 1, 1_000).unwrap();
+                let right = binomial(m - 1, k, 1_000).unwrap();
+                assert_eq!(this, left.add(&right));
+            }
+        }
+        assert_eq!(row, power_of_two(m as u32));
+        assert_eq!(binomial(m, m + 1, 1_000), Some(Big::from(0)));
+    }
+    assert_eq!(binomial(100, 50, 49), None);
+}
+
+/// A number of `counts` is right if it is exact, or above the cap and said to be so.
+fn agrees(number: Number, true_number: &Big) -> bool {
+    match number {
+        Number::Exact(n) => true_number.to_u128() == Some(n),
+        Number::AboveCap => *true_number > Big::from(CAP),
+    }
+}
+
+#[test]
+fn choices_agree_with_exact_binomials() {
+    let mut random = Random::new(2);
+    let mut above = 0;
+    for round in 0..30_000 {
+        let most = [30, 100, 1_000, 100_000, MOST_COPIES][round % 5];
+        let m = random.between(0, most - 1);
+        let w = random.between(1, (most - m).min(1_000_000));
+        let size = match random.below(4) {
+            0 => random.between(0, 12),
+            1 => (m + w - random.between(0, 12)).max(0),
+            2 => (m - random.between(-3, 12)).max(0),
+            _ => random.between(0, (m + w).min(120)),
+        };
+        let Some(with) = binomial(m + w, size, 200) else {
+            continue;
+        };
+        let Some(without) = binomial(m, size, 200) else {
+            continue;
+        };
+        assert!(agrees(choices(m, Some(size)), &without), "{m} over {size}");
+        let number = choices_with(m, w, Some(size));
+        assert!(agrees(number, &with.sub(&without)), "{m}+{w} over {size}");
+        above += usize::from(number == Number::AboveCap);
+    }
+    assert!(above > 1_000);
+    assert_eq!(choices(5, None), Number::ZERO);
+    assert_eq!(choices_with(5, 3, None), Number::ZERO);
+}
+
+#[test]
+fn a_difference_is_the_sum_of_smaller_binomials() {
+    // m + w over k less m over k is the sum of j over k − 1 for j from m to m + w − 1.
+    for m in 0..40 {
+        for w in 1..20 {
+            for k in 1..25 {
+                let sum: u128 = (m..m + w)
+                    .map(|j| match choices(j, Some(k - 1)) {
+                        Number::Exact(n) => n,
+                        Number::AboveCap => panic!("small binomials are exact"),
+                    })
+                    .sum();
+                assert_eq!(choices_with(m, w, Some(k)), Number::Exact(sum));
+            }
+            assert_eq!(choices_with(m, w, Some(0)), Number::ZERO);
+        }
+    }
+}
+
+#[test]
+fn sums_and_products_of_numbers() {
+    let (zero, one, above) = (Number::ZERO, Number::ONE, Number::AboveCap);
+    assert_eq!(zero.times(above), zero);
+    assert_eq!(above.times(zero), zero);
+    assert_eq!(one.times(above), above);
+    assert_eq!(zero.plus(above), above);
+    assert_eq!(above.plus(above), above);
+    let large = Number::Exact(u128::MAX);
+    assert_eq!(large.plus(zero), large);
+    assert_eq!(large.plus(one), above);
+    assert_eq!(large.times(Number::Exact(2)), above);
+    assert_eq!(Number::Exact(6).times(Number::Exact(7)), Number::Exact(42));
+    assert_eq!(Number::Exact(6).plus(Number::Exact(7)), Number::Exact(13));
+    for (number, capped) in [
+        (CAP - 1, 4_294_967_294),
+        (CAP, 4_294_967_295),
+        (CAP + 1, 4_294_967_295),
+        (u128::MAX, 4_294_967_295),
+    ] {
+        assert_eq!(Number::Exact(number).capped(), capped);
+    }
+    assert_eq!(above.capped(), 4_294_967_295);
+}
+
+/// A clause of rules w·x1 ≤ 0: at x1 = 0 each has e = w and g = 0, so its break count is the
+/// product of the weights.
+fn product_clause(weights: &[i64]) -> Vec<reference::plan::Rule> {
+    weights.iter().map(|&w| at_most(0, &[(1, w)])).collect()
+}
+
+#[test]
+fn counts_around_the_cap() {
+    // 65,535·65,537 is the cap itself; 65,536² is one more; 65,535·65,536 + 65,534 one less.
+    for (clauses, true_number, capped) in [
+        (vec![vec![65_535, 65_537]], CAP, 4_294_967_295),
+        (vec![vec![65_536, 65_536]], CAP + 1, 4_294_967_295),
+        (
+            vec![vec![65_535, 65_536], vec![65_534]],
+            CAP - 1,
+            4_294_967_294,
+        ),
+        (vec![vec![65_535, 65_537], vec![1]], CAP + 1, 4_294_967_295),
+    ] {
+        let clauses: Vec<_> = clauses
+            .iter()
+            .map(|weights| product_clause(weights))
+            .collect();
+        let lists: Vec<&[_]> = clauses.iter().map(Vec::as_slice).collect();
+        let plan = plan(1, &[], &lists);
+        let down = counts(&plan, &bits("0"), 1);
+        assert_eq!(down.break_count, Number::Exact(true_number));
+        assert_eq!(down.break_count.capped(), capped);
+        assert_eq!(down.make_count, Number::ZERO);
+        // Back again the same clauses are mended.
+        let up = counts(&plan, &bits("1"), 1);
+        assert_eq!(
+            (up.break_count, up.make_count),
+            (Number::ZERO, down.break_count)
+        );
+    }
+}
+
+#[test]
+fn products_above_the_cap_are_not_subtracted() {
+    // Π(e+g) and Π g are both above the cap; cut before the subtraction, they would give 0. For
+    // x1 + 100,000·x2 ≤ 1 at 0,1: g is 100,000 over 2 and e is 100,000. Beside it x3 ≥ 1 at 0 has
+    // g = 1 and e = 0, so that the difference is 100,000.
+    let rules = [at_most(1, &[(1, 1), (2, 100_000)]), at_least(1, &[(3, 1)])];
+    let plan = plan(3, &[], &[&rules]);
+    let at = counts(&plan, &bits("010"), 1);
+    assert_eq!(at.break_count, Number::Exact(100_000));
+    assert_eq!(at.make_count, Number::ZERO);
+}
+
+/// Break and make count are right, exact or above the cap, for each variable.
+fn check(plan: &Plan, assignment: &[bool], above: &mut [usize; 2]) {
+    for variable in 1..=plan.variables {
+        let Some((break_count, make_count)) = exact::counts(plan, assignment, variable, 400) else {
+            continue;
+        };
+        let by_formula = counts(plan, assignment, variable);
+        assert!(agrees(by_formula.break_count, &break_count), "{plan:?}");
+        assert!(agrees(by_formula.make_count, &make_count), "{plan:?}");
+        for number in [&break_count, &make_count] {
+            if *number > Big::from(0) {
+                above[usize::from(*number > Big::from(CAP))] += 1;
+            }
+        }
+    }
+}
+
+#[test]
+fn heavy_counts_agree_with_the_printed_equations() {
+    let mut random = Random::new(3);
+    let mut above = [0; 2];
+    for _ in 0..6_000 {
+        let plan = heavy_plan(&mut random);
+        let assignment = random.assignment(plan.variables);
+        check(&plan, &assignment, &mut above);
+    }
+    // Both sides of the cap were met often.
+    assert!(above[0] > 500 && above[1] > 500, "{above:?}");
+}
+
+#[test]
+fn the_heaviest_rule_is_counted() {
+    // K = 512,000,000 with all weights 1,000,000.
+    let list: Vec<(usize, i64)> = (1..=512).map(|variable| (variable, 1_000_000)).collect();
+    let all = plan(512, &[], &[&[at_least(512_000_000, &list)]]);
+    // A = 1: each of a false variable's 1,000,000 copies is a clause of its own.
+    let mut at = vec![true; 512];
+    at[6] = false;
+    let seven = counts(&all, &at, 7);
+    assert_eq!(seven.make_count, Number::Exact(1_000_000));
+    assert_eq!(seven.break_count, Number::ZERO);
+    assert_eq!(counts(&all, &at, 8).break_count, Number::Exact(1_000_000));
+    // Half of the copies: far above the cap for a flip that crosses the bound.
+    let half = plan(512, &[], &[&[at_least(256_000_000, &list)]]);
+    let at: Vec<bool> = (1..=512).map(|variable| variable <= 256).collect();
+    assert_eq!(counts(&half, &at, 1).break_count, Number::AboveCap);
+    assert_eq!(counts(&half, &at, 512).break_count, Number::ZERO);
+    assert_eq!(counts(&half, &at, 512).make_count, Number::ZERO);
+}
