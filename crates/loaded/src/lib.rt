@@ -10,6 +10,7 @@ ghost use Rattle.plpb.specs.Lists.{_and_};
 ghost use Rattle.words.specs.Words.{wordAt, signed};
 ghost use Rattle.format.specs.Limits.{weightLawful};
 ghost use Rattle.format.specs.File.{boundsLawful};
+ghost use Rattle.format.specs.Tables.{isLoaded};
 ghost use Rattle.format.proofs.Good.{everyFrom, zerosFrom, chainFrom, termsFrom, countsGood, coefficientGood, objectiveGood, clausesGood, rulesGood, ruleGood, goodBy};
 use words::index;
 use words::magnitude;
@@ -222,8 +223,10 @@ fn full_good(tables: &[u8], terms: &[u8]) -> bool
         & zeros(terms, 2 * total, 13024)
 }
 
-// Whether an accepted loading leaves these tables.
-pub fn good(tables: &[u8], terms: &[u8]) -> bool {
+// Whether an accepted loading leaves these tables, for any bytes: format/proofs/IsLoaded.antt says that `isLoaded` is just that.
+pub fn good(tables: &[u8], terms: &[u8]) -> bool
+    ensures { λ r. ⌜ r ≡ isLoaded (now (tables .entry)) (now (terms .entry)) ⌝ }
+{
     if tables.len() < 26668 {
         return false;
     }
