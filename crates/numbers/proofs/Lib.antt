@@ -1,0 +1,4 @@
+-- What holds of numbers taken and places found.
+pub mod Keep
+pub mod Taking
+pub mod Finding
