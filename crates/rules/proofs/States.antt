@@ -19,9 +19,9 @@ use Rattle.plpb.proofs.Equations.{lost, gained, P-flipped}
 use Rattle.counting.specs.Bound.{boundOf}
 use Rattle.words.specs.Words.{wordAt, signed}
 use Rattle.format.specs.File.{boundOf as boundIn}
-use Rattle.format.specs.Limits.{maxVariables, termsLawful, ruleLawful}
+use Rattle.format.specs.Limits.{maxVariables, maxRules, termsLawful, ruleLawful}
 use Rattle.format.specs.Tables.{ruleOf}
-use Rattle.format.proofs.Bools.{and-first, and-stop}
+use Rattle.format.proofs.Bools.{and-first, and-stop, T-true, true-T}
 use Rattle.format.proofs.Lawful.{rule-parts, terms-whole}
 use Rattle.rules.specs.declared.entry.Entry.{Entry}
 use Rattle.rules.specs.declared.sums.Stands.{Stands}
@@ -57,6 +57,9 @@ pub one-fails : {a x : Bool} (b : Bool) → x ≡ a → x ≡ false → x ≡ a 
 one-fails {a} b p f = f ∙ sym (and-stop a b (sym p ∙ f))
 
 -- ---- a state as it is read
+
+pub entry-readable : {tables terms assignment : List ℕ} {at : ℕ} {e : Entry} → EntryAt (wordAt tables) at e → RuleReadable tables terms assignment at → Readable terms assignment (e .first) (e .count)
+entry-readable d r = rw (d .first, d .count) (r .body)
 
 -- The entry's words and the sums of its terms make the state of the rule.
 pub state-made : {f : ℕ → ℕ} (g : ℕ → ℕ) {at : ℕ} {a : Assignment} {x : ℕ} {e : Entry} {s : Sums} {r : State} → EntryAt f at e → Summed a x (termsAt g (e .first) (e .count)) s → s .k < 4_294_967_296 → Made e s r → StateOf a x (ruleAt f g at) r
@@ -168,9 +171,16 @@ module _ (s : State) (b : Balanced s) where
         balanced = record { small = omega (arith, b .small); loses = omega arith; gains = omega arith };
       }
 
--- ---- for callers: rules of the tables of a plan
+-- ---- for callers: the rules of tables that hold a plan of n variables
 
--- The state under one assignment is that under another which says the same of the plan's variables.
+-- A rule with lawful terms can be read ..
+module _ (tables terms assignment : List ℕ) (at n : ℕ) where
+  pub rule-readable : 4 * at + 20 ≤ length tables → 8 * (wordAt tables at + wordAt tables (at + 1)) ≤ length terms → n ≤ maxVariables → n ≤ length assignment → T (termsLawful n (ruleAt (wordAt tables) (wordAt terms) at .terms)) → RuleReadable tables terms assignment at
+  unfolding ruleAt
+  rule-readable entry inside small bytes t =
+      record { entry = entry; body = readable terms assignment (wordAt tables at) (wordAt tables (at + 1)) n inside small bytes t }
+
+-- .. and its state is that under any assignment that says the same of the plan's variables, so that under the first n bytes.
 pub state-same : (n : ℕ) {a b : Assignment} {x : ℕ} {q : Rule} {s : State} → ((v : ℕ) → v ≤ n → value a v ≡ value b v) → T (termsLawful n (q .terms)) → StateOf a x q s → StateOf b x q s
 unfolding N
 state-same n {a} {b} {x} {q} {s} same t h =
@@ -185,7 +195,18 @@ state-same n {a} {b} {x} {q} {s} same t h =
       balanced = h .balanced;
     }
 
--- Rule r of the tables has its entry at word 1,540 + 5·r.
+pub state-first : (n : ℕ) (bytes : List ℕ) {x : ℕ} {q : Rule} {s : State} → T (termsLawful n (q .terms)) → StateOf (bitsIn bytes) x q s → StateOf (bitsIn (take n bytes)) x q s
+state-first n bytes t h = state-same n (first-bits n bytes) t h
+
+-- A lawful rule has lawful terms, whose numbers rise.
+module _ (n : ℕ) (q : Rule) (t : T (ruleLawful n q)) where
+  pub rule-terms : T (termsLawful n (q .terms))
+  rule-terms = true-T _ (terms-whole n (q .terms) (rule-parts n q (T-true _ t) .terms))
+
+  pub rule-rises : T (rising (q .terms))
+  rule-rises = true-T _ (rule-parts n q (T-true _ t) .terms .rise)
+
+-- Rule r has its entry at word 1,540 + 5·r.
 pub rule-at : (f g : ℕ → ℕ) (r : ℕ) → ruleAt f g (1_540 + 5 * r) ≡ ruleOf f g r
 unfolding ruleAt ruleOf termsAt
 rule-at f g r =
@@ -194,3 +215,17 @@ rule-at f g r =
     let three : 1_540 + 5 * r + 3 ≡ 1_543 + 5 * r = omega arith in
     let four : 1_540 + 5 * r + 4 ≡ 1_544 + 5 * r = omega arith in
     rw (one, two, three, four) refl
+
+-- Both at once, for a lawful rule of the tables.
+module _ (tables terms assignment : List ℕ) (n r : ℕ) (t : T (ruleLawful n (ruleOf (wordAt tables) (wordAt terms) r))) where
+  terms-at : T (termsLawful n (ruleAt (wordAt tables) (wordAt terms) (1_540 + 5 * r) .terms))
+  terms-at = rw (rule-at (wordAt tables) (wordAt terms) r) (rule-terms n (ruleOf (wordAt tables) (wordAt terms) r) t)
+
+  pub table-rule-readable : 26_640 ≤ length tables → r < maxRules → 8 * (wordAt tables (1_540 + 5 * r) + wordAt tables (1_541 + 5 * r)) ≤ length terms → n ≤ maxVariables → n ≤ length assignment → RuleReadable tables terms assignment (1_540 + 5 * r)
+  table-rule-readable whole few inside small bytes =
+      let one : 1_540 + 5 * r + 1 ≡ 1_541 + 5 * r = omega arith in
+      rule-readable tables terms assignment (1_540 + 5 * r) n (omega arith) (rw one inside) small bytes terms-at
+
+  pub table-rule-state : {x : ℕ} {s : State} → StateOf (bitsIn assignment) x (ruleAt (wordAt tables) (wordAt terms) (1_540 + 5 * r)) s → StateOf (bitsIn (take n assignment)) x (ruleOf (wordAt tables) (wordAt terms) r) s
+  table-rule-state {x} {s} h =
+      rw (rule-at (wordAt tables) (wordAt terms) r) at (state-first n assignment terms-at h)

@@ -21,7 +21,7 @@ use Rattle.rules.specs.declared.sums.Stands.the-variants.{Out}
 use Rattle.rules.specs.declared.sums.Sums.{Sums}
 use Rattle.rules.specs.Terms.{termsAt, Readable}
 use Rattle.rules.specs.Sums.{Summed, Room, trueAt, Added}
-use Rattle.rules.proofs.Terms.{termLegal, legal-high, legal-weight, legal-at, legal-rest, terms-none, terms-next, length-terms}
+use Rattle.rules.proofs.Terms.{termLegal, lawful-legal, legal-high, legal-weight, legal-at, legal-rest, terms-none, terms-next, length-terms}
 
 -- ---- bounds
 
@@ -115,6 +115,17 @@ next-fits terms assignment first count r a x left s low high h =
       rises = omega (arith, h .whole, h .rises, rise-at-most-K ts);
       trues = omega (arith, h .whole, h .trues, P-at-most-K a ts);
     }
+
+-- What is known of the sums of a rule.
+pub summed-below : {a : Assignment} {x : ℕ} {ts : List Term} {s : Sums} → Summed a x ts s → (s .p ≤ s .k) × (s .rise ≤ s .k)
+summed-below {a} {x} {ts} {s} h =
+    (omega (arith, h .whole, h .trues, P-at-most-K a ts), omega (arith, h .whole, h .rises, rise-at-most-K ts))
+
+pub summed-small : {terms assignment : List ℕ} {first count : ℕ} {a : Assignment} {x : ℕ} {s : Sums} → Readable terms assignment first count → Summed a x (termsAt (wordAt terms) first count) s → s .k < 4_294_967_296
+summed-small {terms} {assignment} {first} {count} r h =
+    let ts = termsAt (wordAt terms) first count in
+    let all-legal = lawful-legal (length assignment) ts (r .lawful) in
+    omega (arith, h .whole, r .few, K-at-most (length assignment) ts all-legal, length-terms (wordAt terms) first count)
 
 -- ---- assignments that say the same
 
