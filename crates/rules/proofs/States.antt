@@ -19,7 +19,7 @@ use Rattle.plpb.proofs.Equations.{lost, gained, P-flipped}
 use Rattle.counting.specs.Bound.{boundOf}
 use Rattle.words.specs.Words.{wordAt, signed}
 use Rattle.format.specs.File.{boundOf as boundIn}
-use Rattle.format.specs.Limits.{maxVariables, maxRules, termsLawful, ruleLawful}
+use Rattle.format.specs.Limits.{maxVariables, termsLawful, ruleLawful}
 use Rattle.format.specs.Tables.{ruleOf}
 use Rattle.format.proofs.Bools.{and-first, and-stop, T-true, true-T}
 use Rattle.format.proofs.Lawful.{rule-parts, terms-whole}
@@ -206,26 +206,26 @@ module _ (n : ℕ) (q : Rule) (t : T (ruleLawful n q)) where
   pub rule-rises : T (rising (q .terms))
   rule-rises = true-T _ (rule-parts n q (T-true _ t) .terms .rise)
 
--- Rule r has its entry at word 1,540 + 5·r.
-pub rule-at : (f g : ℕ → ℕ) (r : ℕ) → ruleAt f g (1_540 + 5 * r) ≡ ruleOf f g r
+-- Rule r has its entry at word 1,542 + 5·r.
+pub rule-at : (f g : ℕ → ℕ) (r : ℕ) → ruleAt f g (1_542 + 5 * r) ≡ ruleOf f g r
 unfolding ruleAt ruleOf termsAt
 rule-at f g r =
-    let one : 1_540 + 5 * r + 1 ≡ 1_541 + 5 * r = omega arith in
-    let two : 1_540 + 5 * r + 2 ≡ 1_542 + 5 * r = omega arith in
-    let three : 1_540 + 5 * r + 3 ≡ 1_543 + 5 * r = omega arith in
-    let four : 1_540 + 5 * r + 4 ≡ 1_544 + 5 * r = omega arith in
+    let one : 1_542 + 5 * r + 1 ≡ 1_543 + 5 * r = omega arith in
+    let two : 1_542 + 5 * r + 2 ≡ 1_544 + 5 * r = omega arith in
+    let three : 1_542 + 5 * r + 3 ≡ 1_545 + 5 * r = omega arith in
+    let four : 1_542 + 5 * r + 4 ≡ 1_546 + 5 * r = omega arith in
     rw (one, two, three, four) refl
 
 -- Both at once, for a lawful rule of the tables.
 module _ (tables terms assignment : List ℕ) (n r : ℕ) (t : T (ruleLawful n (ruleOf (wordAt tables) (wordAt terms) r))) where
-  terms-at : T (termsLawful n (ruleAt (wordAt tables) (wordAt terms) (1_540 + 5 * r) .terms))
+  terms-at : T (termsLawful n (ruleAt (wordAt tables) (wordAt terms) (1_542 + 5 * r) .terms))
   terms-at = rw (rule-at (wordAt tables) (wordAt terms) r) (rule-terms n (ruleOf (wordAt tables) (wordAt terms) r) t)
 
-  pub table-rule-readable : 26_640 ≤ length tables → r < maxRules → 8 * (wordAt tables (1_540 + 5 * r) + wordAt tables (1_541 + 5 * r)) ≤ length terms → n ≤ maxVariables → n ≤ length assignment → RuleReadable tables terms assignment (1_540 + 5 * r)
+  pub table-rule-readable : 26_668 ≤ length tables → r < 1_025 → 8 * (wordAt tables (1_542 + 5 * r) + wordAt tables (1_543 + 5 * r)) ≤ length terms → n ≤ maxVariables → n ≤ length assignment → RuleReadable tables terms assignment (1_542 + 5 * r)
   table-rule-readable whole few inside small bytes =
-      let one : 1_540 + 5 * r + 1 ≡ 1_541 + 5 * r = omega arith in
-      rule-readable tables terms assignment (1_540 + 5 * r) n (omega arith) (rw one inside) small bytes terms-at
+      let one : 1_542 + 5 * r + 1 ≡ 1_543 + 5 * r = omega arith in
+      rule-readable tables terms assignment (1_542 + 5 * r) n (omega arith) (rw one inside) small bytes terms-at
 
-  pub table-rule-state : {x : ℕ} {s : State} → StateOf (bitsIn assignment) x (ruleAt (wordAt tables) (wordAt terms) (1_540 + 5 * r)) s → StateOf (bitsIn (take n assignment)) x (ruleOf (wordAt tables) (wordAt terms) r) s
+  pub table-rule-state : {x : ℕ} {s : State} → StateOf (bitsIn assignment) x (ruleAt (wordAt tables) (wordAt terms) (1_542 + 5 * r)) s → StateOf (bitsIn (take n assignment)) x (ruleOf (wordAt tables) (wordAt terms) r) s
   table-rule-state {x} {s} h =
       rw (rule-at (wordAt tables) (wordAt terms) r) at (state-first n assignment terms-at h)
