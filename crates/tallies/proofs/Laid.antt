@@ -21,7 +21,8 @@ use Rattle.format.proofs.Bools.{true-T}
 use Rattle.format.proofs.Lawful.{RoomyPlan, roomy-parts}
 use Rattle.format.proofs.Spells.{Spells, spells-at}
 use Rattle.format.proofs.Sections.{Sections, length-tableWords, length-termWords}
-use Rattle.format.proofs.ReadBack.{entry-here, entries-behind, rules-spelt, holds-sections}
+use Rattle.format.proofs.Entries.{entry-here, entries-behind}
+use Rattle.format.proofs.ReadBack.{rules-spelt, holds-sections}
 use Rattle.rules.specs.Rules.{RuleReadable}
 use Rattle.rules.proofs.States.{rule-rises, table-rule-readable}
 use Rattle.tallies.specs.Core.{Laid, Ready}
