@@ -2,7 +2,11 @@
 pub mod Bits
 pub mod TallyBytes
 pub mod Exact
+pub mod Tallied
+pub mod Laid
+pub mod Keeping
 pub mod Refusals
 pub mod Steps
 pub mod Demand3
 pub mod Narrow
+pub mod Naming

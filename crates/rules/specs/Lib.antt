@@ -1,0 +1,5 @@
+-- What the contracts of this crate say.
+pub mod Terms
+pub mod Sums
+pub mod Rules
+pub mod State
