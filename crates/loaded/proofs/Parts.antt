@@ -1,7 +1,7 @@
 -- The parts of the test, and the whole of them: what the counts tell, and in which order the parts are joined.
 -- Assumes nothing.
 use Prim.Native.Nat.{ℕ, _*_, _-_, _≤_}
-use mathlib.Core.Path.{_≡_, refl, sym, ap₂, _∙_}
+use mathlib.Core.Path.{_≡_, refl, sym, _∙_}
 use mathlib.Core.Bool.{Bool, true, false, not}
 use lib.Dec.{leb}
 use borrow.Author.Tests.{leb-true, not-true, not-false}

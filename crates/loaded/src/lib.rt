@@ -2,7 +2,7 @@
 // definition `goodBy`. Good tables are the rule and are read whole in any case, so a loop that only compares words does not stop at the
 // first fault: without a way out it takes 16 bytes at a time.
 ghost use mathlib.Core.Path.{_≡_};
-ghost use Prim.Native.Nat.{ℕ, _+_, _*_, _-_, _≤_, _<_};
+ghost use Prim.Native.Nat.{_+_, _*_, _-_, _≤_};
 ghost use lib.Dec.{leb, ltb, eqb};
 ghost use lib.IntN.{natAbs};
 ghost use lib.ListN.{length};
@@ -11,7 +11,7 @@ ghost use Rattle.words.specs.Words.{wordAt, signed};
 ghost use Rattle.format.specs.Limits.{weightLawful};
 ghost use Rattle.format.specs.File.{boundsLawful};
 ghost use Rattle.format.specs.Tables.{isLoaded};
-ghost use Rattle.format.proofs.Good.{everyFrom, zerosFrom, chainFrom, termsFrom, countsGood, coefficientGood, objectiveGood, clausesGood, rulesGood, ruleGood, goodBy};
+ghost use Rattle.format.proofs.Good.{everyFrom, zerosFrom, chainFrom, termsFrom, coefficientGood, objectiveGood, clausesGood, rulesGood, ruleGood, goodBy};
 use words::index;
 use words::magnitude;
 use words::to_signed;

@@ -5,7 +5,7 @@ use borrow.Author.Needs.{needs}
 use Rattle.loaded.proofs.clause_chain.Statement.{statement}
 use Rattle.loaded.proofs.clause_chain.Tie as tie
 use Prim.Native.Nat.{ℕ, _+_, _*_, _-_, _≤_}
-use mathlib.Core.Path.{_≡_, refl, sym, _∙_}
+use mathlib.Core.Path.{_≡_, sym, _∙_}
 use mathlib.Core.List.{List}
 use native.Mathlib.Omega.{arith}
 use Rattle.words.specs.Words.{wordAt}

@@ -3,7 +3,7 @@
 use borrow.Author.Needs.{needs}
 use Rattle.loaded.proofs.rule_good.Statement.{statement}
 use Rattle.loaded.proofs.rule_good.Tie as tie
-use Prim.Native.Nat.{ℕ, _+_, _*_, _-_}
+use Prim.Native.Nat.{_+_, _*_, _-_}
 use mathlib.Core.Path.{_≡_}
 use native.Mathlib.Omega.{arith}
 use Rattle.words.specs.Words.{wordAt}

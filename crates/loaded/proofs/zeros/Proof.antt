@@ -4,7 +4,7 @@
 use borrow.Author.Needs.{needs}
 use Rattle.loaded.proofs.zeros.Statement.{statement}
 use Rattle.loaded.proofs.zeros.Tie as tie
-use Prim.Native.Nat.{_≤_, _-_}
+use Prim.Native.Nat.{_-_}
 use mathlib.Core.Path.{_≡_, refl, sym, _∙_}
 use native.Mathlib.Omega.{arith}
 use Rattle.plpb.specs.Lists.{_and_}
