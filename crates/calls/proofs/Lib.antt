@@ -1,0 +1,3 @@
+-- What holds of the tests and calls.
+pub mod BitsLeft
+pub mod Opening

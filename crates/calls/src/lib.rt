@@ -1,0 +1,2 @@
+// Opening, flip and counts: each tests what it is lent before it changes a byte.
+pub mod tests;
