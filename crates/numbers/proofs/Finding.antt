@@ -1,25 +1,37 @@
 -- The clause that a pick among the unsatisfied points at is found by its tally: the k-th word that is 0. And the look: no clause is unsatisfied.
 -- Assumes nothing.
-use Prim.Native.Nat.{ℕ, zero, suc, _+_, _-_, _≤_, _<_}
+use Prim.Native.Nat.{ℕ, suc, _+_, _-_, _<_}
 use native.Mathlib.Omega.{arith}
-use mathlib.Core.Path.{_≡_, refl, sym, ap, _∙_}
+use mathlib.Core.Path.{_≡_, sym, ap, _∙_}
 use mathlib.Core.Bool.{Bool, cond}
-use mathlib.Core.List.{List, [], _∷_, map}
+use mathlib.Core.List.{List, [], map}
 use lib.Dec.{T, eqb, ltb, ltb→lt}
 use lib.ListN.{length, getD}
-use Rattle.plpb.specs.Lists.{keep, count, any, row}
+use Rattle.plpb.specs.Lists.{keep, count, row}
 use Rattle.plpb.specs.Plan.{Clause, Plan, Assignment, ruleHolds, clauseHolds, satisfies}
 use Rattle.plpb.specs.Tallies.{unsatisfied, freshCount}
 use Rattle.plpb.proofs.Lists.{none-by-count, all-by-count}
 use Rattle.words.specs.Words.{wordAt}
 use Rattle.numbers.specs.Finding.{marked, zeroWords}
-use Rattle.numbers.proofs.Keep.{keep-each, getD-map, row-below, places, kth-place, place-within}
+use Rattle.numbers.proofs.Keep.{keep-each, keep-map, row-suc, row-below, places, kth-place, place-within}
 
 -- ---- marks
 
 -- The test of variable i + 1 reads byte i.
 pub mark-here : (marks : List ℕ) (v i e : ℕ) → e ≡ cond (eqb (getD marks i 0) v) 1 0 → e ≡ cond (eqb (getD marks (1 + i - 1) 0) v) 1 0
 mark-here marks v i e h = let s : 1 + i - 1 ≡ i = omega arith in rw s h
+
+-- Marks that tell who passes a test give those who do.
+pub marked-by : (marks : List ℕ) (n v : ℕ) (q : ℕ → Bool) → ((i : ℕ) → i < n → eqb (getD marks i 0) v ≡ q (suc i)) → marked marks n v ≡ keep q (row 1 n)
+unfolding marked
+marked-by marks n v q h =
+    ap (keep (λ x. eqb (getD marks (x - 1) 0) v)) (row-suc 0 n)
+    ∙ keep-map (λ x. eqb (getD marks (x - 1) 0) v) suc (row 0 n)
+    ∙ ap (map suc) (keep-each (λ i. ltb i n) (λ i. eqb (getD marks (suc i - 1) 0) v) (λ i. q (suc i)) (row 0 n) agree (row-below 0 n n (omega arith)))
+    ∙ sym (ap (keep q) (row-suc 0 n) ∙ keep-map q suc (row 0 n))
+  where
+    agree : (i : ℕ) → T (ltb i n) → eqb (getD marks (suc i - 1) 0) v ≡ q (suc i)
+    agree i t = let s : suc i - 1 ≡ i = omega arith in rw s (h i (ltb→lt i n t))
 
 -- ---- unsatisfied clauses
 
@@ -32,13 +44,12 @@ pub look-by-count : (p : Plan) (a : Assignment) → satisfies a p ≡ eqb (fresh
 unfolding satisfies freshCount unsatisfied
 look-by-count p a = all-by-count (clauseHolds a) (p .clauses)
 
+-- Where the words behind base others are how many rules of each clause hold, as a fresh count has them.
 module _ (p : Plan) (a : Assignment) (table : List ℕ) (base : ℕ)
-    (fresh : (i : ℕ) → i < length (p .clauses) → wordAt table (base + i) ≡ getD (freshCount p a .rulesHolding) i 0) where
+    (fresh : (i : ℕ) → i < length (p .clauses) → wordAt table (base + i) ≡ count (ruleHolds a) (getD (p .clauses) i [])) where
   zero-test : (i : ℕ) → T (ltb i (length (p .clauses))) → eqb (wordAt table (base + i)) 0 ≡ unsatisfied a (getD (p .clauses) i [])
-  unfolding freshCount
   zero-test i t =
-      let h : i < length (p .clauses) = ltb→lt i (length (p .clauses)) t in
-      ap (λ w. eqb w 0) (fresh i h ∙ getD-map (count (ruleHolds a)) (p .clauses) i [] 0 h)
+      ap (λ w. eqb w 0) (fresh i (ltb→lt i (length (p .clauses)) t))
       ∙ sym (unsatisfied-count a (getD (p .clauses) i []))
 
   pub zero-places : zeroWords table base (length (p .clauses)) ≡ places [] (unsatisfied a) (p .clauses)

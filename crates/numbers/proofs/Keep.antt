@@ -1,16 +1,15 @@
 -- Laws of the elements that pass a test: which is the k-th, as a loop finds it and by its index. Each by induction on the list or the row.
 -- Assumes nothing.
 use Prim.Native.Nat.{ℕ, zero, suc, _+_, _-_, _≤_, _<_}
-use native.Mathlib.Nat.{add-zero, zero-add, not-suc-le-zero, le-of-suc-le-suc}
-use native.Mathlib.Numerals.{one-add}
+use native.Mathlib.Nat.{not-suc-le-zero, le-of-suc-le-suc}
 use native.Mathlib.Omega.{arith}
-use mathlib.Core.Path.{_≡_, refl, sym, ap, ap₂, _∙_, subst}
+use mathlib.Core.Path.{_≡_, refl, sym, ap, ap₂, _∙_}
 use mathlib.Core.Bool.{Bool, true, false, cond}
 use mathlib.Core.List.{List, [], _∷_, map}
 use lib.Dec.{T, ltb, lt→ltb, ltb→lt}
 use lib.ListN.{length, getD, length-map}
 use Rattle.plpb.specs.Lists.{_and_, keep, count, all, row}
-use Rattle.plpb.proofs.Lists.{and-left, and-right, and-both, all-still, all-at, length-row, count-cons}
+use Rattle.plpb.proofs.Lists.{true-and, false-and, and-left, and-right, and-both, all-keep, all-still, all-at, count-cons, is-true}
 
 -- ---- one element more
 
@@ -47,6 +46,17 @@ module _ {A : Type 0} where
   keep-each t p q [] h e = refl
   keep-each t p q (x ∷ xs) h e =
       ap₂ (λ b ys. cond b (x ∷ ys) ys) (h x (and-left (t x) (all t xs) e)) (keep-each t p q xs h (and-right (t x) (all t xs) e))
+
+  -- One test after another is both.
+  pub keep-keep : (p q : A → Bool) (xs : List A) → keep p (keep q xs) ≡ keep (λ x. q x and p x) xs
+  unfolding keep
+  keep-keep p q [] = refl
+  keep-keep p q (x ∷ xs) = kept (q x) (keep-keep p q xs)
+    where
+      kept : (b : Bool) → keep p (keep q xs) ≡ keep (λ y. q y and p y) xs
+          → keep p (cond b (x ∷ keep q xs) (keep q xs)) ≡ cond (b and p x) (x ∷ keep (λ y. q y and p y) xs) (keep (λ y. q y and p y) xs)
+      kept true e = rw (true-and, ← e)
+      kept false e = rw false-and e
 
 module _ {A B : Type 0} where
   keep-mapped : (b : Bool) (f : A → B) (x : A) (xs : List A) → cond b (f x ∷ map f xs) (map f xs) ≡ map f (cond b (x ∷ xs) xs)
@@ -87,6 +97,29 @@ pub row-below : (i k n : ℕ) → i + k ≤ n → T (all (λ j. ltb j n) (row i 
 unfolding row all
 row-below i zero n h = tt
 row-below i (suc k) n h = and-both (ltb i n) (all (λ j. ltb j n) (row (suc i) k)) (lt→ltb i n (omega arith)) (row-below (suc i) k n (omega arith))
+
+row-above : (i k n : ℕ) → n < i → T (all (λ j. ltb n j) (row i k))
+unfolding row all
+row-above i zero n h = tt
+row-above i (suc k) n h = and-both (ltb n i) (all (λ j. ltb n j) (row (suc i) k)) (lt→ltb n i h) (row-above (suc i) k n (omega arith))
+
+-- What is kept of the variables 1 to n is one of them, and passes.
+module _ (q : ℕ → Bool) (n k d : ℕ) (few : k < length (keep q (row 1 n))) where
+  abbrev kth : ℕ
+  kth = getD (keep q (row 1 n)) k d
+
+  pub kept-low : 1 ≤ kth
+  kept-low = ltb→lt 0 kth (all-at (λ j. ltb 0 j) (keep q (row 1 n)) k d (all-still q (λ j. ltb 0 j) (row 1 n) (row-above 1 n 0 (omega arith))) few)
+
+  pub kept-high : kth ≤ n
+  kept-high =
+      let h : kth < suc n =
+      ltb→lt kth (suc n) (all-at (λ j. ltb j (suc n)) (keep q (row 1 n)) k d (all-still q (λ j. ltb j (suc n)) (row 1 n) (row-below 1 n (suc n) (omega arith))) few)
+      in
+      omega arith
+
+  pub kept-passes : q kth ≡ true
+  kept-passes = is-true (q kth) (all-at q (keep q (row 1 n)) k d (all-keep q (row 1 n)) few)
 
 -- ---- the k-th that passes, found by going through a row
 

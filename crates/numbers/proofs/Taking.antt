@@ -1,13 +1,13 @@
 -- What a need for numbers comes to over a list in bytes, and what the answer to one tells a caller.
 -- Assumes nothing.
-use Prim.Native.Nat.{ℕ, zero, suc, _+_, _*_, _/_, _%_, _^_, _≤_, _<_}
+use Prim.Native.Nat.{ℕ, zero, suc, _+_, _/_, _%_, _^_, _≤_, _<_}
 use native.Mathlib.Nat.{zero-add, mod-lt}
 use native.Mathlib.Numerals.{add-one}
 use native.Mathlib.Omega.{arith}
 use mathlib.Core.Path.{_≡_, refl, sym, ap, _∙_, subst}
 use mathlib.Core.Bool.{Bool, true, false, cond}
-use mathlib.Core.List.{List, [], _∷_, _++_, map}
-use borrow.Author.Tests.{le-leb, lt-leb, eqb-true}
+use mathlib.Core.List.{List, _++_}
+use borrow.Author.Tests.{le-leb, lt-leb}
 use lib.Dec.{leb, eqb}
 use lib.ListN.{length, getD, set, take, drop, length-map}
 use lib.Seq.{drop-cons, take-suc, append-snoc, set-at, length-take-le, getD-take, getD-drop}

@@ -36,7 +36,7 @@ pub fn pick(numbers: &[u8], used: usize, m: usize) -> Picked
     }
 }
 
-// A bit of a number, 0 being the lowest. A shift, since a division by 2^i would be one.
+// A bit of a number, 0 being the lowest.
 fn bit_of(number: u32, i: u32) -> u8
     requires { ⌜ i < 32 ⌝ }
     ensures { λ r. ⌜ r ≡ cond (bit i number) 1 0 ⌝ }

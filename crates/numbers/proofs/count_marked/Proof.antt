@@ -3,12 +3,12 @@
 use borrow.Author.Needs.{needs}
 use Rattle.numbers.proofs.count_marked.Statement.{statement}
 use Rattle.numbers.proofs.count_marked.Tie as tie
-use Prim.Native.Nat.{ℕ, _+_, _-_, _≤_, _<_}
+use Prim.Native.Nat.{ℕ, _+_, _-_, _≤_}
 use native.Mathlib.Nat.{zero-add}
 use native.Mathlib.Omega.{arith}
 use mathlib.Core.Bool.{Bool}
 use mathlib.Core.List.{List}
-use mathlib.Core.Path.{_≡_, ap, sym, _∙_}
+use mathlib.Core.Path.{_≡_, ap, _∙_}
 use lib.Dec.{eqb}
 use lib.ListN.{length, getD}
 use Rattle.numbers.specs.Finding.{marked}

@@ -3,7 +3,7 @@
 use borrow.Author.Needs.{needs}
 use Rattle.numbers.proofs.nth.Statement.{statement}
 use Rattle.numbers.proofs.nth.Tie as tie
-use Prim.Native.Nat.{ℕ, _+_, _-_, _≤_, _<_}
+use Prim.Native.Nat.{ℕ, _-_, _≤_}
 use native.Mathlib.Omega.{arith}
 use mathlib.Core.Bool.{Bool}
 use mathlib.Core.List.{List}

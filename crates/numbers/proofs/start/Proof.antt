@@ -4,7 +4,6 @@ use borrow.Author.Needs.{needs}
 use Rattle.numbers.proofs.start.Statement.{statement}
 use Rattle.numbers.proofs.start.Tie as tie
 use mathlib.Core.Path.{refl}
-use native.Mathlib.Omega.{arith}
 use Rattle.plpb.specs.Numbers.{startWords}
 use Rattle.numbers.proofs.Taking.{starts-taken, starts-short}
 

@@ -3,10 +3,10 @@
 use borrow.Author.Needs.{needs}
 use Rattle.numbers.proofs.write_start.Statement.{statement}
 use Rattle.numbers.proofs.write_start.Tie as tie
-use Prim.Native.Nat.{ℕ, _+_, _-_, _/_, _≤_, _<_}
+use Prim.Native.Nat.{ℕ, _-_, _≤_, _<_}
 use native.Mathlib.Omega.{arith}
 use mathlib.Core.List.{List, _++_}
-use mathlib.Core.Path.{_≡_, refl, ap, sym, _∙_}
+use mathlib.Core.Path.{_≡_, refl, ap, _∙_}
 use lib.ListN.{length, set, take, drop, length-set}
 use lib.Seq.{take-all}
 use Rattle.plpb.specs.Numbers.{startWords, startOf}
