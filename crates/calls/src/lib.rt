@@ -1,2 +1,3 @@
 // Opening, flip and counts: each tests what it is lent before it changes a byte.
+pub mod open;
 pub mod tests;
