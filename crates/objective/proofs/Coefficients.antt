@@ -1,16 +1,16 @@
 -- Sums over the variables: the objective's terms, read back from the table, sum up as its coefficients do, because a variable without a term has
 -- coefficient 0.
 use Prim.Native.Nat.{ℕ, zero, suc, _+_, _*_, _-_, _≤_, _<_, zero-le}
-use native.Mathlib.Nat.{eq-or-lt-of-le, zero-add}
+use native.Mathlib.Nat.{eq-or-lt-of-le}
 use native.Mathlib.Numerals.{add-one}
 use native.Mathlib.Omega.{arith}
-use mathlib.Core.Path.{_≡_, refl, sym, ap, _∙_, fun-ext}
+use mathlib.Core.Path.{_≡_, refl, sym, ap, _∙_}
 use mathlib.Core.Bool.{Bool, true, false, cond}
-use mathlib.Core.List.{List, [], _∷_, map}
+use mathlib.Core.List.{List, [], _∷_}
 use mathlib.Core.Logic.{⊎-elim}
 use lib.Dec.{eqb}
 use lib.IntN.{ℤ, pos, negsuc, natAbs, _+ℤ_, +ℤ-idl, +ℤ-idr, +ℤ-assoc}
-use lib.ListN.{length, getD, take, List·getD-map}
+use lib.ListN.{getD, take, List·getD-map}
 use lib.Seq.{getD-take}
 use lib.Signed.{ltZ}
 use mir.Facts.{toZ-ofZ}
@@ -18,7 +18,7 @@ use mir.Syntax.{w64}
 use mir.Val.{SFits, toZ, ofZ}
 use borrow.Author.Tests.{ltb-true}
 use Rattle.plpb.specs.Lists.{keep, row}
-use Rattle.plpb.specs.Plan.{Term, Assignment, value, total, negativePart, leastTotal}
+use Rattle.plpb.specs.Plan.{Term, value, total, negativePart, leastTotal}
 use Rattle.words.specs.Words.{wordAt, signed}
 use Rattle.format.specs.Tables.{objectiveOf}
 use Rattle.format.proofs.Bounds.{natAbs-zero}

@@ -1,12 +1,12 @@
 -- The sums that code works out from the tables are those of the plan that they hold; and how large costs, l(O) and the bounds of the tightening
 -- are: an objective has at most 512 terms, each of at most a million.
-use Prim.Native.Nat.{ℕ, zero, suc, _+_, _*_, _/_, _≤_, _<_, zero-le}
+use Prim.Native.Nat.{ℕ, suc, _+_, _*_, _/_, _≤_, zero-le}
 use native.Mathlib.Omega.{arith}
-use mathlib.Core.Path.{_≡_, refl, sym, ap, _∙_}
+use mathlib.Core.Path.{_≡_, ap}
 use mathlib.Core.Bool.{Bool, true, false, cond}
 use mathlib.Core.List.{List, [], _∷_}
 use lib.Dec.{T}
-use lib.IntN.{ℤ, pos, negsuc, natAbs, _+ℤ_, _-ℤ_, _*ℤ_}
+use lib.IntN.{ℤ, pos, negsuc, natAbs, _+ℤ_, _*ℤ_}
 use lib.ListN.{length, take, length-take}
 use Rattle.plpb.specs.Lists.{all}
 use Rattle.plpb.specs.Plan.{Term, Plan, Assignment, value, total, cost, negativePart, leastTotal, floorCost, rising}
@@ -14,11 +14,11 @@ use Rattle.plpb.specs.Search.{third, lbsBound, linearBound}
 use Rattle.words.specs.Words.{wordBytes, wordAt}
 use Rattle.words.proofs.Words.{length-wordBytes}
 use Rattle.format.specs.Limits.{roomy}
-use Rattle.format.specs.Tables.{coefficient, tableWords, termWords, tableSize, termSize, Holds, objectiveOf, planIn, planOfTables}
+use Rattle.format.specs.Tables.{tableWords, termWords, tableSize, termSize, Holds, objectiveOf, planIn, planOfTables}
 use Rattle.format.proofs.Bools.{and-left, and-right}
-use Rattle.format.proofs.Lawful.{termWithin, weight-small, terms-short, roomy-parts, RoomyPlan}
+use Rattle.format.proofs.Lawful.{termWithin, weight-small, terms-short, roomy-parts}
 use Rattle.format.proofs.Sections.{Sections, length-tableWords, length-termWords}
-use Rattle.format.proofs.ReadBack.{holds-sections, cost-back, plan-back, read-back}
+use Rattle.format.proofs.ReadBack.{holds-sections, cost-back, read-back}
 use Rattle.format.proofs.WordBounds.{coefficient-small}
 use Rattle.counting.proofs.Signed.{size-sum, size-double}
 use Rattle.objective.specs.Sums.{costIn, floorIn, weightAt, Summable}

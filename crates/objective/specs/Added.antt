@@ -1,6 +1,6 @@
 -- The added last clause, as words written over the tables.
 -- Assumes nothing.
-use Prim.Native.Nat.{ℕ, suc, _+_, _*_, _-_, _<_}
+use Prim.Native.Nat.{ℕ, _+_, _*_, _<_}
 use mathlib.Core.List.{List, [], _∷_}
 use lib.Dec.{T}
 use lib.IntN.{ℤ}
@@ -20,11 +20,11 @@ putWords i ws s = put (4 * i) (wordBytes ws) s
 unfoldable pub termsAbove : List ℕ → ℕ → ℕ → List Term
 termsAbove tables v k = sparse (λ x. signed (wordAt tables (3 + x))) v k
 
--- One clause more, of one rule more, whose terms end before term `end`: "the added last clause O ≤ m", mode 2 for an upper bound alone.
+-- One clause more, of one rule more with `count` terms: "the added last clause O ≤ m", of mode 2 for an upper bound alone.
 unfoldable pub addedEntries : ℕ → ℕ → List ℕ → List ℕ
-addedEntries end bound s =
-    putWords 1 (suc (wordAt s 1) ∷ suc (wordAt s 2) ∷ end ∷ [])
-    (putWords (1_542 + 5 * wordAt s 2) (wordAt s 3 ∷ (end - wordAt s 3) ∷ 2 ∷ 0 ∷ bound ∷ [])
+addedEntries count bound s =
+    putWords 1 ((wordAt s 1 + 1) ∷ (wordAt s 2 + 1) ∷ (wordAt s 3 + count) ∷ [])
+    (putWords (1_542 + 5 * wordAt s 2) (wordAt s 3 ∷ count ∷ 2 ∷ 0 ∷ bound ∷ [])
     (putWords (516 + 2 * wordAt s 1) (wordAt s 2 ∷ 1 ∷ []) s))
 
 -- "Each added clause replaces the one before": the last rule's upper bound.

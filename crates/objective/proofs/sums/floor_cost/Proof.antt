@@ -1,9 +1,9 @@
 -- `floor_cost` meets its contract. The invariant: the sum and what the variables to come cost at least are l(O). The measure is what is left.
 -- Assumes nothing.
 use borrow.Author.Needs.{needs}
-use Prim.Native.Nat.{_-_, _≤_, _<_}
+use Prim.Native.Nat.{_-_, _≤_}
 use native.Mathlib.Omega.{arith}
-use mathlib.Core.Path.{_≡_, sym, ap, _∙_}
+use mathlib.Core.Path.{sym, ap, _∙_}
 use lib.IntN.{natAbs}
 use mir.Syntax.{w64}
 use mir.Val.{toZ}
