@@ -5,14 +5,17 @@ use mathlib.Core.Path.{_≡_, refl, sym, _∙_}
 use mathlib.Core.Bool.{true, false, cond}
 use mathlib.Core.List.{List, _++_}
 use lib.Dec.{eqb, eqb·suc-zero}
-use lib.ListN.{length, drop}
-use Rattle.format.specs.Tables.{planOfTables}
+use lib.ListN.{length, take, drop}
+use Rattle.plpb.specs.Plan.{isVariable}
+use Rattle.plpb.specs.Count.{cappedBreak, cappedMake}
+use Rattle.format.specs.File.{refuse}
+use Rattle.format.specs.Tables.{planOfTables, sameBytes}
 use Rattle.format.proofs.Lawful.{lawful-roomy}
-use Rattle.format.proofs.IsLoaded.{isLoaded-lawful, isLoaded-holds}
-use Rattle.tallies.specs.Layout.{tallySize}
-use Rattle.tallies.specs.Calls.{Lent, plan, freshBytes, openRefusal, openTallies}
-use Rattle.tallies.specs.Core.{Laid, Ready, counted}
-use Rattle.tallies.proofs.Refusals.{Opens, opens, assignment-room, tallies-room}
+use Rattle.format.proofs.IsLoaded.{isLoaded-lawful, isLoaded-holds, same-equal}
+use Rattle.tallies.specs.Layout.{tallySize, bitsOf}
+use Rattle.tallies.specs.Calls.{Lent, plan, freshBytes, openRefusal, openTallies, callRefusal, turned, flipAssignment, flipTallies, countsBreak, countsMake}
+use Rattle.tallies.specs.Core.{Laid, Ready, Flippable, counted}
+use Rattle.tallies.proofs.Refusals.{Opens, opens, takes, only-variable, variable-range, assignment-room, tallies-room}
 
 module _ (l : Lent) where
   pub opens-ready : Opens l → Ready (l .tables) (l .terms) (l .assignment)
@@ -34,3 +37,53 @@ module _ (l : Lent) where
   pub open-accepted : openRefusal l ≡ 0 → counted (l .tables) (l .terms) (l .assignment) (l .tallies) ≡ openTallies l
   unfolding openTallies freshBytes plan
   open-accepted e = rw e
+
+-- ---- flip and counts
+
+module _ (l : Lent) (x : ℕ) where
+  pub call-25 : openRefusal l ≡ 0 → sameBytes (take tallySize (l .tallies)) (freshBytes l) ≡ false → 25 ≡ callRefusal l x
+  unfolding callRefusal refuse
+  call-25 e f = rw (e, f)
+
+  pub call-variable : openRefusal l ≡ 0 → sameBytes (take tallySize (l .tallies)) (freshBytes l) ≡ true → cond (isVariable (plan l) x) 0 23 ≡ callRefusal l x
+  call-variable e f = sym (only-variable l x (opens l e) (same-equal _ _ f))
+
+  pub call-first : (k : ℕ) → k ≡ openRefusal l → (k ≡ 0 → ⊥) → k ≡ callRefusal l x
+  unfolding callRefusal
+  call-first zero e n = absurd (n refl)
+  call-first (suc k) e n = rw (sym e, eqb·suc-zero k)
+
+  pub flip-refused : (k : ℕ) → k ≡ callRefusal l x → (k ≡ 0 → ⊥) → (l .assignment ≡ flipAssignment l x) × (l .tallies ≡ flipTallies l x)
+  unfolding flipAssignment flipTallies
+  flip-refused zero e n = absurd (n refl)
+  flip-refused (suc k) e n = (rw (sym e, eqb·suc-zero k), rw (sym e, eqb·suc-zero k))
+
+  pub flip-accepted : callRefusal l x ≡ 0
+      → (turned (l .assignment) x ≡ flipAssignment l x)
+      × (counted (l .tables) (l .terms) (turned (l .assignment) x) (l .tallies) ≡ flipTallies l x)
+  unfolding flipAssignment flipTallies freshBytes plan
+  flip-accepted e = (rw e, rw e)
+
+  pub flippable : callRefusal l x ≡ 0 → Flippable (l .tables) (l .terms) (l .assignment) (l .tallies) x
+  unfolding freshBytes plan
+  flippable e =
+      let t = takes l x e in
+      let r = variable-range (plan l) x (t .variable) in
+      record {
+        ready = opens-ready l (t .opening);
+        bits = t .opening .bits;
+        low = r .0;
+        high = r .1;
+        fresh = t .fresh;
+      }
+
+  pub counts-refused : (k : ℕ) → k ≡ callRefusal l x → (k ≡ 0 → ⊥) → (0 ≡ countsBreak l x) × (0 ≡ countsMake l x)
+  unfolding countsBreak countsMake
+  counts-refused zero e n = absurd (n refl)
+  counts-refused (suc k) e n = (rw (sym e, eqb·suc-zero k), rw (sym e, eqb·suc-zero k))
+
+  pub counts-accepted : callRefusal l x ≡ 0
+      → (cappedBreak (plan l) (bitsOf (plan l .variables) (l .assignment)) x ≡ countsBreak l x)
+      × (cappedMake (plan l) (bitsOf (plan l .variables) (l .assignment)) x ≡ countsMake l x)
+  unfolding countsBreak countsMake
+  counts-accepted e = (rw e, rw e)
