@@ -9,12 +9,13 @@ use mathlib.Core.List.{List, [], _∷_}
 use lib.Dec.{T, eqb}
 use lib.ListN.{length, take}
 use borrow.Author.Tests.{eqb-true, eqb-false}
-use Rattle.plpb.specs.Lists.{_and_}
-use Rattle.plpb.specs.Plan.{Term, Rule, Assignment, value, flip, rising, ruleHolds}
-use Rattle.plpb.specs.Normal.{literal, literalTrue, size, rise, K, P, N}
+use Rattle.plpb.specs.Lists.{_and_, _or_, any, sumBy}
+use Rattle.plpb.specs.Plan.{Term, Rule, Assignment, value, flip, rising, ruleHolds, namedIn}
+use Rattle.plpb.specs.Normal.{literal, literalTrue, size, rise, K, P, N, sizeA, sizeB}
 use Rattle.plpb.specs.Equations.{Standing, out, on, off, standing, shares, sharesOf}
+use Rattle.plpb.proofs.Lists.{or-left, false-or, false-T}
 use Rattle.plpb.proofs.Normal.{P-at-most-K, N-and-P, belowSize, lower-by-size, upper-by-size}
-use Rattle.plpb.proofs.Flip.{flip-literal-same}
+use Rattle.plpb.proofs.Flip.{flip-literal-same, flip-literal-other}
 use Rattle.plpb.proofs.Equations.{lost, gained, P-flipped}
 use Rattle.counting.specs.Bound.{boundOf}
 use Rattle.words.specs.Words.{wordAt, signed}
@@ -24,16 +25,18 @@ use Rattle.format.specs.Tables.{ruleOf}
 use Rattle.format.proofs.Bools.{and-first, and-stop, T-true, true-T}
 use Rattle.format.proofs.Lawful.{rule-parts, terms-whole}
 use Rattle.rules.specs.declared.entry.Entry.{Entry}
-use Rattle.rules.specs.declared.sums.Stands.{Stands}
-use Rattle.rules.specs.declared.sums.Stands.the-variants.{Out, On, Off}
+use Rattle.rules.specs.declared.place.Stands.{Stands}
+use Rattle.rules.specs.declared.place.Stands.the-variants.{Out, On, Off}
 use Rattle.rules.specs.declared.sums.Sums.{Sums}
 use Rattle.rules.specs.declared.state.State.{State}
 use Rattle.rules.specs.Terms.{bitsIn, termsAt, Readable}
-use Rattle.rules.specs.Sums.{standingIn, Summed}
-use Rattle.rules.specs.Rules.{EntryAt, ruleAt, RuleReadable, lowerSize, upperSize}
+use Rattle.rules.specs.Sums.{Summed}
+use Rattle.rules.specs.Places.{standingIn, standingAt, Found, Searchable}
+use Rattle.rules.specs.Rules.{EntryAt, ruleAt, RuleSearchable, RuleReadable, lowerSize, upperSize}
 use Rattle.rules.specs.State.{Balanced, StateOf, Made, holdsIn, sharesFrom, opposite, Turned}
 use Rattle.rules.proofs.Terms.{first-bits, lawful-legal, readable}
-use Rattle.rules.proofs.Summing.{rise-at-most-K, K-at-most, lost-in-P, gained-beside-P, P-same, standing-same}
+use Rattle.rules.proofs.Summing.{P-same}
+use Rattle.rules.proofs.Finding.{terms-searchable, lost-in-P, gained-beside-P, standing-same}
 use Rattle.rules.proofs.Sizes.{rule-lower, rule-upper}
 
 -- ---- what a state says of its rule
@@ -61,10 +64,17 @@ one-fails {a} b p f = f ∙ sym (and-stop a b (sym p ∙ f))
 pub entry-readable : {tables terms assignment : List ℕ} {at : ℕ} {e : Entry} → EntryAt (wordAt tables) at e → RuleReadable tables terms assignment at → Readable terms assignment (e .first) (e .count)
 entry-readable d r = rw (d .first, d .count) (r .body)
 
+pub entry-searchable : {tables terms : List ℕ} {at : ℕ} {e : Entry} → EntryAt (wordAt tables) at e → RuleSearchable tables terms at → Searchable terms (e .first) (e .count)
+entry-searchable d r = rw (d .first, d .count) (r .body)
+
+pub entry-named : {f : ℕ → ℕ} (g : ℕ → ℕ) {at : ℕ} {e : Entry} (x : ℕ) {b : Bool} → EntryAt f at e → namedIn x (termsAt g (e .first) (e .count)) ≡ b → b ≡ namedIn x (ruleAt f g at .terms)
+unfolding ruleAt
+entry-named g x d h = sym h ∙ ap (namedIn x) (ap₂ (termsAt g) (d .first) (d .count))
+
 -- The entry's words and the sums of its terms make the state of the rule.
-pub state-made : {f : ℕ → ℕ} (g : ℕ → ℕ) {at : ℕ} {a : Assignment} {x : ℕ} {e : Entry} {s : Sums} {r : State} → EntryAt f at e → Summed a x (termsAt g (e .first) (e .count)) s → s .k < 4_294_967_296 → Made e s r → StateOf a x (ruleAt f g at) r
+pub state-made : {f : ℕ → ℕ} (g : ℕ → ℕ) {at : ℕ} {a : Assignment} {x : ℕ} {e : Entry} {s : Sums} {z : Stands} {r : State} → EntryAt f at e → Summed a (termsAt g (e .first) (e .count)) s → s .k < 4_294_967_296 → standingIn z ≡ standing a x (termsAt g (e .first) (e .count)) → Made e s z r → StateOf a x (ruleAt f g at) r
 unfolding ruleAt N
-state-made {f} g {at} {a} {x} {e} {s} {r} d m small h =
+state-made {f} g {at} {a} {x} {e} {s} {z} {r} d m small k h =
     record {
       falses = falses;
       trues = trues;
@@ -97,7 +107,7 @@ state-made {f} g {at} {a} {x} {e} {s} {r} d m small h =
     falses = h .falses ∙ ap₂ _-_ whole (m .trues ∙ ap (P a) same)
 
     stands : standingIn (r .stands) ≡ standing a x ts
-    stands = ap standingIn (h .stands) ∙ m .stands ∙ ap (standing a x) same
+    stands = ap standingIn (h .stands) ∙ k ∙ ap (standing a x) same
 
 -- ---- a state turned over
 
@@ -171,6 +181,42 @@ module _ (s : State) (b : Balanced s) where
         balanced = record { small = omega (arith, b .small); loses = omega arith; gains = omega arith };
       }
 
+-- ---- for callers: a rule that does not name the variable is not touched by its flip
+
+unnamed-out : (a : Assignment) (x : ℕ) (ts : List Term) → namedIn x ts ≡ false → standing a x ts ≡ out
+unfolding namedIn any standing
+unnamed-out a x [] h = refl
+unnamed-out a x (t ∷ ts) h = at (eqb (t .variable) x) (unnamed-out a x ts) h
+  where
+    at : (b : Bool) → (namedIn x ts ≡ false → standing a x ts ≡ out) → b or namedIn x ts ≡ false → cond b (cond (literalTrue a (literal t)) (on (size t)) (off (size t))) (standing a x ts) ≡ out
+    at true ih k = absurd (false-T k (or-left true (namedIn x ts) tt))
+    at false ih k = ih (sym (false-or (namedIn x ts)) ∙ k)
+
+unnamed-trues : (a : Assignment) (x : ℕ) (ts : List Term) → namedIn x ts ≡ false → P (flip a x) ts ≡ P a ts
+unfolding namedIn any P sumBy literal
+unnamed-trues a x [] h = refl
+unnamed-trues a x (t ∷ ts) h = at (eqb (t .variable) x) refl (unnamed-trues a x ts) h
+  where
+    at : (b : Bool) → eqb (t .variable) x ≡ b → (namedIn x ts ≡ false → P (flip a x) ts ≡ P a ts) → b or namedIn x ts ≡ false → cond (literalTrue (flip a x) (literal t)) (size t) 0 + P (flip a x) ts ≡ cond (literalTrue a (literal t)) (size t) 0 + P a ts
+    at true e ih k = absurd (false-T k (or-left true (namedIn x ts) tt))
+    at false e ih k =
+        ap₂ (λ c n. cond c (size t) 0 + n) (flip-literal-other a x (literal t) (eqb-false (t .variable) x e)) (ih (sym (false-or (namedIn x ts)) ∙ k))
+
+module _ (a : Assignment) (x : ℕ) (q : Rule) (away : namedIn x (q .terms) ≡ false) where
+  pub unnamed-P : P (flip a x) (q .terms) ≡ P a (q .terms)
+  unnamed-P = unnamed-trues a x (q .terms) away
+
+  pub unnamed-holds : ruleHolds (flip a x) q ≡ ruleHolds a q
+  unfolding ruleHolds N
+  unnamed-holds =
+      ap₂ _and_
+      (lower-by-size (flip a x) q ∙ ap (λ p. belowSize (K (q .terms) - p) (sizeA q)) unnamed-P ∙ sym (lower-by-size a q))
+      (upper-by-size (flip a x) q ∙ ap (λ p. belowSize p (sizeB q)) unnamed-P ∙ sym (upper-by-size a q))
+
+  pub unnamed-shares : (sharesOf a x q .e ≡ 0) × (sharesOf a x q .f ≡ 0)
+  unfolding sharesOf shares
+  unnamed-shares = rw (unnamed-out a x (q .terms) away) (refl, refl)
+
 -- ---- for callers: the rules of tables that hold a plan of n variables
 
 -- A rule with lawful terms can be read ..
@@ -179,6 +225,10 @@ module _ (tables terms assignment : List ℕ) (at n : ℕ) where
   unfolding ruleAt
   rule-readable entry inside small bytes t =
       record { entry = entry; body = readable terms assignment (wordAt tables at) (wordAt tables (at + 1)) n inside small bytes t }
+
+  -- .. and searched for a variable without an assignment ..
+  pub readable-searchable : RuleReadable tables terms assignment at → RuleSearchable tables terms at
+  readable-searchable r = record { entry = r .entry; body = terms-searchable (r .body) }
 
 -- .. and its state is that under any assignment that says the same of the plan's variables, so that under the first n bytes.
 pub state-same : (n : ℕ) {a b : Assignment} {x : ℕ} {q : Rule} {s : State} → ((v : ℕ) → v ≤ n → value a v ≡ value b v) → T (termsLawful n (q .terms)) → StateOf a x q s → StateOf b x q s

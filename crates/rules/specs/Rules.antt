@@ -12,6 +12,7 @@ use Rattle.words.specs.Words.{wordAt, signed}
 use Rattle.format.specs.File.{boundOf}
 use Rattle.rules.specs.declared.entry.Entry.{Entry}
 use Rattle.rules.specs.Terms.{termsAt, Readable}
+use Rattle.rules.specs.Places.{Searchable}
 
 -- The entry whose five words begin at a place.
 pub record EntryAt (f : ℕ → ℕ) (at : ℕ) (e : Entry) : Type 0 where
@@ -30,7 +31,11 @@ ruleAt f g at =
       terms = termsAt g (f at) (f (at + 1));
     }
 
--- What reading that rule needs.
+-- What the search for a variable in that rule needs, and what reading it.
+pub record RuleSearchable (tables terms : List ℕ) (at : ℕ) : Type 0 where
+  pub entry : 4 * at + 20 ≤ length tables
+  pub body : Searchable terms (wordAt tables at) (wordAt tables (at + 1))
+
 pub record RuleReadable (tables terms assignment : List ℕ) (at : ℕ) : Type 0 where
   pub entry : 4 * at + 20 ≤ length tables
   pub body : Readable terms assignment (wordAt tables at) (wordAt tables (at + 1))

@@ -14,8 +14,9 @@ use Rattle.counting.specs.Bound.{boundOf}
 use Rattle.format.specs.File.{boundOf as boundIn}
 use Rattle.rules.specs.declared.entry.Entry.{Entry}
 use Rattle.rules.specs.declared.sums.Sums.{Sums}
+use Rattle.rules.specs.declared.place.Stands.{Stands}
 use Rattle.rules.specs.declared.state.State.{State}
-use Rattle.rules.specs.Sums.{standingIn}
+use Rattle.rules.specs.Places.{standingIn}
 use Rattle.rules.specs.Rules.{lowerSize, upperSize}
 
 -- N and P together are a word, and the variable's weight is in the one or in the other.
@@ -34,10 +35,10 @@ pub record StateOf (a : Assignment) (x : ℕ) (q : Rule) (s : State) : Type 0 wh
   pub balanced : Balanced s
 
 -- What a state is made of.
-pub record Made (e : Entry) (s : Sums) (r : State) : Type 0 where
+pub record Made (e : Entry) (s : Sums) (z : Stands) (r : State) : Type 0 where
   pub falses : r .n ≡ s .k - s .p
   pub trues : r .p ≡ s .p
-  pub stands : r .stands ≡ s .stands
+  pub stands : r .stands ≡ z
   pub lower : boundOf (r .a) ≡ lowerSize (s .k - s .rise) (boundIn 2 (e .mode) (e .lower))
   pub upper : boundOf (r .b) ≡ upperSize (s .rise) (boundIn 1 (e .mode) (e .upper))
 

@@ -2,18 +2,22 @@
 // how it stands once the variable is turned over.
 ghost use mathlib.Core.Path.{_≡_};
 ghost use Prim.Native.Nat.{_≤_};
+ghost use Rattle.plpb.specs.Plan.{namedIn};
 ghost use Rattle.plpb.proofs.Normal.{belowSize};
 ghost use Rattle.counting.specs.Bound.{boundOf};
 ghost use Rattle.counting.specs.Shares.{sharesIn, cappedShares};
 ghost use Rattle.words.specs.Words.{wordAt};
 ghost use Rattle.rules.specs.Terms.{bitsIn};
-ghost use Rattle.rules.specs.Rules.{ruleAt, RuleReadable};
+ghost use Rattle.rules.specs.Rules.{ruleAt, RuleSearchable, RuleReadable};
 ghost use Rattle.rules.specs.State.{Balanced, StateOf, Made, holdsIn, sharesFrom, Turned};
 use crate::entry::Entry;
 use crate::entry::read_entry;
+use crate::place::Place;
+use crate::place::Stands;
+use crate::place::find;
+use crate::place::stands_at;
 use crate::size::lower_size;
 use crate::size::upper_size;
-use crate::sums::Stands;
 use crate::sums::Sums;
 use crate::sums::scan;
 use counting::bound::Bound;
@@ -42,11 +46,10 @@ fn below(n: u32, size: Bound) -> bool
 }
 
 impl State {
-    fn of(e: Entry, s: Sums) -> State
+    fn of(e: Entry, s: Sums, stands: Stands) -> State
         requires { ⌜ (s .p ≤ s .k) × (s .rise ≤ s .k) ⌝ }
-        ensures { λ r. ⌜ Made e s r ⌝ }
+        ensures { λ r. ⌜ Made e s stands r ⌝ }
     {
-        let stands = s.stands;
         State {
             n: s.k - s.p,
             p: s.p,
@@ -108,11 +111,26 @@ impl State {
     }
 }
 
-// The rule whose entry begins at a word of the table.
+// Whether the rule whose entry begins at a word of the table names a variable. It reads no weight, so it is cheap to ask first.
+pub fn names(tables: &[u8], terms: &[u8], at: usize, x: u32) -> bool
+    requires { ⌜ RuleSearchable (now tables) (now terms) at ⌝ }
+    ensures { λ r. ⌜ r ≡ namedIn x (ruleAt (wordAt (now (tables .entry))) (wordAt (now (terms .entry))) at .terms) ⌝ }
+{
+    let e = read_entry(tables, at);
+    let place = find(terms, e.first, e.count, x);
+    match place {
+        Place::Nowhere => false,
+        Place::At(_) => true,
+    }
+}
+
+// The state of that rule, seen from a variable; from 0 where it does not matter.
 pub fn read_state(tables: &[u8], terms: &[u8], assignment: &[u8], at: usize, x: u32) -> State
     requires { ⌜ RuleReadable (now tables) (now terms) (now assignment) at ⌝ }
     ensures { λ r. ⌜ StateOf (bitsIn (now (assignment .entry))) x (ruleAt (wordAt (now (tables .entry))) (wordAt (now (terms .entry))) at) r ⌝ }
 {
     let e = read_entry(tables, at);
-    State::of(e, scan(terms, assignment, e.first, e.count, x))
+    let sums = scan(terms, assignment, e.first, e.count);
+    let stands = stands_at(terms, assignment, find(terms, e.first, e.count, x));
+    State::of(e, sums, stands)
 }
