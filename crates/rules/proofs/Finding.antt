@@ -1,4 +1,4 @@
--- Laws of where a variable occurs among terms whose numbers rise: before its place all are smaller, and behind a larger one it does not occur.
+-- Laws of where a variable occurs among the terms of a rule, found from the last term to the first, and of how it stands there.
 -- Assumes nothing.
 use Prim.Native.Nat.{ℕ, zero, suc, _+_, _*_, _-_, _≤_, _<_, zero-le}
 use native.Mathlib.Nat.{zero-add, add-zero, add-suc, suc-add, sub-zero}
@@ -10,11 +10,11 @@ use mathlib.Core.List.{List, [], _∷_}
 use lib.Dec.{T, ltb, eqb, ltb→lt, lt→ltb}
 use lib.ListN.{length}
 use borrow.Author.Tests.{eqb-true, eq-eqb, ne-eqb}
-use Rattle.plpb.specs.Lists.{all, any, row, sumBy}
+use Rattle.plpb.specs.Lists.{_or_, all, any, row, sumBy}
 use Rattle.plpb.specs.Plan.{Term, Assignment, value, flip, risingAbove, rising, namedIn}
 use Rattle.plpb.specs.Normal.{literal, literalTrue, size, K, P}
 use Rattle.plpb.specs.Equations.{Standing, out, on, off, standing}
-use Rattle.plpb.proofs.Lists.{and-left, and-right, and-both, true-or, false-or}
+use Rattle.plpb.proofs.Lists.{and-left, and-right}
 use Rattle.plpb.proofs.Normal.{P-at-most-K}
 use Rattle.plpb.proofs.Flip.{flip-literal-same}
 use Rattle.plpb.proofs.Equations.{lost, gained}
@@ -25,125 +25,63 @@ use Rattle.rules.specs.declared.place.Place.{Place}
 use Rattle.rules.specs.declared.place.Place.the-variants.{Nowhere, At}
 use Rattle.rules.specs.declared.term.Literal.{Literal}
 use Rattle.rules.specs.Terms.{LiteralOf, termsAt, Readable}
-use Rattle.rules.specs.Places.{Searchable, standingOf, standingAt, isPlace, Among, PlaceReadable, Found}
+use Rattle.rules.specs.Places.{placeOf, standingOf, standingAt, isPlace, Among, PlaceReadable, Found}
 use Rattle.rules.proofs.Terms.{termLegal, term-readable, terms-none, terms-next}
 use Rattle.rules.proofs.Summing.{literal-same}
 
--- ---- among any terms
+-- ---- the search: it starts behind the last term and takes one more in front
 
 module _ (x : ℕ) (t : Term) (ts : List Term) where
-  named-here : t .variable ≡ x → namedIn x (t ∷ ts) ≡ true
+  named-first : (b : Bool) → eqb (t .variable) x ≡ b → namedIn x (t ∷ ts) ≡ b or namedIn x ts
   unfolding namedIn any
-  named-here e = rw (eq-eqb (t .variable) x e) (true-or _)
+  named-first b e = rw e refl
 
-  named-later : (t .variable ≡ x → ⊥) → namedIn x (t ∷ ts) ≡ namedIn x ts
-  unfolding namedIn any
-  named-later e = rw (ne-eqb (t .variable) x e) (false-or _)
-
-  stands-here : (a : Assignment) → t .variable ≡ x → standing a x (t ∷ ts) ≡ standingOf a t
+  stands-first : (a : Assignment) (b : Bool) → eqb (t .variable) x ≡ b → standing a x (t ∷ ts) ≡ cond b (standingOf a t) (standing a x ts)
   unfolding standing standingOf
-  stands-here a e = rw (eq-eqb (t .variable) x e) refl
+  stands-first a b e = rw e refl
 
-  stands-later : (a : Assignment) → (t .variable ≡ x → ⊥) → standing a x (t ∷ ts) ≡ standing a x ts
-  unfolding standing
-  stands-later a e = rw (ne-eqb (t .variable) x e) refl
+among-more : (i k m : ℕ) → Among (suc i) k (placeOf m) → Among i (suc k) (placeOf m)
+among-more i k zero h = tt
+among-more i k (suc j) h = (omega (arith, h .0), omega (arith, h .1))
 
--- ---- among terms whose numbers rise
+module _ (g : ℕ → ℕ) (x : ℕ) where
+  found-nothing : (i : ℕ) → Found g i 0 x Nowhere
+  unfolding termsAt row namedIn any standing
+  found-nothing i = record { among = tt; named = refl; stands = λ a. refl }
 
-rising-less : (v : ℕ) (ts : List Term) → T (risingAbove v ts) → T (risingAbove 0 ts)
-unfolding risingAbove
-rising-less v [] r = tt
-rising-less v (t ∷ ts) r =
-    let above : v < t .variable = ltb→lt v (t .variable) (and-left _ _ r) in
-    and-both _ _ (lt→ltb 0 (t .variable) (omega arith)) (and-right _ _ r)
-
-rising-rest : (g : ℕ → ℕ) (i j k : ℕ) → T (rising (termsAt g i (j + k))) → T (rising (termsAt g (i + j) k))
-unfolding rising risingAbove termsAt row
-rising-rest g i zero k r = rw (add-zero i) (rw (zero-add k) at r)
-rising-rest g i (suc j) k r =
-    rw (add-suc i j, ← suc-add i j)
-    (rising-rest g (suc i) j k (rising-less _ (termsAt g (suc i) (j + k)) (and-right _ _ (rw (suc-add j k) at r))))
-
--- No number above x is x.
-named-none : (x v : ℕ) (ts : List Term) → T (risingAbove v ts) → x ≤ v → namedIn x ts ≡ false
-unfolding risingAbove namedIn any
-named-none x v [] r h = refl
-named-none x v (t ∷ ts) r h =
-    let above : v < t .variable = ltb→lt v (t .variable) (and-left _ _ r) in
-    named-later x t ts (λ e. omega arith) ∙ named-none x (t .variable) ts (and-right _ _ r) (omega arith)
-
-stands-none : (a : Assignment) (x v : ℕ) (ts : List Term) → T (risingAbove v ts) → x ≤ v → standing a x ts ≡ out
-unfolding risingAbove standing
-stands-none a x v [] r h = refl
-stands-none a x v (t ∷ ts) r h =
-    let above : v < t .variable = ltb→lt v (t .variable) (and-left _ _ r) in
-    stands-later x t ts a (λ e. omega arith) ∙ stands-none a x (t .variable) ts (and-right _ _ r) (omega arith)
-
--- ---- the loop: the variable is among the terms exactly where it is among those from a place on
-
-pub record Passed (g : ℕ → ℕ) (first count x i : ℕ) : Type 0 where
-  pub named : namedIn x (termsAt g first count) ≡ namedIn x (termsAt g (first + i) (count - i))
-  pub stands : (a : Assignment) → standing a x (termsAt g first count) ≡ standing a x (termsAt g (first + i) (count - i))
-
-module _ (g : ℕ → ℕ) (first count x : ℕ) where
-  pub passed-start : Passed g first count x 0
-  passed-start = record { named = rw (add-zero first, sub-zero count) refl; stands = λ a. rw (add-zero first, sub-zero count) refl }
-
-  next : (i : ℕ) → i < count → termsAt g (first + i) (count - i) ≡ termOf g (first + i) ∷ termsAt g (first + (i + 1)) (count - (i + 1))
-  next i h =
-      let left : count - i ≡ suc (count - (i + 1)) = omega arith in
-      let on : suc (first + i) ≡ first + (i + 1) = omega arith in
-      rw (left, terms-next g (first + i) (count - (i + 1)), on) refl
-
-  pub passed-step : (i v : ℕ) → i < count → v ≡ g (2 * (first + i)) → (v ≡ x → ⊥) → Passed g first count x i → Passed g first count x (i + 1)
-  unfolding termOf
-  passed-step i v h e away p =
-      let t = termOf g (first + i) in
-      let rest = termsAt g (first + (i + 1)) (count - (i + 1)) in
-      let other : t .variable ≡ x → ⊥ = λ k. away (e ∙ k) in
-      record {
-        named = p .named ∙ ap (namedIn x) (next i h) ∙ named-later x t rest other;
-        stands = λ a. p .stands a ∙ ap (standing a x) (next i h) ∙ stands-later x t rest a other;
-      }
-
-  pub found-at : (i v : ℕ) → i < count → v ≡ g (2 * (first + i)) → v ≡ x → Passed g first count x i → Found g first count x (At (first + i))
-  unfolding termOf
-  found-at i v h e here p =
-      let t = termOf g (first + i) in
-      let rest = termsAt g (first + (i + 1)) (count - (i + 1)) in
+  found-more : (i k m : ℕ) (b : Bool) → eqb (g (2 * i)) x ≡ b → Found g (suc i) k x (placeOf m) → Found g i (suc k) x (placeOf (cond b (suc i) m))
+  unfolding termOf _or_
+  found-more i k m true e h =
       record {
         among = (omega arith, omega arith);
-        named = p .named ∙ ap (namedIn x) (next i h) ∙ named-here x t rest (sym e ∙ here);
-        stands = λ a. p .stands a ∙ ap (standing a x) (next i h) ∙ stands-here x t rest a (sym e ∙ here);
+        named = ap (namedIn x) (terms-next g i k) ∙ named-first x (termOf g i) (termsAt g (suc i) k) true e;
+        stands = λ a. ap (standing a x) (terms-next g i k) ∙ stands-first x (termOf g i) (termsAt g (suc i) k) a true e;
       }
-
-  pub found-past : (i v : ℕ) → i < count → T (rising (termsAt g first count)) → v ≡ g (2 * (first + i)) → x < v → Passed g first count x i → Found g first count x Nowhere
-  unfolding rising risingAbove termOf
-  found-past i v h r e past p =
-      let t = termOf g (first + i) in
-      let rest = termsAt g (first + (i + 1)) (count - (i + 1)) in
-      let whole : i + (count - i) ≡ count = omega arith in
-      let rises : T (risingAbove 0 (t ∷ rest)) =
-      subst (λ ts. T (risingAbove 0 ts)) (next i h)
-      (rising-rest g first i (count - i) (subst (λ k. T (rising (termsAt g first k))) (sym whole) r)) in
-      let above : x ≤ t .variable = omega arith in
+  found-more i k m false e h =
       record {
-        among = tt;
-        named = p .named ∙ ap (namedIn x) (next i h) ∙ named-later x t rest (λ k. omega arith) ∙ named-none x (t .variable) rest (and-right _ _ rises) above;
-        stands = λ a. p .stands a ∙ ap (standing a x) (next i h) ∙ stands-later x t rest a (λ k. omega arith) ∙ stands-none a x (t .variable) rest (and-right _ _ rises) above;
+        among = among-more i k m (h .among);
+        named = ap (namedIn x) (terms-next g i k) ∙ named-first x (termOf g i) (termsAt g (suc i) k) false e ∙ h .named;
+        stands = λ a. ap (standing a x) (terms-next g i k) ∙ stands-first x (termOf g i) (termsAt g (suc i) k) a false e ∙ h .stands a;
       }
 
-  pub found-none : (i : ℕ) → count ≤ i → Passed g first count x i → Found g first count x Nowhere
-  unfolding risingAbove
-  found-none i h p =
-      let none : termsAt g (first + i) (count - i) ≡ [] = terms-none g (first + i) (count - i) (omega arith) in
-      record { among = tt; named = p .named ∙ ap (namedIn x) none ∙ named-none x x [] tt (omega arith); stands = λ a. p .stands a ∙ ap (standing a x) none ∙ stands-none a x x [] tt (omega arith) }
+  pub found-start : (first count : ℕ) → Found g (first + count) (count - count) x Nowhere
+  found-start first count =
+      let none : count - count ≡ 0 = omega arith in
+      rw none (found-nothing (first + count))
 
--- Terms that can be read can be searched, and the one found can be read.
-pub terms-searchable : {terms assignment : List ℕ} {first count : ℕ} → Readable terms assignment first count → Searchable terms first count
-unfolding termsLawful
-terms-searchable r = record { inside = r .inside; rises = and-left _ _ (r .lawful) }
+  pub found-step : (first count left m w n : ℕ) → 0 < left → left ≤ count → Found g (first + left) (count - left) x (placeOf m) → w ≡ g (2 * (first + (left - 1))) → n ≡ cond (eqb w x) (first + (left - 1) + 1) m → Found g (first + (left - 1)) (count - (left - 1)) x (placeOf n)
+  found-step first count left m w n low high h e d =
+      let i = first + (left - 1) in
+      let more : count - (left - 1) ≡ suc (count - left) = omega arith in
+      let next : first + left ≡ suc i = omega arith in
+      rw (more, d, e, add-one i) (found-more i (count - left) m (eqb (g (2 * i)) x) refl (rw next at h))
 
+  pub found-end : (first count left m : ℕ) (r : Place) → left ≤ 0 → r ≡ placeOf m → Found g (first + left) (count - left) x (placeOf m) → Found g first count x r
+  found-end first count left m r low e h =
+      let none : left ≡ 0 = omega arith in
+      rw e (rw (none, add-zero first, sub-zero count) at h)
+
+-- The term found can be read where all can.
 pub found-readable : {terms assignment : List ℕ} {first count : ℕ} (r : Place) → Among first count r → Readable terms assignment first count → PlaceReadable terms assignment r
 found-readable Nowhere h l = tt
 found-readable {terms} {assignment} {first} {count} (At i) h l =
@@ -151,6 +89,18 @@ found-readable {terms} {assignment} {first} {count} (At i) h l =
     rw e at (term-readable terms assignment first count l (i - first) (omega (arith, h .0, h .1)))
 
 -- ---- how the variable stands
+
+-- No term is of variable 0.
+stands-none : (a : Assignment) (x v : ℕ) (ts : List Term) → T (risingAbove v ts) → x ≤ v → standing a x ts ≡ out
+unfolding risingAbove standing
+stands-none a x v [] r h = refl
+stands-none a x v (t ∷ ts) r h =
+    let above : v < t .variable = ltb→lt v (t .variable) (and-left _ _ r) in
+    rw (ne-eqb (t .variable) x (λ e. omega arith)) (stands-none a x (t .variable) ts (and-right _ _ r) (omega arith))
+
+pub stands-zero : (n : ℕ) (a : Assignment) (ts : List Term) → T (termsLawful n ts) → standing a 0 ts ≡ out
+unfolding termsLawful rising
+stands-zero n a ts t = stands-none a 0 0 ts (and-left _ _ t) (omega arith)
 
 module _ {a : Assignment} {t : Term} {l : Literal} (h : LiteralOf a t l) where
   pub stands-on : l .truth ≡ true → on (l .size) ≡ standingOf a t

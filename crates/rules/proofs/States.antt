@@ -31,12 +31,12 @@ use Rattle.rules.specs.declared.sums.Sums.{Sums}
 use Rattle.rules.specs.declared.state.State.{State}
 use Rattle.rules.specs.Terms.{bitsIn, termsAt, Readable}
 use Rattle.rules.specs.Sums.{Summed}
-use Rattle.rules.specs.Places.{standingIn, standingAt, Found, Searchable}
-use Rattle.rules.specs.Rules.{EntryAt, ruleAt, RuleSearchable, RuleReadable, lowerSize, upperSize}
-use Rattle.rules.specs.State.{Balanced, StateOf, Made, holdsIn, sharesFrom, opposite, Turned}
+use Rattle.rules.specs.Places.{standingIn}
+use Rattle.rules.specs.Rules.{EntryAt, ruleAt, RuleInside, RuleReadable, lowerSize, upperSize}
+use Rattle.rules.specs.State.{Balanced, StateOf, Made, Seen, holdsIn, sharesFrom, opposite, Turned}
 use Rattle.rules.proofs.Terms.{first-bits, lawful-legal, readable}
 use Rattle.rules.proofs.Summing.{P-same}
-use Rattle.rules.proofs.Finding.{terms-searchable, lost-in-P, gained-beside-P, standing-same}
+use Rattle.rules.proofs.Finding.{lost-in-P, gained-beside-P, standing-same}
 use Rattle.rules.proofs.Sizes.{rule-lower, rule-upper}
 
 -- ---- what a state says of its rule
@@ -64,17 +64,21 @@ one-fails {a} b p f = f ∙ sym (and-stop a b (sym p ∙ f))
 pub entry-readable : {tables terms assignment : List ℕ} {at : ℕ} {e : Entry} → EntryAt (wordAt tables) at e → RuleReadable tables terms assignment at → Readable terms assignment (e .first) (e .count)
 entry-readable d r = rw (d .first, d .count) (r .body)
 
-pub entry-searchable : {tables terms : List ℕ} {at : ℕ} {e : Entry} → EntryAt (wordAt tables) at e → RuleSearchable tables terms at → Searchable terms (e .first) (e .count)
-entry-searchable d r = rw (d .first, d .count) (r .body)
+pub entry-inside : {tables terms : List ℕ} {at : ℕ} {e : Entry} → EntryAt (wordAt tables) at e → RuleInside tables terms at → 8 * (e .first + e .count) ≤ length terms
+entry-inside d r = rw (d .first, d .count) (r .body)
+
+-- .. and its terms, as the entry says them, are the rule's.
+pub entry-terms : {f : ℕ → ℕ} (g : ℕ → ℕ) {at : ℕ} {e : Entry} → EntryAt f at e → termsAt g (e .first) (e .count) ≡ ruleAt f g at .terms
+unfolding ruleAt
+entry-terms g d = ap₂ (termsAt g) (d .first) (d .count)
 
 pub entry-named : {f : ℕ → ℕ} (g : ℕ → ℕ) {at : ℕ} {e : Entry} (x : ℕ) {b : Bool} → EntryAt f at e → namedIn x (termsAt g (e .first) (e .count)) ≡ b → b ≡ namedIn x (ruleAt f g at .terms)
-unfolding ruleAt
-entry-named g x d h = sym h ∙ ap (namedIn x) (ap₂ (termsAt g) (d .first) (d .count))
+entry-named g x d h = sym h ∙ ap (namedIn x) (entry-terms g d)
 
 -- The entry's words and the sums of its terms make the state of the rule.
-pub state-made : {f : ℕ → ℕ} (g : ℕ → ℕ) {at : ℕ} {a : Assignment} {x : ℕ} {e : Entry} {s : Sums} {z : Stands} {r : State} → EntryAt f at e → Summed a (termsAt g (e .first) (e .count)) s → s .k < 4_294_967_296 → standingIn z ≡ standing a x (termsAt g (e .first) (e .count)) → Made e s z r → StateOf a x (ruleAt f g at) r
+pub state-made : {f : ℕ → ℕ} (g : ℕ → ℕ) {at : ℕ} {a : Assignment} {e : Entry} {s : Sums} {r : State} → EntryAt f at e → Summed a (termsAt g (e .first) (e .count)) s → s .k < 4_294_967_296 → standing a 0 (termsAt g (e .first) (e .count)) ≡ out → Made e s r → StateOf a 0 (ruleAt f g at) r
 unfolding ruleAt N
-state-made {f} g {at} {a} {x} {e} {s} {z} {r} d m small k h =
+state-made {f} g {at} {a} {e} {s} {r} d m small none h =
     record {
       falses = falses;
       trues = trues;
@@ -83,8 +87,8 @@ state-made {f} g {at} {a} {x} {e} {s} {z} {r} d m small k h =
       upper = h .upper ∙ ap₂ upperSize rises (ap₂ (boundIn 1) (d .mode) (d .upper)) ∙ rule-upper (ruleAt f g at);
       balanced = record {
         small = omega (arith, falses, trues, N-and-P a ts, whole, small);
-        loses = rw (stands, trues) (lost-in-P a x ts);
-        gains = rw (stands, falses) (omega (arith, gained-beside-P a x ts));
+        loses = rw (stands, trues) (lost-in-P a 0 ts);
+        gains = rw (stands, falses) (omega (arith, gained-beside-P a 0 ts));
       };
     }
   where
@@ -106,8 +110,28 @@ state-made {f} g {at} {a} {x} {e} {s} {z} {r} d m small k h =
     falses : r .n ≡ N a ts
     falses = h .falses ∙ ap₂ _-_ whole (m .trues ∙ ap (P a) same)
 
-    stands : standingIn (r .stands) ≡ standing a x ts
-    stands = ap standingIn (h .stands) ∙ k ∙ ap (standing a x) same
+    stands : standingIn (r .stands) ≡ standing a 0 ts
+    stands = ap standingIn (h .stands) ∙ sym none ∙ ap (standing a 0) same
+
+-- Seen from another variable, the rest is as it was.
+pub state-seen : {a : Assignment} {x y : ℕ} {q : Rule} {z : Stands} {s r : State} → StateOf a y q s → standingIn z ≡ standing a x (q .terms) → Seen z s r → StateOf a x q r
+unfolding N
+state-seen {a} {x} {y} {q} {z} {s} {r} h e t =
+    let falses = t .falses ∙ h .falses in
+    let trues = t .trues ∙ h .trues in
+    let stands = ap standingIn (t .stands) ∙ e in
+    record {
+      falses = falses;
+      trues = trues;
+      stands = stands;
+      lower = ap boundOf (t .lower) ∙ h .lower;
+      upper = ap boundOf (t .upper) ∙ h .upper;
+      balanced = record {
+        small = rw (t .falses, t .trues) (h .balanced .small);
+        loses = rw (stands, trues) (lost-in-P a x (q .terms));
+        gains = rw (stands, falses) (omega (arith, gained-beside-P a x (q .terms)));
+      };
+    }
 
 -- ---- a state turned over
 
@@ -226,9 +250,9 @@ module _ (tables terms assignment : List ℕ) (at n : ℕ) where
   rule-readable entry inside small bytes t =
       record { entry = entry; body = readable terms assignment (wordAt tables at) (wordAt tables (at + 1)) n inside small bytes t }
 
-  -- .. and searched for a variable without an assignment ..
-  pub readable-searchable : RuleReadable tables terms assignment at → RuleSearchable tables terms at
-  readable-searchable r = record { entry = r .entry; body = terms-searchable (r .body) }
+  -- .. and so searched ..
+  pub readable-inside : RuleReadable tables terms assignment at → RuleInside tables terms at
+  readable-inside r = record { entry = r .entry; body = r .body .inside }
 
 -- .. and its state is that under any assignment that says the same of the plan's variables, so that under the first n bytes.
 pub state-same : (n : ℕ) {a b : Assignment} {x : ℕ} {q : Rule} {s : State} → ((v : ℕ) → v ≤ n → value a v ≡ value b v) → T (termsLawful n (q .terms)) → StateOf a x q s → StateOf b x q s

@@ -1,26 +1,18 @@
 -- Where a variable occurs among the terms of a rule and how it stands there, as the code has it.
 -- Assumes nothing.
-use Prim.Native.Nat.{ℕ, _+_, _*_, _≤_, _<_}
+use Prim.Native.Nat.{ℕ, zero, suc, _+_, _≤_, _<_}
 use mathlib.Core.Path.{_≡_}
 use mathlib.Core.Bool.{Bool, true, false, cond}
 use mathlib.Core.List.{List}
-use lib.Dec.{T}
-use lib.ListN.{length}
-use Rattle.plpb.specs.Plan.{Term, Assignment, rising, namedIn}
+use Rattle.plpb.specs.Plan.{Term, Assignment, namedIn}
 use Rattle.plpb.specs.Normal.{literal, literalTrue, size}
 use Rattle.plpb.specs.Equations.{Standing, out, on, off, standing}
-use Rattle.words.specs.Words.{wordAt}
 use Rattle.format.specs.Tables.{termOf}
 use Rattle.rules.specs.declared.place.Place.{Place}
 use Rattle.rules.specs.declared.place.Place.the-variants.{Nowhere, At}
 use Rattle.rules.specs.declared.place.Stands.{Stands}
 use Rattle.rules.specs.declared.place.Stands.the-variants.{Out, On, Off}
 use Rattle.rules.specs.Terms.{termsAt, TermReadable}
-
--- What the search for a variable needs: the terms stand there, and their numbers rise.
-pub record Searchable (terms : List ℕ) (first count : ℕ) : Type 0 where
-  pub inside : 8 * (first + count) ≤ length terms
-  pub rises : T (rising (termsAt (wordAt terms) first count))
 
 -- The standing that a Stands of the code says.
 abbrev pub standingIn : Stands → Standing
@@ -36,6 +28,11 @@ standingOf a t = cond (literalTrue a (literal t)) (on (size t)) (off (size t))
 abbrev pub standingAt : Assignment → (ℕ → ℕ) → Place → Standing
 standingAt a g Nowhere = out
 standingAt a g (At i) = standingOf a (termOf g i)
+
+-- The place that a number says: one more than the term's, or 0.
+abbrev pub placeOf : ℕ → Place
+placeOf zero = Nowhere
+placeOf (suc i) = At i
 
 abbrev pub isPlace : Place → Bool
 isPlace Nowhere = false

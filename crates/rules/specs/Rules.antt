@@ -12,7 +12,6 @@ use Rattle.words.specs.Words.{wordAt, signed}
 use Rattle.format.specs.File.{boundOf}
 use Rattle.rules.specs.declared.entry.Entry.{Entry}
 use Rattle.rules.specs.Terms.{termsAt, Readable}
-use Rattle.rules.specs.Places.{Searchable}
 
 -- The entry whose five words begin at a place.
 pub record EntryAt (f : ℕ → ℕ) (at : ℕ) (e : Entry) : Type 0 where
@@ -31,10 +30,10 @@ ruleAt f g at =
       terms = termsAt g (f at) (f (at + 1));
     }
 
--- What the search for a variable in that rule needs, and what reading it.
-pub record RuleSearchable (tables terms : List ℕ) (at : ℕ) : Type 0 where
+-- What the search for a variable in that rule needs: entry and terms stand in the tables. And what reading it needs.
+pub record RuleInside (tables terms : List ℕ) (at : ℕ) : Type 0 where
   pub entry : 4 * at + 20 ≤ length tables
-  pub body : Searchable terms (wordAt tables at) (wordAt tables (at + 1))
+  pub body : 8 * (wordAt tables at + wordAt tables (at + 1)) ≤ length terms
 
 pub record RuleReadable (tables terms assignment : List ℕ) (at : ℕ) : Type 0 where
   pub entry : 4 * at + 20 ≤ length tables

@@ -8,8 +8,8 @@ ghost use Rattle.counting.specs.Bound.{boundOf};
 ghost use Rattle.counting.specs.Shares.{sharesIn, cappedShares};
 ghost use Rattle.words.specs.Words.{wordAt};
 ghost use Rattle.rules.specs.Terms.{bitsIn};
-ghost use Rattle.rules.specs.Rules.{ruleAt, RuleSearchable, RuleReadable};
-ghost use Rattle.rules.specs.State.{Balanced, StateOf, Made, holdsIn, sharesFrom, Turned};
+ghost use Rattle.rules.specs.Rules.{ruleAt, RuleInside, RuleReadable};
+ghost use Rattle.rules.specs.State.{Balanced, StateOf, Made, Seen, holdsIn, sharesFrom, Turned};
 use crate::entry::Entry;
 use crate::entry::read_entry;
 use crate::place::Place;
@@ -46,16 +46,31 @@ fn below(n: u32, size: Bound) -> bool
 }
 
 impl State {
-    fn of(e: Entry, s: Sums, stands: Stands) -> State
+    fn of(e: Entry, s: Sums) -> State
         requires { ⌜ (s .p ≤ s .k) × (s .rise ≤ s .k) ⌝ }
-        ensures { λ r. ⌜ Made e s stands r ⌝ }
+        ensures { λ r. ⌜ Made e s r ⌝ }
     {
         State {
             n: s.k - s.p,
             p: s.p,
-            stands,
+            stands: Stands::Out,
             a: lower_size(e.mode, e.lower, s.k - s.rise),
             b: upper_size(e.mode, e.upper, s.rise),
+        }
+    }
+
+    // The same, seen from a variable that stands so.
+    fn seen(self, stands: Stands) -> State
+        ensures { λ r. ⌜ Seen stands self r ⌝ }
+    {
+        let a = self.a;
+        let b = self.b;
+        State {
+            n: self.n,
+            p: self.p,
+            stands,
+            a,
+            b,
         }
     }
 
@@ -113,7 +128,7 @@ impl State {
 
 // Whether the rule whose entry begins at a word of the table names a variable. It reads no weight, so it is cheap to ask first.
 pub fn names(tables: &[u8], terms: &[u8], at: usize, x: u32) -> bool
-    requires { ⌜ RuleSearchable (now tables) (now terms) at ⌝ }
+    requires { ⌜ RuleInside (now tables) (now terms) at ⌝ }
     ensures { λ r. ⌜ r ≡ namedIn x (ruleAt (wordAt (now (tables .entry))) (wordAt (now (terms .entry))) at .terms) ⌝ }
 {
     let e = read_entry(tables, at);
@@ -124,13 +139,22 @@ pub fn names(tables: &[u8], terms: &[u8], at: usize, x: u32) -> bool
     }
 }
 
-// The state of that rule, seen from a variable; from 0 where it does not matter.
-pub fn read_state(tables: &[u8], terms: &[u8], assignment: &[u8], at: usize, x: u32) -> State
+// The state of that rule, seen from no variable.
+pub fn read_state(tables: &[u8], terms: &[u8], assignment: &[u8], at: usize) -> State
+    requires { ⌜ RuleReadable (now tables) (now terms) (now assignment) at ⌝ }
+    ensures { λ r. ⌜ StateOf (bitsIn (now (assignment .entry))) 0 (ruleAt (wordAt (now (tables .entry))) (wordAt (now (terms .entry))) at) r ⌝ }
+{
+    let e = read_entry(tables, at);
+    State::of(e, scan(terms, assignment, e.first, e.count))
+}
+
+// The same, seen from x.
+pub fn read_state_from(tables: &[u8], terms: &[u8], assignment: &[u8], at: usize, x: u32) -> State
     requires { ⌜ RuleReadable (now tables) (now terms) (now assignment) at ⌝ }
     ensures { λ r. ⌜ StateOf (bitsIn (now (assignment .entry))) x (ruleAt (wordAt (now (tables .entry))) (wordAt (now (terms .entry))) at) r ⌝ }
 {
+    let s = read_state(tables, terms, assignment, at);
     let e = read_entry(tables, at);
-    let sums = scan(terms, assignment, e.first, e.count);
-    let stands = stands_at(terms, assignment, find(terms, e.first, e.count, x));
-    State::of(e, sums, stands)
+    let place = find(terms, e.first, e.count, x);
+    s.seen(stands_at(terms, assignment, place))
 }

@@ -5,10 +5,10 @@ use Rattle.rules.proofs.state.names.Statement.{statement}
 use Rattle.rules.proofs.state.names.Tie as tie
 use mathlib.Core.Path.{_∙_, ap}
 use Rattle.rules.specs.Places.{isPlace}
-use Rattle.rules.proofs.States.{entry-searchable, entry-named}
+use Rattle.rules.proofs.States.{entry-inside, entry-named}
 
-requires-search : tie.Need-find-requires
-requires-search c κs = entry-searchable (c .read-entry .ensures) (c .before .before .before .pre)
+requires-terms : tie.Need-find-requires
+requires-terms c κs = entry-inside (c .read-entry .ensures) (c .before .before .before .pre)
 
 returns : tie.Need-returns
 returns c =
@@ -23,4 +23,4 @@ returns-2 c =
 pub names-spec : {M : Type 1} → statement M
 names-spec =
     tie.close
-    (tie.spec (λ c κs. search needs) requires-search (λ c. search needs) (λ c. search needs) returns returns-2)
+    (tie.spec (λ c κs. search needs) requires-terms (λ c. search needs) (λ c. search needs) returns returns-2)
