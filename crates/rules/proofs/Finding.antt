@@ -1,32 +1,29 @@
 -- Laws of where a variable occurs among the terms of a rule, found from the last term to the first, and of how it stands there.
 -- Assumes nothing.
 use Prim.Native.Nat.{ℕ, zero, suc, _+_, _*_, _-_, _≤_, _<_, zero-le}
-use native.Mathlib.Nat.{zero-add, add-zero, add-suc, suc-add, sub-zero}
+use native.Mathlib.Nat.{add-zero, sub-zero}
 use native.Mathlib.Numerals.{add-one}
 use native.Mathlib.Omega.{arith}
-use mathlib.Core.Path.{_≡_, refl, sym, ap, ap₂, _∙_, subst}
+use mathlib.Core.Path.{_≡_, refl, ap, ap₂, _∙_}
 use mathlib.Core.Bool.{Bool, true, false, not, cond}
 use mathlib.Core.List.{List, [], _∷_}
-use lib.Dec.{T, ltb, eqb, ltb→lt, lt→ltb}
-use lib.ListN.{length}
-use borrow.Author.Tests.{eqb-true, eq-eqb, ne-eqb}
+use lib.Dec.{T, eqb, ltb→lt}
+use borrow.Author.Tests.{ne-eqb}
 use Rattle.plpb.specs.Lists.{_or_, all, any, row, sumBy}
-use Rattle.plpb.specs.Plan.{Term, Assignment, value, flip, risingAbove, rising, namedIn}
+use Rattle.plpb.specs.Plan.{Term, Assignment, value, risingAbove, rising, namedIn}
 use Rattle.plpb.specs.Normal.{literal, literalTrue, size, K, P}
-use Rattle.plpb.specs.Equations.{Standing, out, on, off, standing}
+use Rattle.plpb.specs.Equations.{out, on, off, standing}
 use Rattle.plpb.proofs.Lists.{and-left, and-right}
 use Rattle.plpb.proofs.Normal.{P-at-most-K}
-use Rattle.plpb.proofs.Flip.{flip-literal-same}
 use Rattle.plpb.proofs.Equations.{lost, gained}
-use Rattle.words.specs.Words.{wordAt}
 use Rattle.format.specs.Limits.{termsLawful}
 use Rattle.format.specs.Tables.{termOf}
 use Rattle.rules.specs.declared.place.Place.{Place}
 use Rattle.rules.specs.declared.place.Place.the-variants.{Nowhere, At}
 use Rattle.rules.specs.declared.term.Literal.{Literal}
 use Rattle.rules.specs.Terms.{LiteralOf, termsAt, Readable}
-use Rattle.rules.specs.Places.{placeOf, standingOf, standingAt, isPlace, Among, PlaceReadable, Found}
-use Rattle.rules.proofs.Terms.{termLegal, term-readable, terms-none, terms-next}
+use Rattle.rules.specs.Places.{placeOf, standingOf, Among, PlaceReadable, Found}
+use Rattle.rules.proofs.Terms.{termLegal, term-readable, terms-next}
 use Rattle.rules.proofs.Summing.{literal-same}
 
 -- ---- the search: it starts behind the last term and takes one more in front

@@ -1,9 +1,8 @@
 -- Laws of a rule's state: the rule holds, has its shares and is turned over as its state says.
 -- Assumes nothing.
 use Prim.Native.Nat.{ℕ, _+_, _*_, _-_, _≤_, _<_}
-use native.Mathlib.Nat.{add-assoc}
 use native.Mathlib.Omega.{arith}
-use mathlib.Core.Path.{_≡_, refl, sym, ap, ap₂, _∙_, subst}
+use mathlib.Core.Path.{_≡_, refl, sym, ap, ap₂, _∙_}
 use mathlib.Core.Bool.{Bool, true, false, not, cond}
 use mathlib.Core.List.{List, [], _∷_}
 use lib.Dec.{T, eqb}
@@ -12,13 +11,13 @@ use borrow.Author.Tests.{eqb-true, eqb-false}
 use Rattle.plpb.specs.Lists.{_and_, _or_, any, sumBy}
 use Rattle.plpb.specs.Plan.{Term, Rule, Assignment, value, flip, rising, ruleHolds, namedIn}
 use Rattle.plpb.specs.Normal.{literal, literalTrue, size, rise, K, P, N, sizeA, sizeB}
-use Rattle.plpb.specs.Equations.{Standing, out, on, off, standing, shares, sharesOf}
+use Rattle.plpb.specs.Equations.{out, on, off, standing, shares, sharesOf}
 use Rattle.plpb.proofs.Lists.{or-left, false-or, false-T}
-use Rattle.plpb.proofs.Normal.{P-at-most-K, N-and-P, belowSize, lower-by-size, upper-by-size}
+use Rattle.plpb.proofs.Normal.{N-and-P, belowSize, lower-by-size, upper-by-size}
 use Rattle.plpb.proofs.Flip.{flip-literal-same, flip-literal-other}
 use Rattle.plpb.proofs.Equations.{lost, gained, P-flipped}
 use Rattle.counting.specs.Bound.{boundOf}
-use Rattle.words.specs.Words.{wordAt, signed}
+use Rattle.words.specs.Words.{wordAt}
 use Rattle.format.specs.File.{boundOf as boundIn}
 use Rattle.format.specs.Limits.{maxVariables, maxRules, termsLawful, ruleLawful}
 use Rattle.format.specs.Tables.{ruleOf}

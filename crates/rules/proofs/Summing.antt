@@ -1,16 +1,16 @@
 -- Laws of the sums of a rule's terms: they are made term by term from the last to the first, and none is larger than K.
 -- Assumes nothing.
-use Prim.Native.Nat.{ℕ, zero, suc, _+_, _*_, _-_, _≤_, _<_, zero-le}
+use Prim.Native.Nat.{ℕ, suc, _+_, _*_, _-_, _≤_, _<_, zero-le}
 use native.Mathlib.Nat.{add-zero, sub-zero}
 use native.Mathlib.Omega.{arith}
-use mathlib.Core.Path.{_≡_, refl, sym, ap, ap₂, _∙_}
+use mathlib.Core.Path.{_≡_, refl, ap, ap₂, _∙_}
 use mathlib.Core.Bool.{Bool, true, false, not, cond}
 use mathlib.Core.List.{List, [], _∷_}
 use lib.Dec.{T}
 use lib.ListN.{length}
 use Rattle.plpb.specs.Lists.{all, sumBy}
 use Rattle.plpb.specs.Plan.{Term, Assignment, value}
-use Rattle.plpb.specs.Normal.{literal, literalTrue, isNegative, size, rise, K, P, N}
+use Rattle.plpb.specs.Normal.{literal, literalTrue, isNegative, size, rise, K, P}
 use Rattle.plpb.proofs.Lists.{and-left, and-right, sumBy-each}
 use Rattle.plpb.proofs.Normal.{P-at-most-K}
 use Rattle.words.specs.Words.{wordAt}

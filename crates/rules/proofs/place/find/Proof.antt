@@ -3,7 +3,7 @@
 use borrow.Author.Needs.{needs}
 use Rattle.rules.proofs.place.find.Statement.{statement}
 use Rattle.rules.proofs.place.find.Tie as tie
-use Prim.Native.Nat.{_+_, _*_, _-_, _≤_}
+use Prim.Native.Nat.{_+_, _-_, _≤_}
 use native.Mathlib.Omega.{arith}
 use Rattle.words.specs.Words.{wordAt}
 use Rattle.rules.specs.Places.{placeOf, Found}

@@ -3,8 +3,6 @@
 use borrow.Author.Needs.{needs}
 use Rattle.rules.proofs.place.stands_at.Statement.{statement}
 use Rattle.rules.proofs.place.stands_at.Tie as tie
-use mathlib.Core.Path.{_≡_, _∙_, sym, ap}
-use Rattle.rules.specs.Places.{PlaceReadable}
 use Rattle.rules.proofs.Finding.{stands-on, stands-off}
 
 requires-term : tie.Need-read-literal-requires

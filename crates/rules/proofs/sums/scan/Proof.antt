@@ -1,6 +1,5 @@
 -- `scan` meets its contract. The invariant: the sums are those of the terms from place `left` on. The measure is what is left.
 -- Assumes nothing.
-use borrow.Author.Needs.{needs}
 use Rattle.rules.proofs.sums.scan.Statement.{statement}
 use Rattle.rules.proofs.sums.scan.Tie as tie
 use Prim.Native.Nat.{_+_, _-_, _≤_}
