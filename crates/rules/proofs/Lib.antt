@@ -4,3 +4,5 @@ pub mod Summing
 pub mod Finding
 pub mod Sizes
 pub mod States
+pub mod Unnamed
+pub mod Tables

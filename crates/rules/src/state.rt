@@ -46,6 +46,7 @@ fn below(n: u32, size: Bound) -> bool
 }
 
 impl State {
+    // Seen from no variable.
     fn of(e: Entry, s: Sums) -> State
         requires { ⌜ (s .p ≤ s .k) × (s .rise ≤ s .k) ⌝ }
         ensures { λ r. ⌜ Made e s r ⌝ }
@@ -74,6 +75,7 @@ impl State {
         }
     }
 
+    // N below A says that the lower bound is met, P below B that the upper one is.
     pub fn holds(self) -> bool
         ensures { λ r. ⌜ r ≡ holdsIn self ⌝ }
     {
@@ -82,6 +84,7 @@ impl State {
         below(self.n, a) && below(self.p, b)
     }
 
+    // e, f and g by the paper's three cases: (10), (11) and (12).
     pub fn shares(self) -> Shares
         requires { ⌜ Balanced self ⌝ }
         ensures { λ r. ⌜ sharesIn r ≡ cappedShares (sharesFrom self) ⌝ }
