@@ -24,7 +24,7 @@ use Rattle.format.proofs.Sections.{Sections, length-tableWords, length-termWord
 use Rattle.format.proofs.Entries.{entry-here, entries-behind}
 use Rattle.format.proofs.ReadBack.{rules-spelt, holds-sections}
 use Rattle.rules.specs.Rules.{RuleReadable}
-use Rattle.rules.proofs.States.{rule-rises, table-rule-readable}
+use Rattle.rules.proofs.Tables.{rule-rises, table-rule-readable}
 use Rattle.tallies.specs.Core.{Laid, Ready, RunReadable}
 use Rattle.tallies.proofs.Exact.{rules-lawful}
 

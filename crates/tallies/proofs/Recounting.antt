@@ -21,11 +21,12 @@ use Rattle.words.specs.Words.{wordAt}
 use Rattle.words.proofs.Words.{Below}
 use Rattle.format.specs.Tables.{ruleOf, clauseOf, planIn, planOfTables}
 use Rattle.rules.specs.Terms.{bitsIn}
-use Rattle.rules.specs.Sums.{standingIn}
+use Rattle.rules.specs.Places.{standingIn}
 use Rattle.rules.specs.Rules.{ruleAt}
 use Rattle.rules.specs.State.{StateOf, holdsIn}
 use Rattle.rules.specs.declared.state.State.{State}
-use Rattle.rules.proofs.States.{holds-rule, rule-at}
+use Rattle.rules.proofs.States.{holds-rule}
+use Rattle.rules.proofs.Tables.{rule-at}
 use Rattle.tallies.specs.Layout.{tallySize, tallyBytes}
 use Rattle.tallies.specs.Core.{Laid, Ready, tallyWord, Wrote, Kept, Right, RuleCounted, ClauseCounted, Spare, Countable, Unused}
 use Rattle.tallies.proofs.Along.{along-step, along-end}

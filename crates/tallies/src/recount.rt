@@ -10,13 +10,13 @@ ghost use Rattle.plpb.specs.Tallies.{freshCount};
 ghost use Rattle.words.specs.Words.{wordAt};
 ghost use Rattle.format.specs.Tables.{clauseOf, planOfTables};
 ghost use Rattle.rules.specs.Terms.{bitsIn};
-ghost use Rattle.rules.specs.Sums.{standingIn};
+ghost use Rattle.rules.specs.Places.{standingIn};
 ghost use Rattle.tallies.specs.Layout.{tallySize, tallyBytes};
 ghost use Rattle.tallies.specs.Core.{Laid, Wrote, RuleCounted, ClauseCounted, Countable, Unused};
 use crate::clause::clause_names;
 use crate::clause::rules_of;
-use rules::state::read_state;
-use rules::sums::Stands;
+use rules::state::read_state_from;
+use rules::place::Stands;
 use words::index;
 use words::word;
 use words::write_u32;
@@ -70,7 +70,7 @@ fn recount_rule(
     requires { ⌜ Countable (now tables) (now terms) (now bits) (now tallies) x every × (r < wordAt (now tables) 2) ⌝ }
     ensures { λ b. ⌜ RuleCounted (now (tables .entry)) (now (terms .entry)) (now (bits .entry)) r b (now (tallies .entry)) (now (tallies .exit)) ⌝ }
 {
-    let s = read_state(tables, terms, bits, 1542 + 5 * r, x);
+    let s = read_state_from(tables, terms, bits, 1542 + 5 * r, x);
     let stands = s.stands;
     put_if(is_due(every, stands), tallies, r, s.p);
     s.holds()

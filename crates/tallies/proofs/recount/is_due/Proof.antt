@@ -3,7 +3,7 @@
 use borrow.Author.Needs.{needs}
 use mathlib.Core.Path.{_≡_, refl, sym}
 use mathlib.Core.Bool.{true≢false}
-use Rattle.rules.specs.Sums.{standingIn}
+use Rattle.rules.specs.Places.{standingIn}
 use Rattle.tallies.proofs.recount.is_due.Statement.{statement}
 use Rattle.tallies.proofs.recount.is_due.Tie as tie
 
