@@ -14,3 +14,4 @@ pub mod Unnamed
 pub mod Recounting
 pub mod Cores
 pub mod Summing
+pub mod Testing

@@ -127,12 +127,17 @@ module _ (tables terms bits : List ℕ) (c : ℕ) where
           kept = kept-more _ s₀ s t (d .kept) (k .kept);
         }
 
-    pub rules-end : Laid tables terms → c < wordAt tables 1 → (t : List ℕ) → end ≤ r → Wrote (1_025 + c) holding s t → ClauseCounted tables terms bits c s₀ t
-    rules-end l g t h w =
+    -- All are.
+    pub rules-all : Laid tables terms → c < wordAt tables 1 → end ≤ r → holding ≡ tallyWord (planOfTables tables terms) (bitsIn bits) (1_025 + c)
+    rules-all l g h =
         let f = ruleOf (wordAt tables) (wordAt terms) in
         let none = ap (count (ruleHolds (bitsIn bits))) (along-end f r end h) ∙ count-nil (ruleHolds (bitsIn bits)) in
         let all : holding ≡ count (ruleHolds (bitsIn bits)) (clauseOf (wordAt tables) (wordAt terms) c) = omega (arith, d .counted, none) in
-        let right = all ∙ sym (word-of-clause tables terms l (bitsIn bits) c g) in
+        all ∙ sym (word-of-clause tables terms l (bitsIn bits) c g)
+
+    pub rules-end : Laid tables terms → c < wordAt tables 1 → (t : List ℕ) → end ≤ r → Wrote (1_025 + c) holding s t → ClauseCounted tables terms bits c s₀ t
+    rules-end l g t h w =
+        let right = rules-all l g h in
         let k = wrote-kept _ s t (1_025 + c) holding w right in
         record {
           weights = λ i m n. k .right i (d .weights i m (omega (arith, d .ends, h)));
@@ -214,6 +219,14 @@ module _ (tables terms bits : List ℕ) (l : Laid tables terms) (s₀ : List ℕ
             at (yes z) = k .kept .right i (d .weights i (omega arith) (omega (arith, first-rule tables terms l c h)))
             at (no z) = k .weights i (omega arith) (omega (arith, rw add-one at n, next-rule tables terms l c h))
 
+    -- All are.
+    pub clauses-all : wordAt tables 1 ≤ c → unsat ≡ tallyWord (planOfTables tables terms) (bitsIn bits) 1_538
+    clauses-all h =
+        let p = planOfTables tables terms in
+        let q = unsatisfied (bitsIn bits) in
+        let none = ap (count q) (along-end (clauseOf (wordAt tables) (wordAt terms)) c (wordAt tables 1) h) ∙ count-nil q in
+        omega (arith, d .counted, none, total-word p (roomy-fits p (l .room)) (bitsIn bits))
+
     pub clauses-end : (t : List ℕ) → Below 256 t → tallySize ≤ length s₀ → Unused (planOfTables tables terms) s₀ → wordAt tables 1 ≤ c → Wrote 1_538 unsat s t → t ≡ tallyBytes (freshCount (planOfTables tables terms) (bitsIn bits)) ++ drop tallySize s₀
     clauses-end t b room u h w =
         sym (take-append-drop tallySize t)
@@ -226,10 +239,7 @@ module _ (tables terms bits : List ℕ) (l : Laid tables terms) (s₀ : List ℕ
         a = bitsIn bits
 
         total : unsat ≡ tallyWord p a 1_538
-        total =
-            let f = clauseOf (wordAt tables) (wordAt terms) in
-            let none = ap (count (unsatisfied a)) (along-end f c (wordAt tables 1) h) ∙ count-nil (unsatisfied a) in
-            omega (arith, d .counted, none, total-word p (roomy-fits p (l .room)) a)
+        total = clauses-all h
 
         last : Kept (tallyWord p a) s t
         last = wrote-kept _ s t 1_538 unsat w total

@@ -3,7 +3,7 @@
 use Prim.Native.Nat.{ℕ, _+_, _*_, _≤_, _<_}
 use mathlib.Core.Path.{_≡_}
 use mathlib.Core.Logic.{_≢_}
-use mathlib.Core.Bool.{Bool, true, false}
+use mathlib.Core.Bool.{Bool, true, false, cond}
 use mathlib.Core.List.{List, _++_}
 use lib.Dec.{T}
 use lib.ListN.{length, getD, take, drop}
@@ -15,6 +15,8 @@ use Rattle.format.specs.Limits.{roomy}
 use Rattle.format.specs.Tables.{Holds, ruleOf, planOfTables}
 use Rattle.rules.specs.Terms.{bitsIn}
 use Rattle.tallies.specs.declared.counts.Counts.{Counts}
+use Rattle.tallies.specs.declared.fresh.Found.{Found}
+use Rattle.tallies.specs.declared.fresh.Found.the-variants.{Other, Same}
 use Rattle.tallies.specs.Layout.{tallySize, bitsOf, areBits, tallyWords, tallyBytes}
 use Rattle.tallies.specs.Narrow.{concerns}
 
@@ -103,3 +105,10 @@ pub record Flippable (tables terms assignment tallies : List ℕ) (x : ℕ) : Ty
 pub record CountsAre (spoils mends : ℕ) (r : Counts) : Type 0 where
   pub breaks : number (r .breaks) ≡ spoils
   pub makes : number (r .makes) ≡ mends
+
+-- What is found at a rule's word: another number than is wanted, or that number, and 1 or 0 for whether the rule holds.
+abbrev pub FoundAt : (tables terms bits s : List ℕ) (r : ℕ) → Found → Type 0
+FoundAt tables terms bits s r Other = wordAt s r ≢ tallyWord (planOfTables tables terms) (bitsIn bits) r
+FoundAt tables terms bits s r (Same h) =
+    (wordAt s r ≡ tallyWord (planOfTables tables terms) (bitsIn bits) r)
+    × (h ≡ cond (ruleHolds (bitsIn bits) (ruleOf (wordAt tables) (wordAt terms) r)) 1 0)

@@ -2,5 +2,6 @@
 pub mod clause;
 pub mod counts;
 pub mod flip;
+pub mod fresh;
 pub mod open;
 pub mod recount;
