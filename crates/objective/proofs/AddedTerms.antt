@@ -1,4 +1,5 @@
 -- The objective's terms written one behind the other: those of the variables passed are written, and those to come will be.
+-- Assumes nothing.
 use Prim.Native.Nat.{ℕ, suc, _+_, _*_, _-_, _≤_, _<_, zero-le}
 use native.Mathlib.Nat.{eq-or-lt-of-le, add-zero}
 use native.Mathlib.Numerals.{add-one}
@@ -54,13 +55,17 @@ module _ (tables : List ℕ) where
   unfolding unsigned
   is-zero w h e = sym (unsigned-signed w h) ∙ ap unsigned (sym (natAbs-zero (signed w) e))
 
-  pub one-term : (v : ℕ) → (wordAt tables (4 + v) ≡ 0 → ⊥) → wordAt tables (4 + v) < 4_294_967_296 → termsAbove tables v 1 ≡ record { variable = suc v; weight = weight (suc v) } ∷ []
+  pub one-term :
+      (v : ℕ) → (wordAt tables (4 + v) ≡ 0 → ⊥) → wordAt tables (4 + v) < 4_294_967_296
+      → termsAbove tables v 1 ≡ record { variable = suc v; weight = weight (suc v) } ∷ []
   unfolding termsAbove named sparse keep row
   one-term v n h =
       ⊎-elim (λ z. absurd (n (is-zero (wordAt tables (4 + v)) h (rw (← place v) (sym z))))) (λ z. sparse-hold weight v 0 z)
       (eq-or-lt-of-le {n = 0} (zero-le {n = natAbs (weight (suc v))}))
 
-  pub one-entry : (v : ℕ) → (wordAt tables (4 + v) ≡ 0 → ⊥) → wordAt tables (4 + v) < 4_294_967_296 → termEntries (termsAbove tables v 1) ≡ (v + 1) ∷ wordAt tables (4 + v) ∷ []
+  pub one-entry :
+      (v : ℕ) → (wordAt tables (4 + v) ≡ 0 → ⊥) → wordAt tables (4 + v) < 4_294_967_296
+      → termEntries (termsAbove tables v 1) ≡ (v + 1) ∷ wordAt tables (4 + v) ∷ []
   unfolding termEntries
   one-entry v n h =
       ap termEntries (one-term v n h)

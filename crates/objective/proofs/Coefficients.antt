@@ -1,5 +1,6 @@
 -- Sums over the variables: the objective's terms, read back from the table, sum up as its coefficients do, because a variable without a term has
 -- coefficient 0.
+-- Assumes nothing.
 use Prim.Native.Nat.{ℕ, zero, suc, _+_, _*_, _-_, _≤_, _<_, zero-le}
 use native.Mathlib.Nat.{eq-or-lt-of-le}
 use native.Mathlib.Numerals.{add-one}

@@ -1,6 +1,7 @@
 -- The sums that code works out from the tables are those of the plan that they hold; and how large costs, l(O) and the bounds of the tightening
 -- are: an objective has at most 512 terms, each of at most a million.
-use Prim.Native.Nat.{ℕ, suc, _+_, _*_, _/_, _≤_, zero-le}
+-- Assumes nothing.
+use Prim.Native.Nat.{ℕ, suc, _+_, _*_, _/_, _≤_, _<_, zero-le}
 use native.Mathlib.Omega.{arith}
 use mathlib.Core.Path.{_≡_, ap}
 use mathlib.Core.Bool.{Bool, true, false, cond}
@@ -8,9 +9,10 @@ use mathlib.Core.List.{List, [], _∷_}
 use lib.Dec.{T}
 use lib.IntN.{ℤ, pos, negsuc, natAbs, _+ℤ_, _*ℤ_}
 use lib.ListN.{length, take, length-take}
-use Rattle.plpb.specs.Lists.{all}
+use lib.Signed.{leZ}
+use Rattle.plpb.specs.Lists.{_and_, all}
 use Rattle.plpb.specs.Plan.{Term, Plan, Assignment, value, total, cost, negativePart, leastTotal, floorCost, rising}
-use Rattle.plpb.specs.Search.{third, lbsBound, linearBound}
+use Rattle.plpb.specs.Search.{third, lbsBound, linearBound, atFloor}
 use Rattle.words.specs.Words.{wordBytes, wordAt}
 use Rattle.words.proofs.Words.{length-wordBytes}
 use Rattle.format.specs.Limits.{roomy}
@@ -108,6 +110,16 @@ module _ (p : Plan) (r : T (roomy p)) where
   pub floor-size : natAbs (floorCost p) ≤ 512_000_000
   unfolding floorCost
   floor-size = omega (arith, few, least-size (p .variables) (p .objective) (roomy-parts p r .objective .within))
+
+-- A cost above l(O) has a term to come from.
+some-terms : (a : Assignment) (ts : List Term) → (leZ (total a ts) (leastTotal ts) and leZ (leastTotal ts) (total a ts)) ≡ false → 0 < length ts
+unfolding total leastTotal _and_
+some-terms a [] e = absurd (let z : _≡_ {A = ℕ} 0 1 = cc in omega arith)
+some-terms a (t ∷ ts) e = omega arith
+
+pub some-objective : (p : Plan) (a : Assignment) → atFloor p a ≡ false → 0 < length (p .objective)
+unfolding atFloor cost floorCost
+some-objective p a e = some-terms a (p .objective) e
 
 third-size : (z : ℤ) → natAbs (third z) ≤ natAbs z / 3 + 1
 unfolding third

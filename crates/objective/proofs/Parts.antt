@@ -1,4 +1,5 @@
 -- A list written over a part of a list leaves the other parts; words written over words are their bytes written over bytes.
+-- Assumes nothing.
 use Prim.Native.Nat.{ℕ, zero, suc, _+_, _*_, _-_, _≤_}
 use native.Mathlib.Nat.{add-zero}
 use native.Mathlib.Omega.{arith}

@@ -1,5 +1,6 @@
 -- The tables of a plan with the added clause O ≤ m are its own with a few words written over them: the entries of one clause and one rule, the
 -- rule's terms, and three counts. They have room for it.
+-- Assumes nothing.
 use Prim.Native.Nat.{ℕ, suc, _+_, _*_, _-_, _≤_, _<_, zero-le}
 use native.Mathlib.Nat.{add-zero, zero-add}
 use native.Mathlib.Omega.{arith}

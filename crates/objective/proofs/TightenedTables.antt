@@ -1,5 +1,6 @@
 -- What code writes over the tables of a lawful plan, byte for byte, leaves the tables of that plan with the added clause O ≤ m; and another bound
 -- leaves those with the other bound.
+-- Assumes nothing.
 use Prim.Native.Nat.{ℕ, _+_, _*_, _≤_, _<_}
 use native.Mathlib.Omega.{arith}
 use mathlib.Core.Path.{_≡_, sym, ap, ap₂, _∙_}
@@ -59,6 +60,14 @@ both-hold q r tables terms rest more e f =
       ap (take tableSize) e ∙ take-at (wordBytes (tableWords q)) rest tableSize (omega (arith, length-wordBytes (tableWords q), length-tableWords q l)),
       ap (take termSize) f ∙ take-at (wordBytes (termWords q)) more termSize (omega (arith, length-wordBytes (termWords q), length-termWords q l)),
     )
+
+-- Copied tables hold what the tables held.
+pub copied-hold :
+    (q : Plan) → T (roomy q) → (tables terms work more : List ℕ) → Holds q tables terms
+    → Holds q (take tableSize tables ++ drop tableSize work) (take termSize terms ++ drop termSize more)
+unfolding Holds
+copied-hold q r tables terms work more h =
+    both-hold q r _ _ (drop tableSize work) (drop termSize more) (ap (λ bs. bs ++ drop tableSize work) (h .0)) (ap (λ bs. bs ++ drop termSize more) (h .1))
 
 -- ---- the added clause
 
@@ -157,15 +166,15 @@ module _ (tables terms : List ℕ) (b : Boundable tables terms) where
         ap₂ (λ n ts. putWords (2 * n) (termEntries ts) terms) (f ∙ terms-in plan (room-for plan l) tables tableHeld) objectiveHere
         ∙ added-terms plan (b .lawful) terms termsHeld m
 
--- A lawful plan that has an objective, and tables that hold it.
-module _ (p : Plan) (t : T (lawful p)) (some : 0 < length (p .objective)) (tables terms : List ℕ) (h : Holds p tables terms) where
+-- A lawful plan, and tables that hold it.
+module _ (p : Plan) (t : T (lawful p)) (tables terms : List ℕ) (h : Holds p tables terms) where
   pub boundable : Boundable tables terms
   boundable =
       let e = read-back p tables terms (lawful-roomy p t) h in
-      record { lawful = rw e t; holds = rw e h; some = rw e some }
+      record { lawful = rw e t; holds = rw e h }
 
-  -- What `add_bound` leaves is the tables of that plan with the added clause.
-  module _ (m : ℤ) (within : natAbs m ≤ 1_000_000_000) (out more : List ℕ)
+  -- What `add_bound` leaves is the tables of that plan with the added clause, where the objective has a term, as a rule must.
+  module _ (some : 0 < length (p .objective)) (m : ℤ) (within : natAbs m ≤ 1_000_000_000) (out more : List ℕ)
       (e : out ≡ wordBytes (tableWords (tightened (planOfTables tables terms) m)) ++ drop tableSize tables)
       (f : more ≡ wordBytes (termWords (tightened (planOfTables tables terms) m)) ++ drop termSize terms)
     where
@@ -198,6 +207,15 @@ rebound-table p t some k within tables h m =
 module _ (p : Plan) (t : T (lawful p)) (some : 0 < length (p .objective)) (k m : ℤ) (within : natAbs k ≤ 1_000_000_000) (within′ : natAbs m ≤ 1_000_000_000)
     (tables terms : List ℕ) (h : Holds (tightened p k) tables terms)
   where
+    pub rebound-room : tableSize ≤ length tables
+    rebound-room = table-room (tightened p k) tables terms (roomy-tightened p t some k within) h
+
+    pub rebound-rules : wordAt tables 2 ≤ 1_025
+    unfolding Holds
+    rebound-rules =
+        let room = room-tightened p (plan-parts p t) some k within in
+        omega (arith, rules-in (tightened p k) room tables (h .0), room .ruleCount)
+
     pub rebound-bytes : rebound m tables ≡ wordBytes (tableWords (tightened p m)) ++ drop tableSize tables
     unfolding Holds
     rebound-bytes = rebound-table p t some k within tables (h .0) m

@@ -1,4 +1,5 @@
 -- Words and bytes written over a list of bytes: writes one behind the other join, and a write into one part of a list leaves the others.
+-- Assumes nothing.
 use Prim.Native.Nat.{ℕ, suc, _+_, _*_, _≤_, _<_}
 use native.Mathlib.Numerals.{add-one}
 use native.Mathlib.Omega.{arith}
@@ -51,6 +52,14 @@ rule-written s r c d e {a} {b} h f g p q o =
     o
     ∙ rw (q, p, f, g, m, n)
     (ap (putWords (i + 4) (e ∷ [])) (words-next i (a ∷ b ∷ []) (c ∷ d ∷ []) s (omega arith)) ∙ words-next i (a ∷ b ∷ c ∷ d ∷ []) (e ∷ []) s (omega arith))
+
+-- The three counts, written two and one.
+pub counts-written :
+    (s : List ℕ) {a b c x y z : ℕ} {t out : List ℕ} → 16 ≤ length s → x ≡ a → y ≡ b → z ≡ c
+    → t ≡ putWords 1 (x ∷ y ∷ []) s
+    → out ≡ putWords 3 (z ∷ []) t
+    → out ≡ putWords 1 (a ∷ b ∷ c ∷ []) s
+counts-written s {a} {b} {c} h e f g p o = o ∙ rw (p, e, f, g) (words-next 1 (a ∷ b ∷ []) (c ∷ []) s (omega arith))
 
 -- The three writes of an added clause.
 pub entries-added :

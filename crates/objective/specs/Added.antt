@@ -1,10 +1,9 @@
 -- The added last clause, as words written over the tables.
 -- Assumes nothing.
-use Prim.Native.Nat.{ℕ, _+_, _*_, _<_}
+use Prim.Native.Nat.{ℕ, _+_, _*_}
 use mathlib.Core.List.{List, [], _∷_}
 use lib.Dec.{T}
 use lib.IntN.{ℤ}
-use lib.ListN.{length}
 use Rattle.plpb.specs.Plan.{Term}
 use Rattle.words.specs.Words.{wordBytes, wordAt, signed, unsigned}
 use Rattle.words.specs.Writes.{put}
@@ -31,8 +30,7 @@ addedEntries count bound s =
 unfoldable pub rebound : ℤ → List ℕ → List ℕ
 rebound m s = putWords (1_541 + 5 * wordAt s 2) (unsigned m ∷ []) s
 
--- Tables of a lawful plan that has an objective.
+-- Tables of a lawful plan: they have room for the clause.
 pub record Boundable (tables terms : List ℕ) : Type 0 where
   pub lawful : T (lawful (planOfTables tables terms))
   pub holds : Holds (planOfTables tables terms) tables terms
-  pub some : 0 < length (planOfTables tables terms .objective)

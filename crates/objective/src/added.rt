@@ -86,7 +86,8 @@ fn write_counts(tables: &mut [u8], clauses: usize, rules: usize, terms: usize)
 
 // The clause's and the rule's entries and the counts, with `count` terms written behind those that there were.
 fn add_entries(tables: &mut [u8], count: usize, bound: u32)
-    requires { ⌜ (tableSize ≤ length (now tables)) × (wordAt (now tables) 1 ≤ 512) × (wordAt (now tables) 2 ≤ 1024) × (wordAt (now tables) 3 ≤ 6000) × (count ≤ 512) ⌝ }
+    requires { ⌜ (tableSize ≤ length (now tables)) × (wordAt (now tables) 1 ≤ 512) × (wordAt (now tables) 2 ≤ 1024)
+        × (wordAt (now tables) 3 ≤ 6000) × (count ≤ 512) ⌝ }
     ensures { λ _. ⌜ now (tables .exit) ≡ addedEntries count bound (now (tables .entry)) ⌝ }
 {
     let clauses = words::index(tables, 1);
@@ -97,11 +98,13 @@ fn add_entries(tables: &mut [u8], count: usize, bound: u32)
     write_counts(tables, clauses + 1, rules + 1, first + count);
 }
 
-// Adds the last clause O ≤ m to the tables of a lawful plan that has an objective.
+// Adds the last clause O ≤ m to the tables of a lawful plan. A search adds it only where the objective has a term: without one every cost is l(O).
 pub fn add_bound(tables: &mut [u8], terms: &mut [u8], m: i64)
     requires { ⌜ Boundable (now tables) (now terms) × (natAbs m ≤ maxBound) ⌝ }
-    ensures { λ _. ⌜ now (tables .exit) ≡ wordBytes (tableWords (tightened (planOfTables (now (tables .entry)) (now (terms .entry))) m)) ++ drop tableSize (now (tables .entry)) ⌝ }
-    ensures { λ _. ⌜ now (terms .exit) ≡ wordBytes (termWords (tightened (planOfTables (now (tables .entry)) (now (terms .entry))) m)) ++ drop termSize (now (terms .entry)) ⌝ }
+    ensures { λ _. ⌜ now (tables .exit)
+        ≡ wordBytes (tableWords (tightened (planOfTables (now (tables .entry)) (now (terms .entry))) m)) ++ drop tableSize (now (tables .entry)) ⌝ }
+    ensures { λ _. ⌜ now (terms .exit)
+        ≡ wordBytes (termWords (tightened (planOfTables (now (tables .entry)) (now (terms .entry))) m)) ++ drop termSize (now (terms .entry)) ⌝ }
 {
     let first = words::index(tables, 3);
     let end = add_terms(tables, terms, first);

@@ -1,6 +1,9 @@
 // What an assignment costs, and l(O), from the coefficients in the table: one pass over the variables.
 ghost use mathlib.Core.Path.{_≡_};
 ghost use Prim.Native.Nat.{_+_, _*_, _≤_, _<_};
+ghost use mathlib.Core.Bool.{cond};
+ghost use lib.Dec.{eqb};
+ghost use lib.IntN.{pos};
 ghost use lib.ListN.{length};
 ghost use Rattle.plpb.specs.Plan.{negativePart};
 ghost use Rattle.words.specs.Words.{wordAt};
@@ -21,16 +24,19 @@ fn coefficient(tables: &[u8], i: usize) -> i64
     wide(words::read_i32(tables, 4 * (4 + i)))
 }
 
+// A weight where its variable's byte is 1. The weight is read first: then the machine chooses without a jump.
+fn chosen(byte: u8, weight: i64) -> i64
+    ensures { λ r. ⌜ r ≡ cond (eqb byte 1) weight (pos 0) ⌝ }
+{
+    if byte == 1 { weight } else { 0 }
+}
+
 // What variable i + 1 costs: its coefficient where it is true.
 fn share(tables: &[u8], assignment: &[u8], i: usize) -> i64
     requires { ⌜ (4 * (4 + i) + 4 ≤ length (now tables)) × (i < length (now assignment)) ⌝ }
     ensures { λ r. ⌜ r ≡ shareAt (now (tables .entry)) (now (assignment .entry)) i ⌝ }
 {
-    if assignment[i] == 1 {
-        coefficient(tables, i)
-    } else {
-        0
-    }
+    chosen(assignment[i], coefficient(tables, i))
 }
 
 // What it costs at least: its coefficient where that is negative.

@@ -26,14 +26,19 @@ add-entries-requires c κs =
     let r = ready _ _ (c .before .before .before .before .before .before .before .before .before .before .before .pre .0) in
     (r .room, r .clauses, r .rules, r .count, omega (arith, r .few, c .before .before .before .before .add-terms .ensures .1))
 
+-- The places behind each call, the last one first.
 returns : tie.Need-returns
 returns c =
-    let start = c .before .before .before .before .before .before .before .before .before .before .before .before .before .before in
-    let tables = start .args .tables .now in
-    let e : c .before .before .before .before .before .before .before .add-terms .result - c .before .before .before .before .before .before .before .before .before .before .index .result ≡ length (objectiveOf (wordAt tables)) = omega (arith, c .before .before .before .before .before .before .before .add-terms .ensures .1) in
-    let u = c .before .before .before .bound-word .ensures ∙ ap unsigned (toZ-ofZ (start .fits .m)) in (
-      c .before .before .add-entries .ensures ∙ bounded-table _ _ (start .pre .0) (start .args .m) _ _ e u,
-      c .before .before .before .before .before .before .before .add-terms .ensures .0 ∙ bounded-terms _ _ (start .pre .0) (start .args .m) _ _ e u (c .before .before .before .before .before .before .before .before .before .before .index .result) (c .before .before .before .before .before .before .before .before .before .before .index .ensures),
+    let entries = c .before .before in
+    let word = entries .before in
+    let terms = word .before .before .before .before in
+    let first = terms .before .before .before in
+    let start = first .before .before .before .before in
+    let e : terms .add-terms .result - first .index .result ≡ length (objectiveOf (wordAt (start .args .tables .now))) =
+    omega (arith, terms .add-terms .ensures .1) in
+    let u = word .bound-word .ensures ∙ ap unsigned (toZ-ofZ (start .fits .m)) in (
+      entries .add-entries .ensures ∙ bounded-table _ _ (start .pre .0) (start .args .m) _ _ e u,
+      terms .add-terms .ensures .0 ∙ bounded-terms _ _ (start .pre .0) (start .args .m) _ _ e u (first .index .result) (first .index .ensures),
     )
 
 pub add-bound-spec : {M : Type 1} → statement M

@@ -5,10 +5,18 @@ use Rattle.objective.proofs.WordWrites.{entries-added}
 use Rattle.objective.proofs.added.add_entries.Statement.{statement}
 use Rattle.objective.proofs.added.add_entries.Tie as tie
 
+-- The places behind each call, the last one first.
 returns : tie.Need-returns
 returns c =
-    entries-added (c .before .before .before .before .before .before .before .before .before .before .before .before .before .before .before .before .before .before .before .args .tables .now) (c .before .before .before .before .before .before .before .before .before .before .before .before .before .before .before .before .before .before .before .args .count) (c .before .before .before .before .before .before .before .before .before .before .before .before .before .before .before .before .before .before .before .args .bound) (c .before .before .before .before .before .before .before .before .before .before .before .before .before .before .before .before .index .ensures) (c .before .before .before .before .before .before .before .before .before .before .before .before .before .before .index2 .ensures) (c .before .before .before .before .before .before .before .before .before .before .before .before .index3 .ensures)
-    (c .before .before .before .before .before .before .before .before .before .before .add-clause .ensures) (c .before .before .before .before .before .before .add-rule .ensures) (c .before .before .write-counts .ensures)
+    let counts = c .before .before in
+    let rule = counts .before .before .before .before in
+    let clause = rule .before .before .before .before in
+    let third = clause .before .before in
+    let second = third .before .before in
+    let first = second .before .before in
+    let args = first .before .before .before .args in
+    entries-added (args .tables .now) (args .count) (args .bound) (first .index .ensures) (second .index2 .ensures) (third .index3 .ensures)
+    (clause .add-clause .ensures) (rule .add-rule .ensures) (counts .write-counts .ensures)
 
 pub add-entries-spec : {M : Type 1} → statement M
 add-entries-spec =

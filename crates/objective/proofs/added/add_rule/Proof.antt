@@ -6,11 +6,15 @@ use Rattle.objective.proofs.WordWrites.{rule-written}
 use Rattle.objective.proofs.added.add_rule.Statement.{statement}
 use Rattle.objective.proofs.added.add_rule.Tie as tie
 
+-- The places behind each call, the last one first.
 returns : tie.Need-returns
 returns c =
-    let start = c .before .before .before .before .before .before .before .before .before .before .before .before .before .before .before in
-    rule-written (start .args .tables .now) (start .args .rules) 2 0 (start .args .bound) (omega (arith, start .pre)) (c .before .before .before .before .before .before .before .before .before .before .before .before .narrow .ensures)
-    (c .before .before .before .before .before .before .before .before .before .before .before .narrow2 .ensures) (c .before .before .before .before .before .before .before .before .before .before .write-two .ensures) (c .before .before .before .before .before .before .write-two2 .ensures) (c .before .before .write-word .ensures)
+    let third = c .before .before in
+    let second = third .before .before .before .before in
+    let first = second .before .before .before .before in
+    let start = first .before .before .before .before .before in
+    rule-written (start .args .tables .now) (start .args .rules) 2 0 (start .args .bound) (omega (arith, start .pre)) (first .before .before .narrow .ensures)
+    (first .before .narrow2 .ensures) (first .write-two .ensures) (second .write-two2 .ensures) (third .write-word .ensures)
 
 pub add-rule-spec : {M : Type 1} → statement M
 add-rule-spec =

@@ -13,9 +13,12 @@ returns c =
 
 returns-2 : tie.Need-returns-2
 returns-2 c =
-    let start = c .before .before .before .before .before .before .before .before .before in
-    written (start .args .tables .now) (start .args .terms .now) (start .args .v) (start .args .at) _ _ _ (c .before .before .before .before .before .before .word .ensures) (c .before .before .before .before .before .before .word .ok) (c .before .before .before .before .before .if1 .left)
-    (c .before .before .before .narrow .ensures) (c .before .before .write-two .ensures)
+    let write = c .before .before in
+    let test = write .before .before .before in
+    let read = test .before in
+    let args = read .before .before .before .args in
+    written (args .tables .now) (args .terms .now) (args .v) (args .at) _ _ _ (read .word .ensures) (read .word .ok) (test .if1 .left)
+    (write .before .narrow .ensures) (write .write-two .ensures)
 
 pub add-term-spec : {M : Type 1} → statement M
 add-term-spec =

@@ -31,11 +31,13 @@ add-term-requires c κs =
 
 loop-again : tie.Need-loop-again Inv-loop μ-loop
 loop-again c =
-    let start = c .before .before .before .before .before .before .before .before .before in
-    let at = c .before .before .before .before .before .loop in
-    let n = c .before .before .before .before .before .before .index .ensures in
-    let room : 8 * (start .args .first + c .before .before .before .before .before .before .index .result) ≤ length (start .args .terms .now) = omega (arith, start .pre) in
-    adding-more _ _ _ _ room _ _ _ (c .before .before .before .before .loop-test .taken) (at .inv) _ _ (c .before .before .add-term .ensures .0) (c .before .before .add-term .ensures .1)
+    let call = c .before .before in
+    let test = call .before .before in
+    let index = test .before .before in
+    let start = index .before .before .before in
+    let n = index .index .ensures in
+    let room : 8 * (start .args .first + index .index .result) ≤ length (start .args .terms .now) = omega (arith, start .pre) in
+    adding-more _ _ _ _ room _ _ _ (test .loop-test .taken) (test .before .loop .inv) _ _ (call .add-term .ensures .0) (call .add-term .ensures .1)
 
 returns : tie.Need-returns Inv-loop μ-loop
 returns c = adding-all _ _ _ _ _ _ _ (c .before .before .index .ensures) (c .loop-test .left) (c .before .loop .inv)

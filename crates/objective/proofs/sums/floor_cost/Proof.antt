@@ -30,24 +30,29 @@ least-requires c κs =
     let n = c .before .before .index .ensures in
     omega (arith, pre .room, pre .high)
 
+-- What a step needs, and what it leaves.
 module _ (c : tie.After-least Inv-loop μ-loop) where
   high : c .before .before .before .index .result ≤ 512
   high = omega (arith, c .before .before .before .index .ensures, c .before .before .before .before .before .pre .high)
 
-  small : natAbs (leastAt (c .before .before .before .before .before .args .tables .now) (c .before .before .loop .i)) ≤ 1_000_000
+  small :
+      natAbs
+      (leastAt (c .before .before .before .before .before .args .tables .now) (c .before .before .loop .i))
+      ≤ 1_000_000
   small =
-      least-small _ (c .before .before .loop .i)
-      (c .before .before .before .before .before .pre .small (c .before .before .loop .i) (omega (arith, c .before .before .before .index .ensures, c .before .loop-test .taken)))
+      let loop = c .before .before in
+      let start = loop .before .before .before in
+      least-small _ (loop .loop .i) (start .pre .small (loop .loop .i) (omega (arith, loop .before .index .ensures, c .before .loop-test .taken)))
 
 add-sum : tie.Need-add-sum Inv-loop μ-loop
 add-sum c =
-    step-fits _ _ (c .before .before .loop .sum) (c .before .before .loop .i) _ (high c) (c .before .loop-test .taken) (record { sfits = c .least .ok }) (c .least .ensures) (small c)
-    (c .before .before .loop .inv)
+    let loop = c .before .before .loop in
+    step-fits _ _ (loop .sum) (loop .i) _ (high c) (c .before .loop-test .taken) (record { sfits = c .least .ok }) (c .least .ensures) (small c) (loop .inv)
 
 loop-again : tie.Need-loop-again Inv-loop μ-loop
 loop-again c =
-    step-running _ _ (c .before .before .loop .sum) (c .before .before .loop .i) _ (high c) (c .before .loop-test .taken) (record { sfits = c .least .ok }) (c .least .ensures) (small c)
-    (c .before .before .loop .inv)
+    let loop = c .before .before .loop in
+    step-running _ _ (loop .sum) (loop .i) _ (high c) (c .before .loop-test .taken) (record { sfits = c .least .ok }) (c .least .ensures) (small c) (loop .inv)
 
 returns : tie.Need-returns Inv-loop μ-loop
 returns c =
