@@ -1,7 +1,7 @@
 //! Tables, assignments and tallies in bytes, written from docs/FORMAT.md and not from the library.
 
 use reference::file::{MOST_CLAUSES, MOST_RULES, MOST_TERMS, MOST_VARIABLES};
-use reference::plan::{Plan, Rule};
+use reference::plan::{Clause, Plan, Rule, Term};
 use reference::tallies::Tallies;
 
 /// One clause and rule more than a plan may have, with its terms.
@@ -97,6 +97,61 @@ pub fn tallies(tallies: &Tallies) -> Vec<u8> {
     words.fill(RULES + CLAUSES);
     words.push(tallies.unsatisfied as i64);
     words.0
+}
+
+fn word(bytes: &[u8], index: usize) -> Option<u32> {
+    let bytes = bytes.get(4 * index..4 * index + 4)?;
+    Some(u32::from_le_bytes(bytes.try_into().unwrap()))
+}
+
+/// The plan that two tables seem to hold, where every place they point at is inside and every mode is one.
+pub fn plan(tables: &[u8], terms: &[u8]) -> Option<Plan> {
+    let signed = |word: u32| word as i32 as i64;
+    let variables = word(tables, 0)? as usize;
+    let mut objective = Vec::new();
+    for variable in 1..=variables.min(MOST_VARIABLES) {
+        let weight = signed(word(tables, 3 + variable)?);
+        if weight != 0 {
+            objective.push(Term { variable, weight });
+        }
+    }
+    let mut clauses = Vec::new();
+    for clause in 0..word(tables, 1)? as usize {
+        let (first, count) = (
+            word(tables, 516 + 2 * clause)?,
+            word(tables, 517 + 2 * clause)?,
+        );
+        let mut rules = Vec::new();
+        for rule in first..first.checked_add(count)? {
+            let at = 4 + MOST_VARIABLES + 2 * CLAUSES + 5 * rule as usize;
+            let (first, count, mode) = (
+                word(tables, at)?,
+                word(tables, at + 1)?,
+                word(tables, at + 2)?,
+            );
+            if !(1..=3).contains(&mode) {
+                return None;
+            }
+            let mut terms_of_rule = Vec::new();
+            for term in first..first.checked_add(count)? {
+                terms_of_rule.push(Term {
+                    variable: word(terms, 2 * term as usize)? as usize,
+                    weight: signed(word(terms, 2 * term as usize + 1)?),
+                });
+            }
+            rules.push(Rule {
+                lower: (mode & 1 != 0).then_some(signed(word(tables, at + 3)?)),
+                upper: (mode & 2 != 0).then_some(signed(word(tables, at + 4)?)),
+                terms: terms_of_rule,
+            });
+        }
+        clauses.push(Clause { rules });
+    }
+    Some(Plan {
+        variables,
+        objective,
+        clauses,
+    })
 }
 
 #[cfg(test)]

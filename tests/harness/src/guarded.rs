@@ -1,0 +1,37 @@
+//! Buffers with guard bytes before and behind, so that a write outside of what is lent is seen.
+
+const GUARD: usize = 64;
+
+/// A buffer of some length in the middle of a larger one, filled with noise all round.
+#[derive(Clone, Debug, PartialEq, Eq)]
+pub struct Guarded {
+    bytes: Vec<u8>,
+    length: usize,
+}
+
+impl Guarded {
+    /// A buffer that holds these bytes.
+    pub fn holding(bytes: &[u8], noise: u8) -> Guarded {
+        let mut all = vec![noise; GUARD];
+        all.extend_from_slice(bytes);
+        all.resize(bytes.len() + 2 * GUARD, noise ^ 0xff);
+        Guarded {
+            bytes: all,
+            length: bytes.len(),
+        }
+    }
+
+    pub fn lend(&mut self) -> &mut [u8] {
+        &mut self.bytes[GUARD..GUARD + self.length]
+    }
+
+    pub fn bytes(&self) -> &[u8] {
+        &self.bytes[GUARD..GUARD + self.length]
+    }
+
+    /// The guards of the two are alike.
+    pub fn same_guards(&self, other: &Guarded) -> bool {
+        self.bytes[..GUARD] == other.bytes[..GUARD]
+            && self.bytes[GUARD + self.length..] == other.bytes[GUARD + other.length..]
+    }
+}

@@ -1,0 +1,114 @@
+//! Writes the plans that the benchmarks run on into a folder, the same ones each time.
+//!
+//! cargo run --release -p reference --example plans -- FOLDER
+
+use reference::file::{write, write_numbers};
+use reference::plan::{Clause, Plan, Rule, Term};
+use reference::random::{full_plan, Random};
+
+/// A rule over some variables, with weights up to `most`.
+fn rule(random: &mut Random, n: usize, count: usize, most: i64) -> Rule {
+    let terms = random.terms(n, count, most);
+    let least: i64 = terms.iter().map(|term| term.weight.min(0)).sum();
+    let greatest: i64 = terms.iter().map(|term| term.weight.max(0)).sum();
+    let lower = least + (greatest - least) / 3;
+    let upper = greatest - (greatest - least) / 4;
+    Rule {
+        lower: random.percent(70).then_some(lower),
+        upper: Some(upper),
+        terms,
+    }
+}
+
+fn metres(random: &mut Random, n: usize) -> Vec<Term> {
+    (1..=n)
+        .map(|variable| Term {
+            variable,
+            weight: random.between(1, 900),
+        })
+        .collect()
+}
+
+/// About 120 variables and 150 clauses, each of one or two short rules with small weights.
+fn race_day(random: &mut Random) -> Plan {
+    let n = 120;
+    let clauses = (0..150)
+        .map(|_| Clause {
+            rules: (0..1 + random.below(2))
+                .map(|_| {
+                    let count = 3 + random.below(4);
+                    rule(random, n, count, 3)
+                })
+                .collect(),
+        })
+        .collect();
+    Plan {
+        variables: n,
+        objective: metres(random, n),
+        clauses,
+    }
+}
+
+/// 512 rules 'so many of these eleven'.
+fn cardinality(random: &mut Random) -> Plan {
+    let n = 512;
+    let clauses = (0..512)
+        .map(|_| Clause {
+            rules: vec![rule(random, n, 11, 1)],
+        })
+        .collect();
+    Plan {
+        variables: n,
+        objective: metres(random, n),
+        clauses,
+    }
+}
+
+/// Eleven rules over all 512 variables, with weights up to 1,000,000.
+fn dense(random: &mut Random) -> Plan {
+    let n = 512;
+    let clauses = (0..11)
+        .map(|_| Clause {
+            rules: vec![rule(random, n, n, 1_000_000)],
+        })
+        .collect();
+    Plan {
+        variables: n,
+        objective: metres(random, n),
+        clauses,
+    }
+}
+
+/// Two clauses of 512 rules each.
+fn wide(random: &mut Random) -> Plan {
+    let n = 512;
+    let clauses = (0..2)
+        .map(|_| Clause {
+            rules: (0..512).map(|_| rule(random, n, 5, 9)).collect(),
+        })
+        .collect();
+    Plan {
+        variables: n,
+        objective: metres(random, n),
+        clauses,
+    }
+}
+
+fn main() -> std::io::Result<()> {
+    let folder = std::env::args().nth(1).expect("usage: plans FOLDER");
+    let mut random = Random::new(2026);
+    let plans = [
+        ("race-day", race_day(&mut random)),
+        ("full-sparse", full_plan(&mut random)),
+        ("cardinality", cardinality(&mut random)),
+        ("dense", dense(&mut random)),
+        ("wide", wide(&mut random)),
+    ];
+    for (name, plan) in plans {
+        std::fs::write(format!("{folder}/{name}.plan"), write(&plan))?;
+    }
+    std::fs::write(
+        format!("{folder}/numbers.bin"),
+        write_numbers(&random.numbers(16_384)),
+    )
+}
