@@ -2,3 +2,4 @@
 pub mod Judged
 pub mod TermLaws
 pub mod Stepped
+pub mod Found

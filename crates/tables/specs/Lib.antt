@@ -2,3 +2,4 @@
 pub mod Load
 pub mod Fields
 pub mod Terms
+pub mod Places

@@ -2,5 +2,6 @@
 mod field;
 mod judge;
 mod terms;
+mod walk;
 
 pub use judge::Answer;
