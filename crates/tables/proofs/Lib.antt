@@ -3,3 +3,4 @@ pub mod Judged
 pub mod TermLaws
 pub mod Stepped
 pub mod Found
+pub mod Entered

@@ -1,13 +1,13 @@
 -- Places of an accepted file: what reading finds from there on.
 -- Assumes nothing.
-use Prim.Native.Nat.{ℕ, _+_}
+use Prim.Native.Nat.{ℕ, _+_, _≤_}
 use mathlib.Core.Path.{_≡_}
 use mathlib.Core.Bool.{true, cond}
 use mathlib.Core.List.{List, []}
 use lib.Dec.{eqb}
 use lib.ListN.{length}
 use Rattle.plpb.specs.Plan.{Rule, Clause, Plan}
-use Rattle.format.specs.File.{State, Contents, Reading, refused, accepted, readFrom, read, tagAt, lengthAt}
+use Rattle.format.specs.File.{State, Contents, Reading, refused, accepted, readFrom, read, tagAt, lengthAt, boundsLawful, modeAt, lowerAt, upperAt}
 use Rattle.format.proofs.Order.{behind}
 
 -- The plan that a file says, and that it says one.
@@ -48,3 +48,10 @@ ruleFrom s at = cond (eqb (tagAt s at) 3) (at + 3) at
 -- The rules left of a clause were run through: how many they are, and what stands behind them.
 unfoldable pub Ran : List ℕ → ℕ → ℕ → ℕ → Type 0
 Ran s from count behindThem = (rs : List Rule) (cs : List Clause) → Found s from rs cs → (count ≡ length rs) × Found s behindThem [] cs
+
+-- A rule's field that has nothing wrong.
+pub record RuleHere (s : List ℕ) (at : ℕ) : Type 0 where
+  pub tag : tagAt s at ≡ 4
+  pub room : behindField s at ≤ length s
+  pub size : 15 ≤ lengthAt s at
+  pub bounds : boundsLawful (modeAt s at) (lowerAt s at) (upperAt s at) ≡ true

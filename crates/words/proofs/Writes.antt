@@ -11,7 +11,7 @@ use lib.Seq.{sets, sets-eq, length-sets, take-at, drop-at, drop-drop, drop-appen
 use borrow.Rule.Slice.PartMut.{midOf, postOf, putMid, post-is}
 use Rattle.words.specs.Words.{numAt, bytesOf, wordBytes}
 use Rattle.words.specs.Writes.{front, put}
-use Rattle.words.proofs.Words.{numAt-append, numAt-inside, numAt-bytesOf, numAt-take, numAt-drop}
+use Rattle.words.proofs.Words.{numAt-append, numAt-inside, numAt-bytesOf, numAt-take, numAt-drop, length-wordBytes}
 
 -- What two and four bytes read join to.
 pub num-two : (s : List ℕ) (at : ℕ) → getD s at 0 + 256 * getD s (at + 1) 0 ≡ numAt 2 s at
@@ -154,3 +154,22 @@ read-behind k at i bs s h l =
     ∙ ap (λ (m : ℕ). numAt k (front (take at s ++ bs) s) m) (sym j)
     ∙ behind-front k (take at s ++ bs) s (i - n)
     ∙ ap (λ (m : ℕ). numAt k s m) j
+
+wordBytes-snoc : (ws : List ℕ) (v : ℕ) → wordBytes (ws ++ (v ∷ [])) ≡ wordBytes ws ++ bytesOf 4 v
+unfolding wordBytes
+wordBytes-snoc ws v = wordBytes-append ws (v ∷ []) ∙ ap (λ (x : List ℕ). wordBytes ws ++ x) (append-nil (bytesOf 4 v))
+
+-- Words written one behind the other fill a table from its front.
+pub write-next :
+    (o : List ℕ) {s t : List ℕ} (ws : List ℕ) (v at : ℕ) → s ≡ front (wordBytes ws) o → at ≡ 4 * length ws → t ≡ put at (bytesOf 4 v) s
+    → t ≡ front (wordBytes (ws ++ (v ∷ []))) o
+write-next o ws v at p q r =
+    let n : at ≡ length (wordBytes ws) = q ∙ sym (length-wordBytes ws) in
+    r
+    ∙ ap₂ (λ (k : ℕ) (x : List ℕ). put k (bytesOf 4 v) x) n p
+    ∙ front-put (wordBytes ws) (bytesOf 4 v) o
+    ∙ ap (λ (x : List ℕ). front x o) (sym (wordBytes-snoc ws v))
+
+pub write-first : (s : List ℕ) {t : List ℕ} (v : ℕ) → t ≡ put 0 (bytesOf 4 v) s → t ≡ front (wordBytes (v ∷ [])) s
+unfolding wordBytes
+write-first s v r = write-next s [] v 0 (sym (front-none s)) refl r
