@@ -133,4 +133,4 @@ module _ {s : List ℕ} {from count : ℕ} {o : List ℕ} {at end left : ℕ} {t
   written-end l =
       h .filled
       ∙ ap (λ (ts : List Term). front (wordBytes (termEntries ts)) o)
-          (sym (append-nil (h .done)) ∙ ap (λ (ts : List Term). h .done ++ ts) (sym (terms-none s at left l)) ∙ h .rest)
+      (sym (append-nil (h .done)) ∙ ap (λ (ts : List Term). h .done ++ ts) (sym (terms-none s at left l)) ∙ h .rest)

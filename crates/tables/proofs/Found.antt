@@ -21,7 +21,7 @@ use Rattle.format.proofs.Bools.{and-left, and-right, true-T}
 use Rattle.format.proofs.Order.{behind, Standing, begins, rules, ends, standing}
 use Rattle.format.proofs.Fields.{Clean, read-end}
 use Rattle.format.proofs.Held.{not-refused, accepted-clean, accepted-behind, mapped}
-use Rattle.tables.specs.Places.{said, Found, Reads, Ran, firstClause, behindField, ruleFrom}
+use Rattle.tables.specs.Places.{said, Found, Reads, Ran, RuleHere, firstClause, behindField, ruleFrom}
 use Rattle.tables.proofs.Judged.{tag-byte}
 
 -- What a field adds, by its tag.
@@ -29,8 +29,7 @@ module _ (s : List ℕ) (at : ℕ) (d c : Contents) (same : addField s at d ≡ 
   add-count : tagAt s at ≡ 1 → (c .variables ≡ numAt 2 s (at + 3)) × (c .objective ≡ d .objective) × (c .rules ≡ d .rules) × (c .clauses ≡ d .clauses)
   unfolding addField
   add-count t =
-      let e = rw t at same in
-      (
+      let e = rw t at same in (
         ap (λ (x : Contents). x .variables) (sym e),
         ap (λ (x : Contents). x .objective) (sym e),
         ap (λ (x : Contents). x .rules) (sym e),
@@ -100,15 +99,13 @@ module _ {s : List ℕ} {at : ℕ} {rs : List Rule} {cs : List Clause} (f : Foun
   here : Standing (f .state .stage) (tagAt s at)
   here = rw (f .here) at (standing _ _ (f .stage) (clean .tag))
 
-
   -- A rule, and what is found behind it.
   pub found-rule : tagAt s at ≡ 4 → (rest : List Rule) × (rs ≡ ruleAt s at ∷ rest) × Found s (behindField s at) rest cs
   unfolding next stageAfter behind behindField
   found-rule e =
       let t = at-state 4 e in
       let (k, d, on, same) = behind-at s (f .state) (f .contents) (f .left) (f .reading) (λ q. absurd (omega (arith, t))) in
-      let (r, c) = add-rule s (f .state .at) d (f .contents) same t in
-      (
+      let (r, c) = add-rule s (f .state .at) d (f .contents) same t in (
         d .rules,
         sym (f .rules) ∙ r ∙ ap (λ (n : ℕ). ruleAt s n ∷ d .rules) (f .here),
         record {
@@ -160,8 +157,7 @@ module _ {s : List ℕ} {at : ℕ} {rs : List Rule} {cs : List Clause} (f : Foun
       let (none, k, d, on, c) = begun e in
       let n = f .state .at in
       let four : tagAt s (n + 3 + lengthAt s n) ≡ 4 = eqb-true _ _ (rw t at (clean-at s (next s (f .state)) d k on .tag)) in
-      let there : f .state .at + 3 + lengthAt s (f .state .at) ≡ at + 3 = omega (arith, f .here, clause-size e) in
-      (
+      let there : f .state .at + 3 + lengthAt s (f .state .at) ≡ at + 3 = omega (arith, f .here, clause-size e) in (
         none,
         d .rules,
         d .clauses,
@@ -183,6 +179,15 @@ module _ {s : List ℕ} {at : ℕ} {rs : List Rule} {cs : List Clause} (f : Foun
       none (begins t h) = found-clause t .0
       none (rules t h) = absurd (n t)
       none (ends t h) = found-end t .0
+
+-- Where no rule is left and no clause begins, the file ends.
+pub no-clause-left : {s : List ℕ} {at : ℕ} {cs : List Clause} → Found s at [] cs → (tagAt s at ≡ 3 → ⊥) → cs ≡ []
+no-clause-left {s} {at} {cs} f n = none (here f)
+  where
+    none : Standing (f .state .stage) (tagAt s at) → cs ≡ []
+    none (begins t h) = absurd (n t)
+    none (rules t h) = let (rest, e, g) = found-rule f t in let z : _≡_ {A = ℕ} 0 1 = cc in absurd (omega arith)
+    none (ends t h) = found-end f t .1
 
 four-not : (g : File.Stage) (tag : ℕ) → g ≡ File.atClause → mayStand g tag ≡ true → tag ≡ 4 → ⊥
 unfolding mayStand _or_
@@ -231,7 +236,7 @@ module _ (s : List ℕ) (left at n : ℕ) (c : Contents) (e : readFrom s left (s
       let (k, d, on, same) = behind-at s (second-state at n) c left e (λ q. absurd (omega (arith, t))) in
       let (o, r, cl) = add-objective s at d c same t in
       let f : Found s (behindField s at) (c .rules) (c .clauses) =
-          record { left = k; state = next s (second-state at n); contents = d; reading = on; here = refl; stage = rw t; rules = sym r; clauses = sym cl } in
+      record { left = k; state = next s (second-state at n); contents = d; reading = on; here = refl; stage = rw t; rules = sym r; clauses = sym cl } in
       record { room = second-clean .body; objective = o ∙ second-terms; found = none-left f (rw t) }
 
 -- What an accepted file says, and where its clauses begin.
@@ -327,6 +332,17 @@ module _ {s : List ℕ} {at : ℕ} {left : List Rule} (h : RulesLeft s at left) 
   rules-end n =
       ⊎-elim (λ t. absurd (n t)) (λ t. let (r, c) = found-end (h .found) t in sym (h .joined) ∙ rw (r, c)) (h .stands)
 
+  -- What is known of a rule's field.
+  pub rules-here : tagAt s at ≡ 4 → RuleHere s at
+  rules-here t =
+      record { tag = t; room = found-body (h .found); size = rule-room (h .found) t; bounds = rule-bounds (h .found) t }
+
+  pub rules-room : at + 3 ≤ length s
+  rules-room = found-room (h .found)
+
+  pub behind-room : tagAt s at ≡ 4 → behindField s at + 3 ≤ length s
+  behind-room t = let (rest, e, g) = found-rule (h .found) t in found-room g
+
   -- The next one lies further on.
   pub rules-on : at < ruleFrom s (behindField s at)
   unfolding behindField
@@ -336,10 +352,11 @@ module _ {s : List ℕ} {at : ℕ} {left : List Rule} (h : RulesLeft s at left) 
 pub record Running (s : List ℕ) (from at count : ℕ) : Type 0 where
   pub reads : Reads s at
   pub few : count ≤ at
+  pub on : from ≤ at
   pub left : (rs : List Rule) (cs : List Clause) → Found s from rs cs → (rest : List Rule) × (count + length rest ≡ length rs) × Found s at rest cs
 
 pub run-start : (s : List ℕ) (from : ℕ) → Reads s from → Running s from from 0
-run-start s from r = record { reads = r; few = omega arith; left = λ rs cs f. (rs, zero-add (length rs), f) }
+run-start s from r = record { reads = r; few = omega arith; on = omega arith; left = λ rs cs f. (rs, zero-add (length rs), f) }
 
 module _ {s : List ℕ} {from at count : ℕ} (h : Running s from at count) where
   one-more : {on : ℕ} → getD s at 0 ≡ 4 → on ≡ behindField s at → (rs : List Rule) (cs : List Clause) → Found s at rs cs
@@ -355,6 +372,7 @@ module _ {s : List ℕ} {from at count : ℕ} (h : Running s from at count) wher
       record {
         reads = (rest, cs, g);
         few = omega (arith, h .few);
+        on = omega (arith, h .on);
         left = λ rs cs f.
             let (left, n, f') = h .left rs cs f in
             let (rest, e', g) = one-more e q left cs f' in
@@ -363,7 +381,13 @@ module _ {s : List ℕ} {from at count : ℕ} (h : Running s from at count) wher
 
   pub run-end : (getD s at 0 ≡ 4 → ⊥) → Ran s from count at
   unfolding Ran
-  run-end n rs cs f =
-      let (rest, e, g) = h .left rs cs f in
-      let none = no-rule g (λ t. n (tag-byte s at ∙ t)) in
-      (omega (arith, ap length none), subst (λ (x : List Rule). Found s at x cs) none g)
+  run-end n = (
+    h .on,
+    λ rs cs f.
+        let (rest, e, g) = h .left rs cs f in
+        let none = no-rule g (λ t. n (tag-byte s at ∙ t)) in
+        (omega (arith, ap length none), subst (λ (x : List Rule). Found s at x cs) none g),
+  )
+
+pub begun-room : (s : List ℕ) (p : Plan) → read s ≡ accepted p → firstClause s + 3 ≤ length s
+begun-room s p a = found-room (begun-file s p a .found)

@@ -4,3 +4,6 @@ pub mod TermLaws
 pub mod Stepped
 pub mod Found
 pub mod Entered
+pub mod Filled
+pub mod Dense
+pub mod Whole

@@ -3,3 +3,4 @@ pub mod Load
 pub mod Fields
 pub mod Terms
 pub mod Places
+pub mod Sections

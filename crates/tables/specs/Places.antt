@@ -45,9 +45,17 @@ behindField s at = at + 3 + lengthAt s at
 unfoldable pub ruleFrom : List ℕ → ℕ → ℕ
 ruleFrom s at = cond (eqb (tagAt s at) 3) (at + 3) at
 
+-- Where the first rule of a file stands, or the end, and the next one behind a rule.
+abbrev pub firstRule : List ℕ → ℕ
+firstRule s = ruleFrom s (firstClause s)
+
+abbrev pub nextRule : List ℕ → ℕ → ℕ
+nextRule s at = ruleFrom s (behindField s at)
+
 -- The rules left of a clause were run through: how many they are, and what stands behind them.
 unfoldable pub Ran : List ℕ → ℕ → ℕ → ℕ → Type 0
-Ran s from count behindThem = (rs : List Rule) (cs : List Clause) → Found s from rs cs → (count ≡ length rs) × Found s behindThem [] cs
+Ran s from count behindThem =
+    (from ≤ behindThem) × ((rs : List Rule) (cs : List Clause) → Found s from rs cs → (count ≡ length rs) × Found s behindThem [] cs)
 
 -- A rule's field that has nothing wrong.
 pub record RuleHere (s : List ℕ) (at : ℕ) : Type 0 where

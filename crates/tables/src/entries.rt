@@ -47,7 +47,13 @@ pub fn put_head(out: &mut [u8], variables: u32, clauses: usize, rules: usize, te
     requires { ⌜ (16 ≤ length (now out)) × (clauses < 4_294_967_296) × (rules < 4_294_967_296) × (terms < 4_294_967_296) ⌝ }
     ensures { λ _. ⌜ now (out .exit) ≡ front (wordBytes (variables ∷ clauses ∷ rules ∷ terms ∷ [])) (now (out .entry)) ⌝ }
 {
-    put4(out, variables, narrow(clauses), narrow(rules), narrow(terms));
+    put4(
+        out,
+        variables,
+        narrow(clauses),
+        narrow(rules),
+        narrow(terms),
+    );
 }
 
 // A clause: its first rule and how many it has.
@@ -82,7 +88,11 @@ fn put_term(file: &[u8], at: usize, out: &mut [u8])
     requires { ⌜ (at + 6 ≤ length (now file)) × (8 ≤ length (now out)) ⌝ }
     ensures { λ _. ⌜ now (out .exit) ≡ front (wordBytes (termEntries (termAt (now (file .entry)) at ∷ []))) (now (out .entry)) ⌝ }
 {
-    put2(out, words::read_u16(file, at), words::read_u32(file, at + 2));
+    put2(
+        out,
+        words::read_u16(file, at),
+        words::read_u32(file, at + 2),
+    );
 }
 
 // "each rule's terms are written into the term table after those of the rules before it": out begins where those end.

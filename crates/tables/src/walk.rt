@@ -5,7 +5,7 @@ ghost use mathlib.Core.List.{List, []};
 ghost use lib.ListN.{length};
 ghost use Rattle.plpb.specs.Plan.{Rule, Clause};
 ghost use Rattle.format.specs.File.{termsIn, lengthAt};
-ghost use Rattle.tables.specs.Places.{Accepts, Reads, firstClause, behindField, ruleFrom, Ran};
+ghost use Rattle.tables.specs.Places.{Accepts, Reads, firstClause, behindField, ruleFrom, firstRule, nextRule, Ran};
 
 // Where the first clause or the end stands: behind the fields 01 and 02.
 pub fn first_clause(file: &[u8]) -> usize
@@ -29,6 +29,22 @@ pub fn rule_from(file: &[u8], at: usize) -> usize
     ensures { λ r. ⌜ r ≡ ruleFrom (now (file .entry)) at ⌝ }
 {
     if file[at] == 3 { at + 3 } else { at }
+}
+
+// The first rule of a file, or the end.
+pub fn first_rule(file: &[u8]) -> usize
+    requires { ⌜ firstClause (now file) + 3 ≤ length (now file) ⌝ }
+    ensures { λ r. ⌜ r ≡ firstRule (now (file .entry)) ⌝ }
+{
+    rule_from(file, first_clause(file))
+}
+
+// The next rule behind one, or the end.
+pub fn next_rule(file: &[u8], at: usize) -> usize
+    requires { ⌜ behindField (now file) at + 3 ≤ length (now file) ⌝ }
+    ensures { λ r. ⌜ r ≡ nextRule (now (file .entry)) at ⌝ }
+{
+    rule_from(file, after(file, at))
 }
 
 // How many terms a rule's field has.
