@@ -32,3 +32,4 @@ pub mod Sound
 pub mod GoodPlan
 pub mod PlanGood
 pub mod GoodTables
+pub mod IsLoaded

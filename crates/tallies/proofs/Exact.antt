@@ -1,4 +1,4 @@
--- The tallies of a lawful plan are below 2^32, because a rule has at most 512 terms of at most 1,000,000: so their words in bytes lose nothing.
+-- The tallies of a plan that the tables have room for are below 2^32, because a rule has at most 512 terms of at most 1,000,000: so their words in bytes lose nothing.
 use Prim.Native.Nat.{ℕ, _+_, _*_, _≤_, _<_}
 use native.Mathlib.Omega.{arith}
 use mathlib.Core.Path.{_≡_, sym, _∙_}
@@ -14,12 +14,12 @@ use Rattle.plpb.proofs.Lists.{all-and, all-concat, count-le}
 use Rattle.plpb.proofs.Normal.{P-at-most-K}
 use Rattle.words.specs.Words.{wordAt}
 use Rattle.words.proofs.Words.{Below, below-nil, below-cons, below-append, wordAt-wordBytes}
-use Rattle.format.specs.Limits.{ruleLawful, lawful}
+use Rattle.format.specs.Limits.{ruleLawful, roomy}
 use Rattle.format.specs.Tables.{padTo}
 use Rattle.format.proofs.Bools.{and-left, and-right}
-use Rattle.format.proofs.Lawful.{termWithin, weight-small, terms-short, rule-parts, clauseLawful, LawfulPlan, plan-parts}
+use Rattle.format.proofs.Lawful.{termWithin, weight-small, terms-short, rule-parts, clauseLawful, RoomyPlan, roomy-parts}
 use Rattle.tallies.specs.Layout.{tallyWords, tallyBytes}
-use Rattle.tallies.proofs.TallyBytes.{padded, lawful-fits, length-fresh-words}
+use Rattle.tallies.proofs.TallyBytes.{padded, roomy-fits, length-fresh-words}
 
 K-small : (n : ℕ) (ts : List Term) → all (termWithin n) ts ≡ true → K ts ≤ 1_000_000 * length ts
 unfolding K sumBy all termWithin size
@@ -31,7 +31,7 @@ P-small n a r h e =
     let q = rule-parts n r e .terms in
     omega (arith, P-at-most-K a (r .terms), K-small n (r .terms) (q .within), terms-short n 0 (r .terms) (unfold rising in q .rise) (q .within) (omega arith))
 
-rules-lawful : (p : Plan) → LawfulPlan p → all (ruleLawful (p .variables)) (rulesOf p) ≡ true
+pub rules-lawful : (p : Plan) → RoomyPlan p → all (ruleLawful (p .variables)) (rulesOf p) ≡ true
 unfolding clauseLawful rulesOf
 rules-lawful p q = all-concat (ruleLawful (p .variables)) (p .clauses) ∙ and-right _ _ (sym (all-and _ _ (p .clauses)) ∙ q .clauses)
 
@@ -50,21 +50,21 @@ below-clauses b f h (c ∷ cs) e =
 below-padTo : (b k : ℕ) (ws : List ℕ) → Below b ws → Below b (padTo k ws)
 below-padTo b k ws h i = rw (padded ws k i) (h i)
 
-module _ (p : Plan) (t : T (lawful p)) (a : Assignment) where
+module _ (p : Plan) (t : T (roomy p)) (a : Assignment) where
   rules-below : Below 4_294_967_296 (freshCount p a .trueWeights)
   unfolding freshCount
   rules-below =
       below-rules 4_294_967_296 (ruleLawful (p .variables)) (λ r. P a (r .terms)) (omega arith)
-      (λ r e. omega (arith, P-small (p .variables) a r (plan-parts p t .high) e)) (rulesOf p) (rules-lawful p (plan-parts p t))
+      (λ r e. omega (arith, P-small (p .variables) a r (roomy-parts p t .high) e)) (rulesOf p) (rules-lawful p (roomy-parts p t))
 
   clauses-below : Below 4_294_967_296 (freshCount p a .rulesHolding)
   unfolding freshCount rulesOf
   clauses-below =
-      below-clauses 4_294_967_296 (count (ruleHolds a)) (count-le (ruleHolds a)) (p .clauses) (omega (arith, plan-parts p t .ruleCount))
+      below-clauses 4_294_967_296 (count (ruleHolds a)) (count-le (ruleHolds a)) (p .clauses) (omega (arith, roomy-parts p t .ruleCount))
 
   total-below : freshCount p a .clausesUnsatisfied < 4_294_967_296
   unfolding freshCount
-  total-below = omega (arith, count-le (unsatisfied a) (p .clauses), plan-parts p t .clauseCount)
+  total-below = omega (arith, count-le (unsatisfied a) (p .clauses), roomy-parts p t .clauseCount)
 
   pub fresh-below : Below 4_294_967_296 (tallyWords (freshCount p a))
   unfolding tallyWords
@@ -77,4 +77,4 @@ module _ (p : Plan) (t : T (lawful p)) (a : Assignment) where
 
   pub fresh-word : (rest : List ℕ) (i : ℕ) → i < 1_539 → wordAt (tallyBytes (freshCount p a) ++ rest) i ≡ getD (tallyWords (freshCount p a)) i 0
   unfolding tallyBytes
-  fresh-word rest i h = wordAt-wordBytes (tallyWords (freshCount p a)) rest i fresh-below (rw (length-fresh-words p (lawful-fits p t) a) h)
+  fresh-word rest i h = wordAt-wordBytes (tallyWords (freshCount p a)) rest i fresh-below (rw (length-fresh-words p (roomy-fits p t) a) h)

@@ -34,7 +34,7 @@ use Rattle.tallies.specs.Narrow.{rulesNaming, clausesNaming, concerns, N
 
 -- ---- what a flip leaves of a rule and a clause that do not name its variable
 
-or-none : (a b : Bool) → a or b ≡ false → (a ≡ false) × (b ≡ false)
+pub or-none : (a b : Bool) → a or b ≡ false → (a ≡ false) × (b ≡ false)
 unfolding _or_
 or-none true b e = absurd (true≢false e)
 or-none false b e = (refl, e)

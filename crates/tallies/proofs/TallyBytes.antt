@@ -1,9 +1,8 @@
 -- The bytes of a fresh count fill the tallies' full limits, because each section is padded to its size and a word is four bytes.
 use Prim.Native.Nat.{ℕ, zero, suc, _*_, _-_, _≤_}
-use native.Mathlib.Nat.{le-trans}
 use mathlib.Core.Path.{_≡_, refl, ap, ap₂, _∙_}
 use mathlib.Core.List.{List, [], _∷_, _++_}
-use lib.Dec.{T, eqb, eqb→eq, eqb-refl, lit≤}
+use lib.Dec.{T, eqb, eqb→eq, eqb-refl}
 use lib.ListN.{length, getD, take, drop, replicate, length-append, length-map}
 use lib.Seq.{take-at, drop-at}
 use Rattle.plpb.specs.Plan.{Plan, Assignment}
@@ -11,8 +10,8 @@ use Rattle.plpb.specs.Tallies.{Tallies, rulesOf, freshCount}
 use Rattle.plpb.proofs.Lists.{and-left, and-right, and-both}
 use Rattle.words.proofs.Words.{length-wordBytes}
 use Rattle.format.specs.Tables.{padTo, sameBytes}
-use Rattle.format.specs.Limits.{lawful}
-use Rattle.format.proofs.Lawful.{plan-parts}
+use Rattle.format.specs.Limits.{lawful, roomy}
+use Rattle.format.proofs.Lawful.{lawful-roomy, roomy-parts}
 use Rattle.format.proofs.Spells.{length-padTo}
 use Rattle.tallies.specs.Layout.{tallySize, tallyWords, tallyBytes}
 
@@ -43,10 +42,11 @@ pub record Fits (p : Plan) : Type 0 where
   pub rules : length (rulesOf p) ≤ 1_025
   pub clauses : length (p .clauses) ≤ 513
 
+pub roomy-fits : (p : Plan) → T (roomy p) → Fits p
+roomy-fits p t = let q = roomy-parts p t in record { rules = q .ruleCount; clauses = q .clauseCount }
+
 pub lawful-fits : (p : Plan) → T (lawful p) → Fits p
-lawful-fits p t =
-    let q = plan-parts p t in
-    record { rules = le-trans (q .ruleCount) (lit≤ tt); clauses = le-trans (q .clauseCount) (lit≤ tt) }
+lawful-fits p t = roomy-fits p (lawful-roomy p t)
 
 module _ (p : Plan) (fits : Fits p) (a : Assignment) where
   pub fresh-rules : length (freshCount p a .trueWeights) ≤ 1_025

@@ -3,3 +3,4 @@ pub mod Layout
 pub mod Calls
 pub mod Demand
 pub mod Narrow
+pub mod Core

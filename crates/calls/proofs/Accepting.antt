@@ -1,0 +1,120 @@
+-- What an accepted or refused call comes to: an accepted one has tested all that the cores need, a refused one leaves what it was lent.
+use Prim.Native.Nat.{ℕ, zero, suc, _≤_, _<_}
+use native.Mathlib.Omega.{arith}
+use mathlib.Core.Path.{_≡_, refl, sym, _∙_}
+use mathlib.Core.Bool.{true, false, cond}
+use mathlib.Core.List.{List, _++_}
+use lib.Dec.{eqb, eqb·suc-zero}
+use lib.ListN.{length, take, drop}
+use borrow.Author.Tests.{lt-ltb, le-ltb}
+use Rattle.plpb.specs.Lists.{_and_}
+use Rattle.plpb.specs.Plan.{isVariable}
+use Rattle.plpb.specs.Count.{cappedBreak, cappedMake}
+use Rattle.words.specs.Words.{wordAt}
+use Rattle.format.specs.File.{refuse}
+use Rattle.format.specs.Tables.{planOfTables, sameBytes}
+use Rattle.format.proofs.Lawful.{lawful-roomy}
+use Rattle.format.proofs.IsLoaded.{isLoaded-lawful, isLoaded-holds, isLoaded-tables, same-equal}
+use Rattle.tallies.specs.Layout.{tallySize, bitsOf}
+use Rattle.tallies.specs.Calls.{Lent, plan, freshBytes, openRefusal, openTallies, callRefusal, turned, flipAssignment, flipTallies, countsBreak, countsMake}
+use Rattle.tallies.specs.Core.{Laid, Ready, Flippable, counted}
+use Rattle.calls.proofs.Opening.{first-words}
+use Rattle.tallies.proofs.Refusals.{Opens, opens, takes, only-variable, variable-range, assignment-room, tallies-room}
+
+module _ (l : Lent) where
+  pub opens-ready : Opens l → Ready (l .tables) (l .terms) (l .assignment)
+  unfolding plan
+  opens-ready o =
+      record {
+        laid = record {
+          room = lawful-roomy _ (isLoaded-lawful (l .tables) (l .terms) (o .loaded));
+          holds = isLoaded-holds (l .tables) (l .terms) (o .loaded);
+        };
+        bytes = assignment-room l o;
+      }
+
+  pub loaded-tables : Opens l → 26_668 ≤ length (l .tables)
+  loaded-tables o = isLoaded-tables (l .tables) (l .terms) (o .loaded)
+
+  pub open-refused : (k : ℕ) → k ≡ openRefusal l → (k ≡ 0 → ⊥) → l .tallies ≡ openTallies l
+  unfolding openTallies
+  open-refused zero e n = absurd (n refl)
+  open-refused (suc k) e n = rw (sym e, eqb·suc-zero k)
+
+  pub open-accepted : openRefusal l ≡ 0 → counted (l .tables) (l .terms) (l .assignment) (l .tallies) ≡ openTallies l
+  unfolding openTallies freshBytes plan
+  open-accepted e = rw e
+
+-- ---- flip and counts
+
+some : (x : ℕ) → (x ≡ 0 → ⊥) → 0 < x
+some zero n = absurd (n refl)
+some (suc x) n = omega arith
+
+module _ (l : Lent) (x : ℕ) where
+  pub call-25 : openRefusal l ≡ 0 → sameBytes (take tallySize (l .tallies)) (freshBytes l) ≡ false → 25 ≡ callRefusal l x
+  unfolding callRefusal refuse
+  call-25 e f = rw (e, f)
+
+  call-variable : openRefusal l ≡ 0 → sameBytes (take tallySize (l .tallies)) (freshBytes l) ≡ true → cond (isVariable (plan l) x) 0 23 ≡ callRefusal l x
+  call-variable e f = sym (only-variable l x (opens l e) (same-equal _ _ f))
+
+  pub call-zero : openRefusal l ≡ 0 → sameBytes (take tallySize (l .tallies)) (freshBytes l) ≡ true → x ≡ 0 → 23 ≡ callRefusal l x
+  unfolding isVariable _and_
+  call-zero e f z =
+      let n : isVariable (plan l) x ≡ false = rw (le-ltb 0 x (omega arith)) in
+      rw n at (call-variable e f)
+
+  pub call-high : openRefusal l ≡ 0 → sameBytes (take tallySize (l .tallies)) (freshBytes l) ≡ true → (x ≡ 0 → ⊥) → wordAt (l .tables) 0 < x
+      → 23 ≡ callRefusal l x
+  unfolding isVariable _and_
+  call-high e f z h =
+      let n : isVariable (plan l) x ≡ false = rw (lt-ltb 0 x (some x z), first-words l, le-ltb x (suc (wordAt (l .tables) 0)) h) in
+      rw n at (call-variable e f)
+
+  pub call-none : openRefusal l ≡ 0 → sameBytes (take tallySize (l .tallies)) (freshBytes l) ≡ true → (x ≡ 0 → ⊥) → x ≤ wordAt (l .tables) 0
+      → 0 ≡ callRefusal l x
+  unfolding isVariable _and_
+  call-none e f z h =
+      let n : isVariable (plan l) x ≡ true = rw (lt-ltb 0 x (some x z), first-words l, lt-ltb x (suc (wordAt (l .tables) 0)) (omega arith)) in
+      rw n at (call-variable e f)
+
+  pub call-first : (k : ℕ) → k ≡ openRefusal l → (k ≡ 0 → ⊥) → k ≡ callRefusal l x
+  unfolding callRefusal
+  call-first zero e n = absurd (n refl)
+  call-first (suc k) e n = rw (sym e, eqb·suc-zero k)
+
+  pub flip-refused : (k : ℕ) → k ≡ callRefusal l x → (k ≡ 0 → ⊥) → (l .assignment ≡ flipAssignment l x) × (l .tallies ≡ flipTallies l x)
+  unfolding flipAssignment flipTallies
+  flip-refused zero e n = absurd (n refl)
+  flip-refused (suc k) e n = (rw (sym e, eqb·suc-zero k), rw (sym e, eqb·suc-zero k))
+
+  pub flip-accepted : callRefusal l x ≡ 0
+      → (turned (l .assignment) x ≡ flipAssignment l x)
+      × (counted (l .tables) (l .terms) (turned (l .assignment) x) (l .tallies) ≡ flipTallies l x)
+  unfolding flipAssignment flipTallies freshBytes plan
+  flip-accepted e = (rw e, rw e)
+
+  pub flippable : callRefusal l x ≡ 0 → Flippable (l .tables) (l .terms) (l .assignment) (l .tallies) x
+  unfolding freshBytes plan
+  flippable e =
+      let t = takes l x e in
+      let r = variable-range (plan l) x (t .variable) in
+      record {
+        ready = opens-ready l (t .opening);
+        bits = t .opening .bits;
+        low = r .0;
+        high = r .1;
+        fresh = t .fresh;
+      }
+
+  pub counts-refused : (k : ℕ) → k ≡ callRefusal l x → (k ≡ 0 → ⊥) → (0 ≡ countsBreak l x) × (0 ≡ countsMake l x)
+  unfolding countsBreak countsMake
+  counts-refused zero e n = absurd (n refl)
+  counts-refused (suc k) e n = (rw (sym e, eqb·suc-zero k), rw (sym e, eqb·suc-zero k))
+
+  pub counts-accepted : callRefusal l x ≡ 0
+      → (cappedBreak (plan l) (bitsOf (plan l .variables) (l .assignment)) x ≡ countsBreak l x)
+      × (cappedMake (plan l) (bitsOf (plan l .variables) (l .assignment)) x ≡ countsMake l x)
+  unfolding countsBreak countsMake
+  counts-accepted e = (rw e, rw e)

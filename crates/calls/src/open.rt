@@ -1,0 +1,17 @@
+// Opening: the tallies of an assignment, counted afresh.
+ghost use mathlib.Core.Path.{_≡_};
+ghost use Rattle.tallies.specs.Calls.{openRefusal, openTallies};
+use crate::tests::open_refusal;
+use tallies::open::open_core;
+
+pub fn open(tables: &[u8], terms: &[u8], assignment: &[u8], tallies: &mut [u8]) -> u32
+    ensures { λ r. ⌜ r ≡ openRefusal (record { tables = now (tables .entry); terms = now (terms .entry); assignment = now (assignment .entry); tallies = now (tallies .entry) }) ⌝ }
+    ensures { λ _. ⌜ now (tallies .exit) ≡ openTallies (record { tables = now (tables .entry); terms = now (terms .entry); assignment = now (assignment .entry); tallies = now (tallies .entry) }) ⌝ }
+{
+    let refusal = open_refusal(tables, terms, assignment, tallies);
+    if refusal != 0 {
+        return refusal;
+    }
+    open_core(tables, terms, assignment, tallies);
+    0
+}

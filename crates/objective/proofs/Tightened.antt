@@ -1,0 +1,272 @@
+-- The tables of a plan with the added clause O ≤ m are its own with a few words written over them: the entries of one clause and one rule, the
+-- rule's terms, and three counts. They have room for it.
+-- Assumes nothing.
+use Prim.Native.Nat.{ℕ, suc, _+_, _*_, _-_, _≤_, _<_, zero-le}
+use native.Mathlib.Nat.{add-zero, zero-add}
+use native.Mathlib.Omega.{arith}
+use mathlib.Core.Path.{_≡_, refl, sym, ap, ap₂, _∙_}
+use mathlib.Core.Bool.{true}
+use mathlib.Core.List.{List, [], _∷_, _++_, map, append-assoc, append-nil}
+use lib.IntN.{ℤ, natAbs}
+use lib.ListN.{length, replicate, length-append, length-map}
+use borrow.Author.Tests.{le-leb}
+use Rattle.plpb.specs.Lists.{_and_, _or_, all, concat, sumBy, row}
+use Rattle.plpb.specs.Plan.{absent, present, Rule, Clause, Plan, rising}
+use Rattle.plpb.specs.Search.{tightened}
+use Rattle.plpb.specs.Tallies.{rulesOf}
+use Rattle.words.specs.Words.{unsigned}
+use Rattle.words.specs.Writes.{front, put}
+use Rattle.format.specs.Limits.{termCount, boundLawful, isPresent}
+use Rattle.format.specs.Writer.{mode, boundNumber}
+use Rattle.format.specs.Tables.{coefficient, padTo, clauseEntries, ruleEntries, termEntries, allTerms, tableWords, termWords}
+use Rattle.format.proofs.Bools.{and-join}
+use Rattle.format.proofs.Bounds.{bothLawful}
+use Rattle.format.proofs.Lists.{all-append, sumBy-append, length-row}
+use Rattle.format.proofs.Lawful.{LawfulPlan, RoomyPlan, clauseLawful, clause-whole, rule-whole, terms-short}
+use Rattle.format.proofs.Sections.{length-clauseEntries, length-ruleEntries, length-termEntries, length-allTerms}
+use Rattle.format.proofs.Spells.{length-padTo}
+use Rattle.objective.proofs.Parts.{put-inside, put-behind, pad-more}
+use Rattle.objective.proofs.AddedTerms.{termEntries-append}
+
+-- "the added last clause O ≤ m"
+abbrev pub boundRule : Plan → ℤ → Rule
+boundRule p m = record { lower = absent; upper = present m; terms = p .objective }
+
+-- ---- one more rule, clause and terms
+
+concat-last : {A : Type 0} (xss : List (List A)) (ys : List A) → concat (xss ++ (ys ∷ [])) ≡ concat xss ++ ys
+unfolding concat
+concat-last [] ys = append-nil ys
+concat-last (xs ∷ xss) ys = ap (λ zs. xs ++ zs) (concat-last xss ys) ∙ sym (append-assoc xs (concat xss) ys)
+
+map-last : {A B : Type 0} (f : A → B) (xs : List A) (y : A) → map f (xs ++ (y ∷ [])) ≡ map f xs ++ (f y ∷ [])
+map-last f [] y = refl
+map-last f (x ∷ xs) y = ap (λ zs. f x ∷ zs) (map-last f xs y)
+
+module _ (p : Plan) (m : ℤ) where
+  pub rules-last : rulesOf (tightened p m) ≡ rulesOf p ++ (boundRule p m ∷ [])
+  unfolding rulesOf tightened
+  rules-last = concat-last (p .clauses) (boundRule p m ∷ [])
+
+  pub clauses-last : tightened p m .clauses ≡ p .clauses ++ ((boundRule p m ∷ []) ∷ [])
+  unfolding tightened
+  clauses-last = refl
+
+  pub count-last : termCount (tightened p m) ≡ termCount p + length (p .objective)
+  unfolding termCount sumBy
+  count-last = ap (sumBy (λ r. length (r .terms))) rules-last ∙ sumBy-append _ (rulesOf p) (boundRule p m ∷ []) ∙ omega arith
+
+  pub terms-last : allTerms (tightened p m) ≡ allTerms p ++ p .objective
+  unfolding allTerms
+  terms-last = ap (λ rs. concat (map (λ r. r .terms) rs)) rules-last ∙ ap concat (map-last (λ r. r .terms) (rulesOf p) (boundRule p m)) ∙ concat-last _ (p .objective)
+
+pub clauseEntries-last :
+    (first : ℕ) (cs : List Clause) (c : Clause)
+    → clauseEntries first (cs ++ (c ∷ [])) ≡ clauseEntries first cs ++ ((first + length (concat cs)) ∷ length c ∷ [])
+unfolding clauseEntries concat
+clauseEntries-last first [] c = ap (λ n. n ∷ length c ∷ []) (sym (add-zero first))
+clauseEntries-last first (d ∷ cs) c =
+    let e : first + length d + length (concat cs) ≡ first + length (d ++ concat cs) = omega (arith, length-append d (concat cs)) in
+    ap (λ ws. first ∷ length d ∷ ws)
+    (clauseEntries-last (first + length d) cs c ∙ ap (λ n. clauseEntries (first + length d) cs ++ (n ∷ length c ∷ [])) e)
+
+pub ruleEntries-last :
+    (first : ℕ) (rs : List Rule) (r : Rule)
+    → ruleEntries first (rs ++ (r ∷ []))
+    ≡ ruleEntries first rs
+    ++ ((first + sumBy (λ q. length (q .terms)) rs)
+    ∷ length (r .terms)
+    ∷ mode (r .lower) (r .upper)
+    ∷ unsigned (boundNumber (r .lower))
+    ∷ unsigned (boundNumber (r .upper))
+    ∷ [])
+unfolding ruleEntries sumBy
+ruleEntries-last first [] r = rw (add-zero first)
+ruleEntries-last first (q ∷ rs) r =
+    let e : first + length (q .terms) + sumBy (λ q. length (q .terms)) rs ≡ first + (length (q .terms) + sumBy (λ q. length (q .terms)) rs) = omega arith in
+    rw (ruleEntries-last (first + length (q .terms)) rs r, e)
+
+-- ---- the tables have room
+
+module _ (p : Plan) (l : LawfulPlan p) (some : 0 < length (p .objective)) (m : ℤ) (within : natAbs m ≤ 1_000_000_000) where
+  both : bothLawful absent (present m) ≡ true
+  unfolding bothLawful boundLawful isPresent _and_ _or_
+  both = rw (le-leb (natAbs m) 1_000_000_000 within)
+
+  lawfulClause : clauseLawful (p .variables) (boundRule p m ∷ []) ≡ true
+  unfolding all
+  lawfulClause =
+      clause-whole (p .variables) (boundRule p m ∷ []) (omega arith)
+      (and-join _ _ (rule-whole (p .variables) (boundRule p m) (record { both = both; some = some; terms = l .objective })) refl)
+
+  pub room-tightened : RoomyPlan (tightened p m)
+  unfolding tightened all rising
+  room-tightened =
+      let n = length-append (p .clauses) ((boundRule p m ∷ []) ∷ []) in
+      let k = length-append (rulesOf p) (boundRule p m ∷ []) in
+      let few = terms-short (p .variables) 0 (p .objective) (l .objective .rise) (l .objective .within) zero-le in
+      record {
+        low = l .low;
+        high = l .high;
+        objective = l .objective;
+        clauses = all-append (clauseLawful (p .variables)) (p .clauses) _ (l .clauses) (and-join _ _ lawfulClause refl);
+        clauseCount = omega (arith, l .clauseCount);
+        ruleCount = omega (arith, l .ruleCount, ap length (rules-last p m));
+        terms = omega (arith, l .terms, l .high, count-last p m);
+      }
+
+-- ---- the words
+
+-- The sections of a table: four counts, 512 coefficients, the clauses' and the rules' entries.
+module _ (a b c d i : ℕ) (os xs ys ws : List ℕ) (coefficients : length os ≡ 512) where
+  put-clause :
+      i + length ws ≤ length xs
+      → put (516 + i) ws (a ∷ b ∷ c ∷ d ∷ (os ++ (xs ++ ys))) ≡ a ∷ b ∷ c ∷ d ∷ (os ++ (put i ws xs ++ ys))
+  unfolding put
+  put-clause h =
+      let e : 516 + i ≡ suc (suc (suc (suc (512 + i)))) = omega arith in
+      rw e
+      (ap (λ zs. a ∷ b ∷ c ∷ d ∷ zs)
+      (put-behind 512 i ws os (xs ++ ys) coefficients ∙ ap (λ zs. os ++ zs) (put-inside i ws xs ys h)))
+
+  put-rule :
+      length xs ≡ 1_026
+      → put (1_542 + i) ws (a ∷ b ∷ c ∷ d ∷ (os ++ (xs ++ ys))) ≡ a ∷ b ∷ c ∷ d ∷ (os ++ (xs ++ put i ws ys))
+  unfolding put
+  put-rule h =
+      let e : 1_542 + i ≡ suc (suc (suc (suc (512 + (1_026 + i))))) = omega arith in
+      rw e
+      (ap (λ zs. a ∷ b ∷ c ∷ d ∷ zs)
+      (put-behind 512 (1_026 + i) ws os (xs ++ ys) coefficients ∙ ap (λ zs. os ++ zs) (put-behind 1_026 i ws xs ys h)))
+
+put-counts : (a b c d x y z : ℕ) (ws : List ℕ) → put 1 (x ∷ y ∷ z ∷ []) (a ∷ b ∷ c ∷ d ∷ ws) ≡ a ∷ x ∷ y ∷ z ∷ ws
+unfolding put front
+put-counts a b c d x y z ws = refl
+
+module _ (p : Plan) (l : LawfulPlan p) where
+  abbrev costs : List ℕ
+  costs = map (λ x. unsigned (coefficient (p .objective) x)) (row 1 512)
+
+  abbrev first : List ℕ
+  first = clauseEntries 0 (p .clauses)
+
+  abbrev second : List ℕ
+  second = ruleEntries 0 (rulesOf p)
+
+  -- The words of the added clause's entry, of its rule's and of the counts.
+  abbrev pub clauseWords : List ℕ
+  clauseWords = length (rulesOf p) ∷ 1 ∷ []
+
+  abbrev pub ruleWords : ℤ → List ℕ
+  ruleWords m = termCount p ∷ length (p .objective) ∷ 2 ∷ 0 ∷ unsigned m ∷ []
+
+  abbrev pub countWords : List ℕ
+  countWords = (length (p .clauses) + 1) ∷ (length (rulesOf p) + 1) ∷ (termCount p + length (p .objective)) ∷ []
+
+  length-costs : length costs ≡ 512
+  length-costs = length-map (row 1 512) (λ x. unsigned (coefficient (p .objective) x)) ∙ length-row 1 512
+
+  length-first : length first ≡ 2 * length (p .clauses)
+  length-first = length-clauseEntries 0 (p .clauses)
+
+  length-second : length second ≡ 5 * length (rulesOf p)
+  length-second = length-ruleEntries 0 (rulesOf p)
+
+  length-firstPart : (ws : List ℕ) → length ws ≤ 2 → length (padTo 1_026 (first ++ ws)) ≡ 1_026
+  length-firstPart ws h = length-padTo 1_026 (first ++ ws) (omega (arith, length-append first ws, length-first, l .clauseCount))
+
+  module _ (m : ℤ) where
+    clause-count : length (tightened p m .clauses) ≡ length (p .clauses) + 1
+    clause-count = ap length (clauses-last p m) ∙ length-append (p .clauses) _
+
+    pub rule-count : length (rulesOf (tightened p m)) ≡ length (rulesOf p) + 1
+    rule-count = ap length (rules-last p m) ∙ length-append (rulesOf p) _
+
+    clause-entries : clauseEntries 0 (tightened p m .clauses) ≡ first ++ clauseWords
+    unfolding rulesOf
+    clause-entries =
+        ap (clauseEntries 0) (clauses-last p m)
+        ∙ clauseEntries-last 0 (p .clauses) (boundRule p m ∷ [])
+        ∙ ap (λ n. first ++ (n ∷ 1 ∷ [])) (zero-add (length (rulesOf p)))
+
+    rule-entries : ruleEntries 0 (rulesOf (tightened p m)) ≡ second ++ ruleWords m
+    unfolding termCount mode boundNumber unsigned
+    rule-entries =
+        ap (ruleEntries 0) (rules-last p m)
+        ∙ ruleEntries-last 0 (rulesOf p) (boundRule p m)
+        ∙ ap (λ n. second ++ (n ∷ length (p .objective) ∷ 2 ∷ 0 ∷ unsigned m ∷ [])) (zero-add (termCount p))
+
+    spelt :
+        tableWords (tightened p m)
+        ≡ p .variables
+        ∷ (length (p .clauses) + 1)
+        ∷ (length (rulesOf p) + 1)
+        ∷ (termCount p + length (p .objective))
+        ∷ (costs ++ (padTo 1_026 (first ++ clauseWords) ++ padTo 5_125 (second ++ ruleWords m)))
+    unfolding tableWords tightened
+    spelt =
+        λ i. p .variables
+        ∷ clause-count i
+        ∷ rule-count i
+        ∷ count-last p m i
+        ∷ (costs ++ (padTo 1_026 (clause-entries i) ++ padTo 5_125 (rule-entries i)))
+
+    -- Three writes make them of the plan's own.
+    pub new-table :
+        put 1 countWords (put (1_542 + 5 * length (rulesOf p)) (ruleWords m) (put (516 + 2 * length (p .clauses)) clauseWords (tableWords p)))
+        ≡ tableWords (tightened p m)
+    unfolding tableWords
+    new-table =
+        let n = length (p .clauses) in
+        let room : 2 * n + 2 ≤ length (padTo 1_026 first) =
+        omega (arith, length-padTo 1_026 first (omega (arith, length-first, l .clauseCount)), l .clauseCount) in
+        ap (λ t. put 1 countWords (put (1_542 + 5 * length (rulesOf p)) (ruleWords m) t))
+        (put-clause (p .variables) n (length (rulesOf p)) (termCount p) (2 * n) costs (padTo 1_026 first) (padTo 5_125 second) clauseWords length-costs room
+        ∙ ap (λ xs. p .variables ∷ n ∷ length (rulesOf p) ∷ termCount p ∷ (costs ++ (xs ++ padTo 5_125 second))) (pad-more 1_026 (2 * n) first clauseWords length-first))
+        ∙ ap (put 1 countWords)
+        (put-rule (p .variables) n (length (rulesOf p)) (termCount p) (5 * length (rulesOf p)) costs (padTo 1_026 (first ++ clauseWords)) (padTo 5_125 second) (ruleWords m) length-costs
+        (length-firstPart clauseWords (omega arith))
+        ∙ ap (λ ys. p .variables ∷ n ∷ length (rulesOf p) ∷ termCount p ∷ (costs ++ (padTo 1_026 (first ++ clauseWords) ++ ys)))
+        (pad-more 5_125 (5 * length (rulesOf p)) second (ruleWords m) length-second))
+        ∙ put-counts _ _ _ _ _ _ _ _
+        ∙ sym spelt
+
+    -- The term table: the objective's terms behind the plan's own.
+    pub new-terms : put (2 * termCount p) (termEntries (p .objective)) (termWords p) ≡ termWords (tightened p m)
+    unfolding termWords
+    new-terms =
+        pad-more 13_024 (2 * termCount p) (termEntries (allTerms p)) (termEntries (p .objective)) (omega (arith, length-termEntries (allTerms p), length-allTerms p))
+        ∙ ap (padTo 13_024) (sym (ap termEntries (terms-last p m) ∙ termEntries-append (allTerms p) (p .objective)))
+
+  -- Another bound is one word written over the last rule's entry.
+  upper-word : (m k : ℤ) → put 4 (unsigned m ∷ []) (ruleWords k) ≡ ruleWords m
+  unfolding put front
+  upper-word m k = refl
+
+  upper-padded : (m k : ℤ) → put (5 * length (rulesOf p) + 4) (unsigned m ∷ []) (padTo 5_125 (second ++ ruleWords k)) ≡ padTo 5_125 (second ++ ruleWords m)
+  unfolding padTo
+  upper-padded m k =
+      let a = length-append second (ruleWords k) in
+      let b = length-append second (ruleWords m) in
+      let e : length (second ++ ruleWords k) ≡ length (second ++ ruleWords m) = omega arith in
+      put-inside (5 * length (rulesOf p) + 4) (unsigned m ∷ []) (second ++ ruleWords k) _ (omega (arith, length-second))
+      ∙ ap (λ xs. xs ++ replicate (5_125 - length (second ++ ruleWords k)) 0)
+      (put-behind (5 * length (rulesOf p)) 4 (unsigned m ∷ []) second (ruleWords k) length-second ∙ ap (λ ws. second ++ ws) (upper-word m k))
+      ∙ ap (λ n. second ++ ruleWords m ++ replicate (5_125 - n) 0) e
+
+  pub other-table : (m k : ℤ) → put (1_546 + 5 * length (rulesOf p)) (unsigned m ∷ []) (tableWords (tightened p k)) ≡ tableWords (tightened p m)
+  other-table m k =
+      let e : 1_546 + 5 * length (rulesOf p) ≡ 1_542 + (5 * length (rulesOf p) + 4) = omega arith in
+      ap₂ (λ i t. put i (unsigned m ∷ []) t) e (spelt k)
+      ∙ put-rule _ _ _ _ (5 * length (rulesOf p) + 4) costs (padTo 1_026 (first ++ clauseWords)) _ (unsigned m ∷ []) length-costs (length-firstPart clauseWords (omega arith))
+      ∙ ap
+      (λ ys. p .variables
+      ∷ (length (p .clauses) + 1)
+      ∷ (length (rulesOf p) + 1)
+      ∷ (termCount p + length (p .objective))
+      ∷ (costs ++ (padTo 1_026 (first ++ clauseWords) ++ ys)))
+      (upper-padded m k)
+      ∙ sym (spelt m)
+
+  pub same-terms : (m k : ℤ) → termWords (tightened p k) ≡ termWords (tightened p m)
+  same-terms m k = sym (new-terms k) ∙ new-terms m

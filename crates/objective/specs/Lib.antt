@@ -1,0 +1,3 @@
+-- The objective in the tables, and the clause added to them.
+pub mod Sums
+pub mod Added

@@ -1,0 +1,195 @@
+//! The commands. Each gives what is to be printed and the exit code, and prints nothing itself.
+
+use crate::read::{read_bytes, Text};
+use crate::report::{counted, show};
+use crate::tokens::Fault;
+use reference::file::{parse, write, write_numbers, write_settings};
+use reference::program::MOST_BYTES;
+use reference::random::Random;
+use std::fs;
+use std::path::Path;
+
+pub const HELP: &str = "\
+desk: plans for the box in the start tent, as text (see docs/DESK.md)
+
+  desk write PLAN.txt FOLDER SEED COUNT
+      writes plan.bin, walk.bin and numbers.bin into the folder;
+      COUNT numbers, 16384 at most, are drawn from SEED
+  desk show FOLDER | plan.bin [PLAN.txt]
+      prints a plan as text, then its sizes, or why it is refused;
+      with PLAN.txt variables are called by the names it gives
+  desk name PLAN.txt ASSIGNMENT
+      prints what an assignment, a row of 0 and 1, chooses and costs,
+      and each clause that it does not meet
+  desk help
+
+Exit code: 0 done; 1 a text, file or assignment is at fault;
+2 the command is, or a file cannot be read or written.
+";
+
+/// As many numbers as the box has room for.
+const MOST_NUMBERS: usize = MOST_BYTES / 4;
+
+/// What the command leaves to be printed.
+#[derive(Debug, PartialEq, Eq)]
+pub struct Outcome {
+    pub code: u8,
+    pub out: String,
+    pub err: String,
+}
+
+/// Why a command stops: its exit code and what is said.
+struct Stop(u8, String);
+
+/// A text, file or assignment is at fault.
+fn faulty<T>(words: String) -> Result<T, Stop> {
+    Err(Stop(1, words))
+}
+
+/// The command is at fault, or a file cannot be read or written.
+fn unable<T>(words: String) -> Result<T, Stop> {
+    Err(Stop(2, words))
+}
+
+/// What is to be printed, and whether nothing was found at fault.
+type Done = Result<(String, bool), Stop>;
+
+fn bytes_of(path: &Path) -> Result<Vec<u8>, Stop> {
+    match fs::read(path) {
+        Ok(bytes) => Ok(bytes),
+        Err(error) => unable(format!("cannot read {}: {error}", path.display())),
+    }
+}
+
+fn text_of(path: &str) -> Result<Text, Stop> {
+    let bytes = bytes_of(Path::new(path))?;
+    match read_bytes(&bytes) {
+        Ok(text) => Ok(text),
+        Err(Fault { line, words }) => faulty(format!("{path}:{line}: {words}")),
+    }
+}
+
+fn number(what: &str, word: &str, most: u64) -> Result<u64, Stop> {
+    match word.parse() {
+        Ok(number) if number <= most => Ok(number),
+        _ => unable(format!(
+            "{what} is a whole number from 0 to {most}, not '{word}'"
+        )),
+    }
+}
+
+fn write_files(path: &str, folder: &str, seed: &str, count: &str) -> Done {
+    let seed = number("SEED", seed, u64::MAX)?;
+    let count = number("COUNT", count, MOST_NUMBERS as u64)? as usize;
+    let text = text_of(path)?;
+    let Some(settings) = text.settings else {
+        return faulty(format!(
+            "{path}:{}: there is no walk statement",
+            text.last_line
+        ));
+    };
+    let files = [
+        ("plan.bin", write(&text.plan), String::new()),
+        ("walk.bin", write_settings(&settings), String::new()),
+        (
+            "numbers.bin",
+            write_numbers(&Random::new(seed).numbers(count)),
+            format!(", {} from seed {seed}", counted(count, "number")),
+        ),
+    ];
+    let mut out = String::new();
+    for (name, bytes, more) in files {
+        let file = Path::new(folder).join(name);
+        if let Err(error) = fs::write(&file, &bytes) {
+            return unable(format!("cannot write {}: {error}", file.display()));
+        }
+        let size = counted(bytes.len(), "byte");
+        out += &format!("wrote {}: {size}{more}\n", file.display());
+    }
+    Ok((out, true))
+}
+
+fn show_files(path: &str, text: Option<&str>) -> Done {
+    let path = Path::new(path);
+    let folder = path.is_dir();
+    let (plan, walk, numbers) = match folder {
+        true => (
+            bytes_of(&path.join("plan.bin"))?,
+            fs::read(path.join("walk.bin")).ok(),
+            fs::read(path.join("numbers.bin")).ok(),
+        ),
+        false => (bytes_of(path)?, None, None),
+    };
+    let names = match text {
+        Some(text) => Some(text_of(text)?.names),
+        None => None,
+    };
+    if let (Some(names), Ok(plan)) = (&names, parse(&plan)) {
+        if names.variables() != plan.variables {
+            return faulty(format!(
+                "the text names {}, the plan has {}",
+                counted(names.variables(), "variable"),
+                plan.variables,
+            ));
+        }
+    }
+    let mut shown = show(&plan, walk.as_deref(), numbers.as_deref(), names.as_ref());
+    for (name, file) in [("walk.bin", walk), ("numbers.bin", numbers)] {
+        if folder && file.is_none() {
+            shown.text += &format!("# {name} cannot be read: the box takes it as empty\n");
+        }
+    }
+    Ok((shown.text, shown.accepted))
+}
+
+fn name_chosen(path: &str, digits: &str) -> Done {
+    let text = text_of(path)?;
+    let plan = &text.plan;
+    if digits.len() != plan.variables || !digits.bytes().all(|digit| b"01".contains(&digit)) {
+        return faulty(format!(
+            "an assignment of this plan is a row of {} digits, each 0 or 1, not '{digits}'",
+            plan.variables,
+        ));
+    }
+    let assignment: Vec<bool> = digits.bytes().map(|digit| digit == b'1').collect();
+    let mut out = String::new();
+    for (place, _) in assignment.iter().enumerate().filter(|(_, &bit)| bit) {
+        out += &text.names.called(place + 1);
+        out += "\n";
+    }
+    out += &format!("cost {}\n", plan.cost(&assignment));
+    for (clause, line) in plan.clauses.iter().zip(&text.lines) {
+        if !clause.holds(&assignment) {
+            out += &format!("the clause on line {line} is not met\n");
+        }
+    }
+    let met = plan.satisfied(&assignment);
+    if met {
+        out += "every clause is met\n";
+    }
+    Ok((out, met))
+}
+
+/// Carries out one command.
+pub fn run(arguments: &[&str]) -> Outcome {
+    let done = match arguments {
+        ["write", text, folder, seed, count] => write_files(text, folder, seed, count),
+        ["show", path] => show_files(path, None),
+        ["show", path, text] => show_files(path, Some(text)),
+        ["name", text, assignment] => name_chosen(text, assignment),
+        ["help" | "--help" | "-h"] => Ok((HELP.to_string(), true)),
+        _ => unable(format!("this is no command of the desk\n\n{HELP}")),
+    };
+    match done {
+        Ok((out, right)) => Outcome {
+            code: !right as u8,
+            out,
+            err: String::new(),
+        },
+        Err(Stop(code, words)) => Outcome {
+            code,
+            out: String::new(),
+            err: format!("desk: {}\n", words.trim_end()),
+        },
+    }
+}

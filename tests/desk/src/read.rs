@@ -1,0 +1,387 @@
+//! The text form, read. Everything a plan file may not say is turned away here, with its line, so
+//! that what is written is always accepted.
+
+use crate::names::{numbered, Names, RESERVED};
+use crate::report::grouped;
+use crate::tokens::{fault, tokens, Fault, Kind, Token};
+use reference::file::{
+    MOST_BOUND, MOST_CLAUSES, MOST_RULES, MOST_TERMS, MOST_VARIABLES, MOST_WEIGHT,
+};
+use reference::plan::{Clause, Plan, Rule, Term};
+use reference::walk::{Settings, LBS, LINEAR};
+
+/// What a text says.
+#[derive(Clone, Debug, PartialEq, Eq)]
+pub struct Text {
+    pub names: Names,
+    pub plan: Plan,
+    /// The line on which each clause begins.
+    pub lines: Vec<usize>,
+    /// Of the walk statement, if there is one.
+    pub settings: Option<Settings>,
+    /// The line of the last statement's end.
+    pub last_line: usize,
+}
+
+struct Reader<'a> {
+    tokens: Vec<Token<'a>>,
+    /// What comes behind the last of them, if it is no token.
+    behind: Option<Fault>,
+    place: usize,
+    text: Text,
+    rules: usize,
+    terms: usize,
+}
+
+impl<'a> Reader<'a> {
+    /// The text of the token so many places on; empty behind the last.
+    fn ahead(&self, places: usize) -> &'a str {
+        let token = self.tokens.get(self.place + places);
+        token.map_or("", |token| token.text)
+    }
+
+    fn number_ahead(&self, places: usize) -> bool {
+        let token = self.tokens.get(self.place + places);
+        token.is_some_and(|token| token.kind == Kind::Number)
+    }
+
+    fn next_is(&self, text: &str) -> bool {
+        self.ahead(0) == text
+    }
+
+    /// Goes past the next token if it is this one.
+    fn take(&mut self, text: &str) -> bool {
+        let taken = self.next_is(text);
+        self.place += taken as usize;
+        taken
+    }
+
+    /// The token last gone past.
+    fn last(&self) -> Token<'a> {
+        self.tokens[self.place - 1]
+    }
+
+    /// Something is missing. Its place is behind the token last gone past, whichever line the next
+    /// one stands on.
+    fn missing<T>(&self, what: &str) -> Result<T, Fault> {
+        let Token { line, text, .. } = self.last();
+        let found = match (self.ahead(0), &self.behind) {
+            ("", Some(fault)) => return Err(fault.clone()),
+            ("", None) => "the end".to_string(),
+            (found, _) => format!("'{found}'"),
+        };
+        fault(
+            line,
+            format!("expected {what} after '{text}', found {found}"),
+        )
+    }
+
+    fn take_kind(&mut self, kind: Kind, what: &str) -> Result<&'a str, Fault> {
+        match self.tokens.get(self.place) {
+            Some(token) if token.kind == kind => {
+                self.place += 1;
+                Ok(token.text)
+            }
+            _ => self.missing(what),
+        }
+    }
+
+    /// A word that begins neither a statement nor a rule.
+    fn take_name(&mut self, what: &str) -> Result<&'a str, Fault> {
+        if RESERVED.contains(&self.ahead(0)) {
+            return self.missing(what);
+        }
+        self.take_kind(Kind::Word, what)
+    }
+
+    fn expect(&mut self, text: &str) -> Result<(), Fault> {
+        match self.take(text) {
+            true => Ok(()),
+            false => self.missing(&format!("'{text}'")),
+        }
+    }
+
+    /// A number from least to most, '-' before it where least is below 0.
+    fn number(&mut self, what: &str, least: i64, most: i64) -> Result<i64, Fault> {
+        let minus = least < 0 && self.take("-");
+        let digits = self.take_kind(Kind::Number, what)?;
+        // One too long to hold is outside every range, as is the greatest.
+        let size: i64 = digits.parse().unwrap_or(i64::MAX);
+        let number = if minus { -size } else { size };
+        if !(least..=most).contains(&number) {
+            let sign = if minus { "-" } else { "" };
+            let (least, most) = (grouped(least), grouped(most));
+            let words = format!("{what} is from {least} to {most}, not {sign}{digits}");
+            return fault(self.last().line, words);
+        }
+        Ok(number)
+    }
+
+    /// `variable 7 ford`: the next number and its name.
+    fn variable(&mut self) -> Result<(), Fault> {
+        let next = self.text.names.variables() + 1;
+        let number = self.variable_number()?;
+        if number != next {
+            let words = format!("variable {next} is the next one, not {number}");
+            return fault(self.last().line, words);
+        }
+        let name = self.take_name("a name")?;
+        let line = self.last().line;
+        if numbered(name).is_some() {
+            return fault(line, format!("'{name}' names a variable by its number"));
+        }
+        if let Some(before) = self.text.names.find(name) {
+            let words = format!("variable {before} is called '{name}' already");
+            return fault(line, words);
+        }
+        self.text.names.push(Some(name.to_string()));
+        Ok(())
+    }
+
+    /// `variables 7`: those up to 7 that are still to come have no name of their own.
+    fn variables(&mut self) -> Result<(), Fault> {
+        let before = self.text.names.variables();
+        let number = self.variable_number()?;
+        if number <= before {
+            let words = format!("there are {before} variables already");
+            return fault(self.last().line, words);
+        }
+        for _ in before..number {
+            self.text.names.push(None);
+        }
+        Ok(())
+    }
+
+    fn variable_number(&mut self) -> Result<usize, Fault> {
+        let number = self.number("a variable's number", 1, MOST_VARIABLES as i64)?;
+        Ok(number as usize)
+    }
+
+    /// A variable in a sum.
+    fn named(&mut self) -> Result<usize, Fault> {
+        let word = self.take_name("a variable")?;
+        let names = &self.text.names;
+        match names.find(word) {
+            Some(variable) => Ok(variable),
+            None if numbered(word).is_some() => {
+                let variables = names.variables();
+                let words = format!("there is no variable {word}: so far there are {variables}");
+                fault(self.last().line, words)
+            }
+            None => {
+                let hint = match word.contains('-') {
+                    true => " (a minus has a space before and after it)",
+                    false => "",
+                };
+                let words = format!("no variable is called '{word}'{hint}");
+                fault(self.last().line, words)
+            }
+        }
+    }
+
+    /// `3 ford - bridge`: a coefficient left out is 1. The file wants rising numbers, a text does
+    /// not.
+    fn sum(&mut self) -> Result<Vec<Term>, Fault> {
+        let mut terms: Vec<Term> = Vec::new();
+        loop {
+            // A '+' may be left out before the first.
+            let minus = self.take("-");
+            if !minus {
+                self.take("+");
+            }
+            let size = match self.number_ahead(0) {
+                true => self.number("a coefficient", 1, MOST_WEIGHT)?,
+                false => 1,
+            };
+            let variable = self.named()?;
+            if terms.iter().any(|term| term.variable == variable) {
+                let Token { line, text, .. } = self.last();
+                return fault(line, format!("'{text}' stands twice in this sum"));
+            }
+            let weight = if minus { -size } else { size };
+            terms.push(Term { variable, weight });
+            if !self.next_is("+") && !self.next_is("-") {
+                break;
+            }
+        }
+        terms.sort_by_key(|term| term.variable);
+        Ok(terms)
+    }
+
+    fn objective(&mut self) -> Result<(), Fault> {
+        let line = self.last().line;
+        if !self.text.plan.objective.is_empty() {
+            return fault(line, "minimise stands twice");
+        }
+        self.text.plan.objective = self.sum()?;
+        Ok(())
+    }
+
+    fn bound(&mut self) -> Result<i64, Fault> {
+        self.number("a bound", -MOST_BOUND, MOST_BOUND)
+    }
+
+    /// The bounds that are there make the mode: `2 <= a + b <= 4`, `2 <= a + b`, `a + b <= 4`,
+    /// `a + b >= 2` or `a + b = 2`.
+    fn rule(&mut self) -> Result<Rule, Fault> {
+        // What begins with a number is a bound where '<=' follows, a coefficient otherwise.
+        let sign = self.next_is("-") as usize;
+        if self.number_ahead(sign) && self.ahead(sign + 1) == "<=" {
+            let lower = Some(self.bound()?);
+            self.expect("<=")?;
+            let terms = self.sum()?;
+            let upper = match self.take("<=") {
+                true => Some(self.bound()?),
+                false => None,
+            };
+            return Ok(Rule {
+                lower,
+                upper,
+                terms,
+            });
+        }
+        let terms = self.sum()?;
+        let (lower, upper) = if self.take("<=") {
+            (None, Some(self.bound()?))
+        } else if self.take(">=") {
+            (Some(self.bound()?), None)
+        } else if self.take("=") {
+            let both = Some(self.bound()?);
+            (both, both)
+        } else {
+            return self.missing("'+', '-', '<=', '>=' or '='");
+        };
+        Ok(Rule {
+            lower,
+            upper,
+            terms,
+        })
+    }
+
+    /// `clause`, and rules joined by `or`.
+    fn clause(&mut self) -> Result<(), Fault> {
+        let line = self.last().line;
+        if self.text.plan.clauses.len() == MOST_CLAUSES {
+            let most = grouped(MOST_CLAUSES as i64);
+            return fault(line, format!("a plan has at most {most} clauses"));
+        }
+        let mut rules = Vec::new();
+        loop {
+            let rule = self.rule()?;
+            let line = self.last().line;
+            self.rules += 1;
+            self.terms += rule.terms.len();
+            if self.rules > MOST_RULES {
+                let most = grouped(MOST_RULES as i64);
+                return fault(line, format!("a plan has at most {most} rules"));
+            }
+            if self.terms > MOST_TERMS {
+                let most = grouped(MOST_TERMS as i64);
+                return fault(line, format!("a plan's rules have at most {most} terms"));
+            }
+            rules.push(rule);
+            if !self.take("or") {
+                break;
+            }
+        }
+        self.text.lines.push(line);
+        self.text.plan.clauses.push(Clause { rules });
+        Ok(())
+    }
+
+    /// `walk noise 500 tries 10 flips 1000 mode lbs`, in this order.
+    fn walk(&mut self) -> Result<(), Fault> {
+        let line = self.last().line;
+        if self.text.settings.is_some() {
+            return fault(line, "walk stands twice");
+        }
+        self.expect("noise")?;
+        let noise = self.number("the noise", 0, 1_000)? as u32;
+        self.expect("tries")?;
+        let tries = self.number("the number of tries", 1, 1_000)? as u32;
+        self.expect("flips")?;
+        let flips = self.number("the number of flips", 1, 1_000_000)? as u32;
+        self.expect("mode")?;
+        let mode = if self.take("linear") {
+            LINEAR
+        } else if self.take("lbs") {
+            LBS
+        } else {
+            return self.missing("'linear' or 'lbs'");
+        };
+        self.text.settings = Some(Settings {
+            noise,
+            tries,
+            flips,
+            mode,
+        });
+        Ok(())
+    }
+
+    fn statement(&mut self) -> Result<(), Fault> {
+        self.place += 1;
+        match self.last().text {
+            "variable" => self.variable(),
+            "variables" => self.variables(),
+            "minimise" => self.objective(),
+            "clause" => self.clause(),
+            "walk" => self.walk(),
+            other => {
+                let words = format!(
+                    "'{other}' may not stand here: a statement begins with variable, variables, \
+                     minimise, clause or walk, and a clause's next rule with or"
+                );
+                fault(self.last().line, words)
+            }
+        }
+    }
+}
+
+/// What a text says, or its first fault.
+pub fn read(text: &str) -> Result<Text, Fault> {
+    let (tokens, behind) = tokens(text);
+    let mut reader = Reader {
+        tokens,
+        behind,
+        place: 0,
+        text: Text {
+            names: Names::default(),
+            plan: Plan {
+                variables: 0,
+                objective: Vec::new(),
+                clauses: Vec::new(),
+            },
+            lines: Vec::new(),
+            settings: None,
+            last_line: 1,
+        },
+        rules: 0,
+        terms: 0,
+    };
+    while reader.place < reader.tokens.len() {
+        reader.statement()?;
+    }
+    if let Some(fault) = reader.behind {
+        return Err(fault);
+    }
+    let mut text = reader.text;
+    text.plan.variables = text.names.variables();
+    text.last_line = reader.tokens.last().map_or(1, |token| token.line);
+    if text.plan.variables == 0 {
+        return fault(text.last_line, "a plan has at least one variable");
+    }
+    Ok(text)
+}
+
+/// What a file of text says. Editors that put a mark at its start, or end lines with CR LF, do no
+/// harm.
+pub fn read_bytes(bytes: &[u8]) -> Result<Text, Fault> {
+    match std::str::from_utf8(bytes) {
+        Ok(text) => read(text.strip_prefix('\u{feff}').unwrap_or(text)),
+        Err(error) => {
+            let before = &bytes[..error.valid_up_to()];
+            let line = 1 + before.iter().filter(|&&byte| byte == b'\n').count();
+            fault(line, "this is no text in UTF-8")
+        }
+    }
+}

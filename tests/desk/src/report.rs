@@ -1,0 +1,189 @@
+//! What the desk says about the three files beside their text: sizes, and refusals in plain words.
+//! All of it stands in comments, so that what `show` prints can be read again.
+
+use crate::names::Names;
+use crate::print;
+use reference::file::{
+    parse, parse_numbers, parse_settings, Refusal, CLAUSE, MOST_CLAUSES, MOST_RULES, MOST_TERMS,
+    MOST_VARIABLES, RULE,
+};
+use reference::plan::Plan;
+use reference::program::MOST_BYTES;
+
+/// The largest plan file in bytes.
+pub const MOST_PLAN: usize = 52_907;
+
+/// The buffers of the box, in words of 4 bytes (docs/FORMAT.md). There is room for one clause, one
+/// rule and the terms of one rule more than a plan may have.
+pub const TABLES: usize = 4 * (4 + MOST_VARIABLES + 2 * (MOST_CLAUSES + 1) + 5 * (MOST_RULES + 1));
+pub const TERMS: usize = 4 * 2 * (MOST_TERMS + MOST_VARIABLES);
+pub const TALLIES: usize = 4 * ((MOST_RULES + 1) + (MOST_CLAUSES + 1) + 1);
+
+/// A number as the papers print it: 16,384.
+pub fn grouped(number: i64) -> String {
+    let digits = number.unsigned_abs().to_string();
+    let mut text = String::from(if number < 0 { "-" } else { "" });
+    for (place, digit) in digits.chars().enumerate() {
+        if place > 0 && (digits.len() - place).is_multiple_of(3) {
+            text.push(',');
+        }
+        text.push(digit);
+    }
+    text
+}
+
+/// `1 clause`, `2 clauses`.
+pub fn counted(count: usize, what: &str) -> String {
+    let ending = if count == 1 { "" } else { "s" };
+    format!("{} {what}{ending}", grouped(count as i64))
+}
+
+/// What a refusal by a file means.
+pub fn plain(number: u32) -> &'static str {
+    match number {
+        1 => "the file ends before this field does",
+        2 => "a field of this kind may not stand here",
+        3 => "no field of this kind has this length",
+        4 => {
+            "the number of variables is not from 1 to 512, or this is one clause, rule or term \
+             too many"
+        }
+        5 => {
+            "a term's variable is not in the plan or not above the one before it, or its \
+             coefficient is 0 or beyond 1,000,000 either way"
+        }
+        6 => {
+            "a rule's mode is not 1, 2 or 3, a bound is beyond 1,000,000,000 either way, or an \
+             absent bound is not written 0"
+        }
+        7 => "bytes stand behind the end",
+        8 => "its length is not a multiple of 4",
+        9 => "it has more than 65,536 bytes",
+        11 => "the noise is not from 0 to 1,000",
+        12 => "the number of tries is not from 1 to 1,000",
+        13 => "the number of flips is not from 1 to 1,000,000",
+        14 => "the mode is neither 0 (linear) nor 1 (LBS)",
+        _ => "this number is no refusal of a file",
+    }
+}
+
+/// Where in a plan an offset lies: the fields before it are in order.
+fn place(bytes: &[u8], offset: usize) -> String {
+    let (mut clauses, mut rules) = (0, 0);
+    let mut at = 0;
+    while at < offset {
+        match bytes[at] {
+            CLAUSE => (clauses, rules) = (clauses + 1, 0),
+            RULE => rules += 1,
+            _ => {}
+        }
+        at += 3 + u16::from_le_bytes([bytes[at + 1], bytes[at + 2]]) as usize;
+    }
+    match (clauses, rules) {
+        (0, _) => String::from(", before the first clause"),
+        (_, 0) => format!(", at the start of clause {clauses}"),
+        _ => format!(", behind rule {rules} of clause {clauses}"),
+    }
+}
+
+/// One comment for a refused file.
+fn refused(file: &str, refusal: Refusal, place: &str) -> String {
+    let Refusal { number, offset } = refusal;
+    let words = plain(number);
+    format!("# {file} is refused: number {number}, offset {offset}{place}: {words}\n")
+}
+
+/// The comments about an accepted plan file of so many bytes.
+pub fn sizes(plan: &Plan, bytes: usize) -> String {
+    let rules: Vec<usize> = plan
+        .clauses
+        .iter()
+        .flat_map(|clause| clause.rules.iter().map(|rule| rule.terms.len()))
+        .collect();
+    let counts = [
+        ("variable", plan.variables, MOST_VARIABLES),
+        ("clause", plan.clauses.len(), MOST_CLAUSES),
+        ("rule", rules.len(), MOST_RULES),
+        ("term", rules.iter().sum(), MOST_TERMS),
+    ];
+    let counts: Vec<String> = counts
+        .iter()
+        .map(|&(what, count, most)| {
+            let (count, most) = (counted(count, what), grouped(most as i64));
+            format!("{count} of at most {most}")
+        })
+        .collect();
+    let (file, most) = (counted(bytes, "byte"), grouped(MOST_PLAN as i64));
+    let [tables, terms, tallies] = [TABLES, TERMS, TALLIES].map(|size| grouped(size as i64));
+    format!(
+        "# plan.bin: {file} of at most {most}\n# {}\n\
+         # on the box: tables {tables} bytes, terms {terms} bytes, tallies {tallies} bytes, \
+         whatever the plan\n",
+        counts.join(", "),
+    )
+}
+
+/// What is shown, and whether each file was accepted.
+pub struct Shown {
+    pub text: String,
+    pub accepted: bool,
+}
+
+/// "Any of them above 65,536 bytes gives 9."
+fn judged<T>(bytes: &[u8], parse: fn(&[u8]) -> Result<T, Refusal>) -> Result<T, Refusal> {
+    if bytes.len() > MOST_BYTES {
+        return Err(Refusal {
+            number: 9,
+            offset: 0,
+        });
+    }
+    parse(bytes)
+}
+
+/// A plan file as text, then its sizes; the other two files where they are at hand. The names are
+/// of as many variables as the plan has.
+pub fn show(
+    plan: &[u8],
+    walk: Option<&[u8]>,
+    numbers: Option<&[u8]>,
+    names: Option<&Names>,
+) -> Shown {
+    let (mut text, mut about) = (String::new(), String::new());
+    let mut accepted = true;
+    match judged(plan, parse) {
+        Ok(read) => {
+            let unnamed = Names::unnamed(read.variables);
+            text += &print::text(&read, names.unwrap_or(&unnamed), None);
+            about += &sizes(&read, plan.len());
+        }
+        Err(refusal) => {
+            accepted = false;
+            let place = match refusal.number {
+                7 | 9 => String::new(),
+                _ => place(plan, refusal.offset),
+            };
+            about += &refused("plan.bin", refusal, &place);
+        }
+    }
+    match walk.map(|walk| judged(walk, parse_settings)) {
+        Some(Ok(settings)) => text += &print::walk(&settings),
+        Some(Err(refusal)) => {
+            accepted = false;
+            about += &refused("walk.bin", refusal, "");
+        }
+        None => {}
+    }
+    match numbers.map(|numbers| judged(numbers, parse_numbers)) {
+        Some(Ok(list)) => about += &format!("# numbers.bin: {}\n", counted(list.len(), "number")),
+        Some(Err(refusal)) => {
+            accepted = false;
+            about += &refused("numbers.bin", refusal, "");
+        }
+        None => {}
+    }
+    if !text.is_empty() {
+        text.push('\n');
+    }
+    text += &about;
+    Shown { text, accepted }
+}

@@ -1,0 +1,216 @@
+//! The built tool: its commands, what it prints where, and its exit codes.
+
+use desk::command::HELP;
+use reference::file::{parse, parse_numbers, parse_settings};
+use std::fs;
+use std::path::PathBuf;
+use std::process::Command;
+
+/// A plan of three sites; line 6 asks for two of them.
+const TEXT: &str = "\
+variable 1 start
+variable 2 ford
+variable 3 bridge
+minimise 10 start + 300 ford - 20 bridge
+clause start >= 1
+clause start + ford + bridge >= 2
+walk noise 500 tries 2 flips 20 mode lbs
+";
+
+/// An empty folder of this test's own.
+fn folder(name: &str) -> PathBuf {
+    let folder = PathBuf::from(env!("CARGO_TARGET_TMPDIR")).join(format!("desk-{name}"));
+    let _ = fs::remove_dir_all(&folder);
+    fs::create_dir_all(&folder).unwrap();
+    folder
+}
+
+/// Exit code, output and what is said beside it, of the tool run in a folder.
+fn desk(folder: &PathBuf, arguments: &[&str]) -> (i32, String, String) {
+    let output = Command::new(env!("CARGO_BIN_EXE_desk"))
+        .args(arguments)
+        .current_dir(folder)
+        .output()
+        .unwrap();
+    let text = |bytes| String::from_utf8(bytes).unwrap();
+    let code = output.status.code().unwrap();
+    (code, text(output.stdout), text(output.stderr))
+}
+
+fn said(code: i32, words: &str) -> (i32, String, String) {
+    (code, String::new(), format!("desk: {words}\n"))
+}
+
+fn printed(code: i32, words: &str) -> (i32, String, String) {
+    (code, words.to_string(), String::new())
+}
+
+#[test]
+fn three_files_are_written_and_accepted() {
+    let folder = folder("write");
+    fs::write(folder.join("plan.txt"), TEXT).unwrap();
+    let out = "wrote ./plan.bin: 83 bytes\nwrote ./walk.bin: 12 bytes\n\
+               wrote ./numbers.bin: 400 bytes, 100 numbers from seed 7\n";
+    let arguments = ["write", "plan.txt", ".", "7", "100"];
+    assert_eq!(desk(&folder, &arguments), printed(0, out));
+    let file = |name| fs::read(folder.join(name)).unwrap();
+    let plan = parse(&file("plan.bin")).unwrap();
+    assert_eq!((plan.variables, plan.clauses.len()), (3, 2));
+    assert_eq!(parse_settings(&file("walk.bin")).unwrap().tries, 2);
+    assert_eq!(parse_numbers(&file("numbers.bin")).unwrap().len(), 100);
+}
+
+#[test]
+fn the_same_seed_gives_the_same_numbers() {
+    let folder = folder("seed");
+    fs::write(folder.join("plan.txt"), TEXT).unwrap();
+    let numbers = |seed: &str, count: &str| {
+        let (code, _, err) = desk(&folder, &["write", "plan.txt", ".", seed, count]);
+        assert_eq!((code, err.as_str()), (0, ""));
+        parse_numbers(&fs::read(folder.join("numbers.bin")).unwrap()).unwrap()
+    };
+    // Worked out by another program from the description in docs/DESK.md.
+    let first = [1_502_404_911, 693_622_011, 3_656_195_687, 1_998_850_031];
+    assert_eq!(numbers("1", "4"), first);
+    let full = numbers("1", "16384");
+    assert_eq!((full.len(), &full[..4]), (16_384, &first[..]));
+    assert_eq!(numbers("1", "16384"), full);
+    assert_ne!(numbers("2", "16384"), full);
+    assert_eq!(numbers("18446744073709551615", "1").len(), 1);
+    assert_eq!(numbers("0", "0"), []);
+}
+
+#[test]
+fn a_plan_is_shown() {
+    let folder = folder("show");
+    fs::write(folder.join("plan.txt"), TEXT).unwrap();
+    desk(&folder, &["write", "plan.txt", ".", "7", "100"]);
+    let about = "\n# plan.bin: 83 bytes of at most 52,907\n\
+        # 3 variables of at most 512, 2 clauses of at most 512, \
+        2 rules of at most 1,024, 4 terms of at most 6,000\n\
+        # on the box: tables 26,668 bytes, terms 52,096 bytes, tallies 6,156 bytes, \
+        whatever the plan\n";
+    // With names, from the folder: the text itself.
+    let out = format!("{TEXT}{about}# numbers.bin: 100 numbers\n");
+    assert_eq!(desk(&folder, &["show", ".", "plan.txt"]), printed(0, &out));
+    // Without names, from the file alone.
+    let plan = "variables 3\nminimise 10 x1 + 300 x2 - 20 x3\nclause x1 >= 1\n\
+                clause x1 + x2 + x3 >= 2\n";
+    let out = format!("{plan}{about}");
+    assert_eq!(desk(&folder, &["show", "plan.bin"]), printed(0, &out));
+    // The two other files may be missing.
+    fs::remove_file(folder.join("walk.bin")).unwrap();
+    fs::remove_file(folder.join("numbers.bin")).unwrap();
+    let missing = "# walk.bin cannot be read: the box takes it as empty\n\
+                   # numbers.bin cannot be read: the box takes it as empty\n";
+    let out = format!("{out}{missing}");
+    assert_eq!(desk(&folder, &["show", "."]), printed(0, &out));
+}
+
+#[test]
+fn a_refused_file_is_explained() {
+    let folder = folder("refused");
+    for name in ["plan.bin", "walk.bin"] {
+        fs::write(folder.join(name), []).unwrap();
+    }
+    fs::write(folder.join("numbers.bin"), [0; 5]).unwrap();
+    let plan = "# plan.bin is refused: number 1, offset 0, before the first clause: \
+                the file ends before this field does\n";
+    assert_eq!(desk(&folder, &["show", "plan.bin"]), printed(1, plan));
+    let walk = "# walk.bin is refused: number 1, offset 0: the file ends before this field does\n";
+    let numbers = "# numbers.bin is refused: number 8, offset 0: \
+                   its length is not a multiple of 4\n";
+    let out = format!("{plan}{walk}{numbers}");
+    assert_eq!(desk(&folder, &["show", "."]), printed(1, &out));
+}
+
+#[test]
+fn chosen_sites_by_name() {
+    let folder = folder("name");
+    fs::write(folder.join("plan.txt"), TEXT).unwrap();
+    let name = |digits: &str| desk(&folder, &["name", "plan.txt", digits]);
+    let out = "start\nbridge\ncost -10\nevery clause is met\n";
+    assert_eq!(name("101"), printed(0, out));
+    let out = "ford\ncost 300\nthe clause on line 5 is not met\nthe clause on line 6 is not met\n";
+    assert_eq!(name("010"), printed(1, out));
+    for digits in ["", "-", "10", "1011", "1 1", "102"] {
+        let words = "an assignment of this plan is a row of 3 digits, each 0 or 1, not";
+        assert_eq!(name(digits), said(1, &format!("{words} '{digits}'")));
+    }
+}
+
+#[test]
+fn faults_of_a_text() {
+    let folder = folder("faults");
+    fs::write(
+        folder.join("plan.txt"),
+        TEXT.replace("ford + bridge", "fjord"),
+    )
+    .unwrap();
+    let fault = said(1, "plan.txt:6: no variable is called 'fjord'");
+    assert_eq!(desk(&folder, &["write", "plan.txt", ".", "7", "9"]), fault);
+    assert_eq!(desk(&folder, &["name", "plan.txt", "101"]), fault);
+    fs::write(folder.join("plan.txt"), TEXT.replace("walk", "# walk")).unwrap();
+    let fault = said(1, "plan.txt:6: there is no walk statement");
+    assert_eq!(desk(&folder, &["write", "plan.txt", ".", "7", "9"]), fault);
+    // Nothing was written.
+    assert!(!folder.join("plan.bin").exists());
+    // Names of another plan.
+    fs::write(folder.join("plan.txt"), TEXT).unwrap();
+    fs::write(folder.join("other.txt"), "variable 1 start").unwrap();
+    desk(&folder, &["write", "plan.txt", ".", "7", "9"]);
+    let fault = said(1, "the text names 1 variable, the plan has 3");
+    assert_eq!(desk(&folder, &["show", ".", "other.txt"]), fault);
+}
+
+#[test]
+fn files_that_cannot_be_read_or_written() {
+    let folder = folder("missing");
+    fs::write(folder.join("plan.txt"), TEXT).unwrap();
+    for (arguments, words) in [
+        (
+            &["write", "no.txt", ".", "7", "9"][..],
+            "cannot read no.txt: ",
+        ),
+        (
+            &["write", "plan.txt", "no", "7", "9"],
+            "cannot write no/plan.bin: ",
+        ),
+        (&["name", "no.txt", "101"], "cannot read no.txt: "),
+        (&["show", "no"], "cannot read no: "),
+        (&["show", "."], "cannot read ./plan.bin: "),
+    ] {
+        let (code, out, err) = desk(&folder, arguments);
+        assert_eq!((code, out.as_str()), (2, ""));
+        assert!(err.starts_with(&format!("desk: {words}")), "{err}");
+    }
+}
+
+#[test]
+fn commands_at_fault() {
+    let folder = folder("usage");
+    fs::write(folder.join("plan.txt"), TEXT).unwrap();
+    let write = |seed, count| desk(&folder, &["write", "plan.txt", ".", seed, count]);
+    let words = "SEED is a whole number from 0 to 18446744073709551615, not";
+    for seed in ["", "-1", "seven", "18446744073709551616"] {
+        assert_eq!(write(seed, "9"), said(2, &format!("{words} '{seed}'")));
+    }
+    let words = "COUNT is a whole number from 0 to 16384, not";
+    for count in ["", "-1", "16385", "1.5"] {
+        assert_eq!(write("7", count), said(2, &format!("{words} '{count}'")));
+    }
+    let words = format!("this is no command of the desk\n\n{}", HELP.trim_end());
+    for arguments in [
+        &[][..],
+        &["plan.txt"],
+        &["write", "plan.txt", "."],
+        &["show"],
+        &["name", "plan.txt"],
+        &["help", "me"],
+    ] {
+        assert_eq!(desk(&folder, arguments), said(2, &words));
+    }
+    for help in ["help", "--help", "-h"] {
+        assert_eq!(desk(&folder, &[help]), printed(0, HELP));
+    }
+}
