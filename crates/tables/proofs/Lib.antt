@@ -2,3 +2,8 @@
 pub mod Judged
 pub mod TermLaws
 pub mod Stepped
+pub mod Found
+pub mod Entered
+pub mod Filled
+pub mod Dense
+pub mod Whole

@@ -2,3 +2,5 @@
 pub mod Load
 pub mod Fields
 pub mod Terms
+pub mod Places
+pub mod Sections

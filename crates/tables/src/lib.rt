@@ -1,6 +1,62 @@
 // The plan file judged, and the tables filled from it (document 01, "The plan file").
+// The whole file is judged before a byte is written; then each section of the tables is filled by a loop of its own.
+ghost use mathlib.Core.Path.{_≡_};
+ghost use Prim.Native.Nat.{_≤_};
+ghost use lib.ListN.{length};
+ghost use Rattle.words.specs.Words.{wordBytes};
+ghost use Rattle.words.specs.Writes.{front};
+ghost use Rattle.format.specs.Tables.{tableWords, termWords, tableSize, termSize};
+ghost use Rattle.tables.specs.Load.{loading, tablesAfter, termsAfter};
+ghost use Rattle.tables.specs.Places.{Accepts, planOfFile};
+
+mod entries;
 mod field;
 mod judge;
+mod sections;
 mod terms;
+mod walk;
 
 pub use judge::Answer;
+
+// The table of counts, objective, clauses and rules of an accepted file.
+fn fill_tables(file: &[u8], tables: &mut [u8])
+    requires { ⌜ Accepts (now file) ⌝ }
+    requires { ⌜ tableSize ≤ length (now tables) ⌝ }
+    ensures { λ _. ⌜ now (tables .exit) ≡ front (wordBytes (tableWords (planOfFile (now (file .entry))))) (now (tables .entry)) ⌝ }
+{
+    sections::objective_section(file, &mut tables[16..2064]);
+    let clauses = sections::clause_section(file, &mut tables[2064..6168]);
+    let counted = sections::rule_section(file, &mut tables[6168..26668]);
+    let variables = words::read_u16(file, 3);
+    entries::put_head(tables, variables, clauses, counted.rules, counted.terms);
+}
+
+// The table of the terms of an accepted file's rules.
+fn fill_terms(file: &[u8], terms: &mut [u8])
+    requires { ⌜ Accepts (now file) ⌝ }
+    requires { ⌜ termSize ≤ length (now terms) ⌝ }
+    ensures { λ _. ⌜ now (terms .exit) ≡ front (wordBytes (termWords (planOfFile (now (file .entry))))) (now (terms .entry)) ⌝ }
+{
+    sections::term_section(file, &mut terms[0..52096]);
+}
+
+// Fills the two tables from a plan file, or refuses it: "Loading: 21, then the file."
+pub fn load(file: &[u8], tables: &mut [u8], terms: &mut [u8]) -> Answer
+    ensures { λ r. ⌜ r ≡ loading (now (file .entry)) (now (tables .entry)) (now (terms .entry)) ⌝ }
+    ensures { λ _. ⌜ now (tables .exit) ≡ tablesAfter (now (file .entry)) (now (tables .entry)) (now (terms .entry)) ⌝ }
+    ensures { λ _. ⌜ now (terms .exit) ≡ termsAfter (now (file .entry)) (now (tables .entry)) (now (terms .entry)) ⌝ }
+{
+    if tables.len() < 26668 {
+        return Answer::Refused(21, 0);
+    }
+    if terms.len() < 52096 {
+        return Answer::Refused(21, 0);
+    }
+    let verdict = judge::judge(file);
+    let Answer::Accepted = verdict else {
+        return verdict;
+    };
+    fill_tables(file, tables);
+    fill_terms(file, terms);
+    Answer::Accepted
+}

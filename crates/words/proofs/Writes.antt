@@ -2,16 +2,16 @@
 -- Assumes nothing.
 use Prim.Native.Nat.{ℕ, zero, suc, _+_, _*_, _-_, _/_, _%_, _^_, _≤_, _<_}
 use native.Mathlib.Omega.{arith}
-use native.Mathlib.Nat.{add-zero, add-suc, suc-add, add-assoc, le-of-eq}
+use native.Mathlib.Nat.{add-zero, add-suc, suc-add, add-assoc, le-of-eq, le-refl}
 use native.Mathlib.Numerals.{add-one, add-two, add-three}
 use mathlib.Core.Path.{_≡_, refl, sym, ap, ap₂, _∙_}
 use mathlib.Core.List.{List, [], _∷_, _++_, append-assoc, append-nil}
-use lib.ListN.{length, take, drop, getD, set, length-append, length-take, length-drop, take-append-drop}
+use lib.ListN.{length, take, drop, getD, set, replicate, length-append, length-take, length-drop, length-replicate, take-append-drop}
 use lib.Seq.{sets, sets-eq, length-sets, take-at, drop-at, drop-drop, drop-append-add, take-append-add, length-take-le, take-take, getD-at, drop-append-le, drop-append-seam, take-append-seam, drop-length, take-all}
-use borrow.Rule.Slice.PartMut.{midOf, postOf, putMid, post-is}
+use borrow.Rule.Slice.PartMut.{midOf, postOf, putMid, post-is, mid-len, same-len-mid}
 use Rattle.words.specs.Words.{numAt, bytesOf, wordBytes}
 use Rattle.words.specs.Writes.{front, put}
-use Rattle.words.proofs.Words.{numAt-append, numAt-inside, numAt-bytesOf, numAt-take, numAt-drop}
+use Rattle.words.proofs.Words.{numAt-append, numAt-inside, numAt-bytesOf, numAt-take, numAt-drop, length-wordBytes}
 
 -- What two and four bytes read join to.
 pub num-two : (s : List ℕ) (at : ℕ) → getD s at 0 + 256 * getD s (at + 1) 0 ≡ numAt 2 s at
@@ -154,3 +154,73 @@ read-behind k at i bs s h l =
     ∙ ap (λ (m : ℕ). numAt k (front (take at s ++ bs) s) m) (sym j)
     ∙ behind-front k (take at s ++ bs) s (i - n)
     ∙ ap (λ (m : ℕ). numAt k s m) j
+
+wordBytes-snoc : (ws : List ℕ) (v : ℕ) → wordBytes (ws ++ (v ∷ [])) ≡ wordBytes ws ++ bytesOf 4 v
+unfolding wordBytes
+wordBytes-snoc ws v = wordBytes-append ws (v ∷ []) ∙ ap (λ (x : List ℕ). wordBytes ws ++ x) (append-nil (bytesOf 4 v))
+
+-- Words written one behind the other fill a table from its front.
+pub write-next :
+    (o : List ℕ) {s t : List ℕ} (ws : List ℕ) (v at : ℕ) → s ≡ front (wordBytes ws) o → at ≡ 4 * length ws → t ≡ put at (bytesOf 4 v) s
+    → t ≡ front (wordBytes (ws ++ (v ∷ []))) o
+write-next o ws v at p q r =
+    let n : at ≡ length (wordBytes ws) = q ∙ sym (length-wordBytes ws) in
+    r
+    ∙ ap₂ (λ (k : ℕ) (x : List ℕ). put k (bytesOf 4 v) x) n p
+    ∙ front-put (wordBytes ws) (bytesOf 4 v) o
+    ∙ ap (λ (x : List ℕ). front x o) (sym (wordBytes-snoc ws v))
+
+pub write-first : (s : List ℕ) {t : List ℕ} (v : ℕ) → t ≡ put 0 (bytesOf 4 v) s → t ≡ front (wordBytes (v ∷ [])) s
+unfolding wordBytes
+write-first s v r = write-next s [] v 0 (sym (front-none s)) refl r
+
+-- A word written over one of a table's words.
+pub put-word : (ws : List ℕ) (i v : ℕ) → i < length ws → put (4 * i) (bytesOf 4 v) (wordBytes ws) ≡ wordBytes (set ws i v)
+unfolding front put wordBytes bytesOf
+put-word [] i v h = absurd (omega arith)
+put-word (w ∷ ws) zero v h = refl
+put-word (w ∷ ws) (suc i) v h =
+    let n : 4 * suc i ≡ suc (suc (suc (suc (4 * i)))) = omega arith in
+    rw n
+    (ap (λ (l : List ℕ). w % 256 ∷ w / 256 % 256 ∷ w / 256 / 256 % 256 ∷ w / 256 / 256 / 256 % 256 ∷ l) (put-word ws i v (omega arith)))
+
+pub wordBytes-zeros : (k : ℕ) → wordBytes (replicate k 0) ≡ replicate (4 * k) 0
+unfolding wordBytes bytesOf
+wordBytes-zeros zero = refl
+wordBytes-zeros (suc k) =
+    let n : 4 * suc k ≡ suc (suc (suc (suc (4 * k)))) = omega arith in
+    rw n (ap (λ (l : List ℕ). 0 ∷ 0 ∷ 0 ∷ 0 ∷ l) (wordBytes-zeros k))
+
+-- A table whose front is filled, the rest of it 0.
+pub fill-rest :
+    (o : List ℕ) {t u : List ℕ} (ws : List ℕ) (k at : ℕ) → t ≡ front (wordBytes ws) o → at ≡ 4 * length ws → length ws ≤ k
+    → length o ≡ 4 * k → u ≡ put at (replicate (length o - at) 0) t → u ≡ wordBytes (ws ++ replicate (k - length ws) 0)
+fill-rest o ws k at p q l n r =
+    let zs : List ℕ = replicate (k - length ws) 0 in
+    let m : length o - at ≡ 4 * (k - length ws) = omega arith in
+    let e : replicate {A = ℕ} (length o - at) 0 ≡ wordBytes zs = ap (λ (j : ℕ). replicate j 0) m ∙ sym (wordBytes-zeros (k - length ws)) in
+    let full : length (wordBytes ws ++ wordBytes zs) ≡ length o =
+    length-append (wordBytes ws) (wordBytes zs) ∙ omega (arith, length-wordBytes ws, length-wordBytes zs, length-replicate {A = ℕ} (k - length ws) 0) in
+    r
+    ∙ ap₂ (λ (a : ℕ) (x : List ℕ). put a (replicate (length o - at) 0) x) (q ∙ sym (length-wordBytes ws)) p
+    ∙ ap (λ (b : List ℕ). put (length (wordBytes ws)) b (front (wordBytes ws) o)) e
+    ∙ front-put (wordBytes ws) (wordBytes zs) o
+    ∙ front-whole (wordBytes ws ++ wordBytes zs) o full
+    ∙ sym (wordBytes-append ws zs)
+
+-- A part lent to be filled with 0.
+pub lent-clear :
+    (at : ℕ) (t ys : List ℕ) → at ≤ length t → ys ≡ replicate (length (midOf at (length t - at) t)) 0
+    → putMid at (length t - at) t ys ≡ put at (replicate (length t - at) 0) t
+lent-clear at t ys h e =
+    let n : length (midOf at (length t - at) t) ≡ length t - at = mid-len at (length t) t (le-refl (length t)) in
+    let z : length ys ≡ length t - at = ap length e ∙ length-replicate {A = ℕ} _ 0 ∙ n in
+    lent-part at (length t) t ys h z ∙ ap (λ (b : List ℕ). put at b t) (e ∙ ap (λ (k : ℕ). replicate k 0) n)
+
+-- How long a lent part is, and that the whole keeps its length when the part comes back cleared.
+pub lent-long : (at : ℕ) (t : List ℕ) → length (midOf at (length t - at) t) ≡ length t - at
+lent-long at t = mid-len at (length t) t (le-refl (length t))
+
+pub clear-same :
+    (at : ℕ) (t ys : List ℕ) → ys ≡ replicate (length (midOf at (length t - at) t)) 0 → length (putMid at (length t - at) t ys) ≡ length t
+clear-same at t ys e = same-len-mid at (length t - at) t ys (ap length e ∙ length-replicate {A = ℕ} _ 0)

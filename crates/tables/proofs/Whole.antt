@@ -1,0 +1,185 @@
+-- Laws of the whole tables: the sections side by side, and what loading comes to.
+-- Assumes nothing.
+use Prim.Native.Nat.{ℕ, _+_, _*_, _-_, _≤_, _<_}
+use native.Mathlib.Omega.{arith}
+use mathlib.Core.Path.{_≡_, refl, sym, ap, ap₂, _∙_, subst}
+use mathlib.Core.Bool.{Bool, true, false, cond}
+use mathlib.Core.List.{List, [], _∷_, _++_, map, append-assoc}
+use lib.Dec.{ltb}
+use lib.ListN.{length, drop, length-append, length-map}
+use borrow.Author.Tests.{lt-ltb, le-ltb}
+use borrow.Rule.Slice.PartMut.{postOf, putMid}
+use Rattle.plpb.specs.Lists.{_or_, row}
+use Rattle.plpb.specs.Plan.{Plan}
+use Rattle.plpb.specs.Tallies.{rulesOf}
+use Rattle.words.specs.Words.{numAt, wordBytes, unsigned}
+use Rattle.words.specs.Writes.{front, put}
+use Rattle.words.proofs.Words.{length-wordBytes}
+use Rattle.words.proofs.Writes.{front-before, length-front, length-put, lent-part, put-put, wordBytes-append}
+use Rattle.format.specs.Limits.{termCount}
+use Rattle.format.specs.File.{Reading, refused, accepted, read}
+use Rattle.format.specs.Tables.{coefficient, clauseEntries, ruleEntries, tableWords, termWords, tableSize, termSize}
+use Rattle.format.proofs.Lists.{length-row}
+use Rattle.format.proofs.Lawful.{LawfulPlan, room-for}
+use Rattle.format.proofs.Spells.{length-padTo}
+use Rattle.format.proofs.Sections.{length-clauseEntries, length-ruleEntries, length-tableWords, length-termWords}
+use Rattle.tables.specs.declared.judge.Answer.{Answer}
+use Rattle.tables.specs.declared.judge.Answer.the-variants.{Accepted, Refused}
+use Rattle.tables.specs.Load.{outcome, tooSmall, loading, tablesOf, termsOf, tablesAfter, termsAfter}
+use Rattle.tables.specs.Places.{said}
+use Rattle.tables.specs.Sections.{headWords, objectiveWords, clauseWords, ruleWords}
+use Rattle.tables.proofs.Filled.{lawful-file}
+
+-- How long each section is.
+module _ (p : Plan) (q : LawfulPlan p) where
+  objective-long : length (wordBytes (objectiveWords p)) ≡ 2_048
+  unfolding objectiveWords
+  objective-long =
+      length-wordBytes (objectiveWords p)
+      ∙ omega (arith, length-map (row 1 512) (λ x. unsigned (coefficient (p .objective) x)), length-row 1 512)
+
+  clauses-long : length (wordBytes (clauseWords p)) ≡ 4_104
+  unfolding clauseWords
+  clauses-long =
+      let n = length-clauseEntries 0 (p .clauses) in
+      length-wordBytes (clauseWords p) ∙ omega (arith, length-padTo 1_026 (clauseEntries 0 (p .clauses)) (omega (arith, n, q .clauseCount)))
+
+  rules-long : length (wordBytes (ruleWords p)) ≡ 20_500
+  unfolding ruleWords
+  rules-long =
+      let n = length-ruleEntries 0 (rulesOf p) in
+      length-wordBytes (ruleWords p) ∙ omega (arith, length-padTo 5_125 (ruleEntries 0 (rulesOf p)) (omega (arith, n, q .ruleCount)))
+
+  pub terms-long : length (wordBytes (termWords p)) ≡ 52_096
+  terms-long = omega (arith, length-wordBytes (termWords p), length-termWords p (room-for p q))
+
+  -- The three sections behind the counts, written one behind the other.
+  module _ (o y z w : List ℕ) (n : tableSize ≤ length o) (a : y ≡ wordBytes (objectiveWords p)) (b : z ≡ wordBytes (clauseWords p)) (c : w ≡ wordBytes (ruleWords p)) where
+    ly : length y ≡ 2_048
+    ly = ap length a ∙ objective-long
+
+    lz : length z ≡ 4_104
+    lz = ap length b ∙ clauses-long
+
+    lw : length w ≡ 20_500
+    lw = ap length c ∙ rules-long
+
+    two : put 2_064 z (put 16 y o) ≡ put 16 (y ++ z) o
+    two = ap (λ (k : ℕ). put (16 + k) z (put 16 y o)) (sym ly) ∙ put-put 16 y z o (omega (arith, ly, n))
+
+    pub behind-head : putMid 6_168 20_500 (putMid 2_064 4_104 (putMid 16 2_048 o y) z) w ≡ put 16 (y ++ z ++ w) o
+    behind-head =
+        lent-part 6_168 26_668 _ w (omega arith) lw
+        ∙ ap (put 6_168 w) (lent-part 2_064 6_168 _ z (omega arith) lz ∙ ap (put 2_064 z) (lent-part 16 2_064 o y (omega arith) ly) ∙ two)
+        ∙ ap (λ (k : ℕ). put k w (put 16 (y ++ z) o)) (let e : 6_168 ≡ 16 + length (y ++ z) = omega (arith, length-append y z, ly, lz) in e)
+        ∙ put-put 16 (y ++ z) w o (omega (arith, length-append y z, ly, lz, n))
+
+    pub behind-long : length (putMid 6_168 20_500 (putMid 2_064 4_104 (putMid 16 2_048 o y) z) w) ≡ length o
+    behind-long =
+        ap length behind-head
+        ∙ length-put 16 (y ++ z ++ w) o (omega (arith, length-append (y ++ z) w, length-append y z, ly, lz, lw, n))
+
+    pub tables-whole :
+        (u : List ℕ) {v cl ru te : ℕ} → v ≡ p .variables → cl ≡ length (p .clauses) → ru ≡ length (rulesOf p) → te ≡ termCount p
+        → u ≡ front (wordBytes (v ∷ cl ∷ ru ∷ te ∷ [])) (putMid 6_168 20_500 (putMid 2_064 4_104 (putMid 16 2_048 o y) z) w)
+        → u ≡ front (wordBytes (tableWords p)) o
+    unfolding tableWords objectiveWords clauseWords ruleWords
+    tables-whole u {v} {cl} {ru} {te} pv pc pr pt e =
+        let hs = v ∷ cl ∷ ru ∷ te ∷ [] in
+        let m : length (wordBytes hs) ≡ 16 = length-wordBytes hs in
+        let bytes : y ++ z ++ w ≡ wordBytes (objectiveWords p ++ (clauseWords p ++ ruleWords p)) =
+        append-assoc y z w
+        ∙ ap₂ _++_ a (ap₂ _++_ b c ∙ sym (wordBytes-append (clauseWords p) (ruleWords p)))
+        ∙ sym (wordBytes-append (objectiveWords p) (clauseWords p ++ ruleWords p)) in
+        e
+        ∙ ap (front (wordBytes hs)) (behind-head ∙ ap (λ (k : ℕ). put k (y ++ z ++ w) o) (sym m))
+        ∙ front-before (wordBytes hs) (y ++ z ++ w) o (omega (arith, m, n))
+        ∙ ap (λ (x : List ℕ). front x o) (ap (λ (x : List ℕ). wordBytes hs ++ x) bytes ∙ sym (wordBytes-append hs (objectiveWords p ++ (clauseWords p ++ ruleWords p))))
+        ∙ ap (λ (ws : List ℕ). front (wordBytes (ws ++ (objectiveWords p ++ (clauseWords p ++ ruleWords p)))) o) (λ i. pv i ∷ pc i ∷ pr i ∷ pt i ∷ [])
+
+  pub table-size : (o : List ℕ) → tableSize ≤ length o → length (front (wordBytes (tableWords p)) o) ≡ length o
+  table-size o n = length-front (wordBytes (tableWords p)) o (omega (arith, length-wordBytes (tableWords p), length-tableWords p (room-for p q)))
+
+-- The term table.
+pub terms-whole :
+    (p : Plan) → LawfulPlan p → (o ys : List ℕ) → termSize ≤ length o → ys ≡ wordBytes (termWords p) → ys ++ postOf 0 52_096 o ≡ front (wordBytes (termWords p)) o
+unfolding front
+terms-whole p q o ys n e = ap₂ (λ (x : List ℕ) (k : ℕ). x ++ drop k o) e (sym (terms-long p q))
+
+-- What loading comes to.
+not-accepted : (n o : ℕ) → _≡_ {A = Answer} (Refused n o) Accepted → ⊥
+not-accepted n o e = let z : _≡_ {A = ℕ} 0 1 = cc in omega arith
+
+pub accepts : (r : Reading Plan) → Accepted ≡ outcome r → r ≡ accepted (said r)
+unfolding outcome said
+accepts (refused n o) e = absurd (not-accepted n o (sym e))
+accepts (accepted p) e = refl
+
+or-true : (b : Bool) → (b or true) ≡ true
+unfolding _or_
+or-true true = refl
+or-true false = refl
+
+refused-tables : (r : Reading Plan) (n o : ℕ) (t : List ℕ) → Refused n o ≡ outcome r → t ≡ tablesOf r t
+unfolding outcome tablesOf
+refused-tables (refused m k) n o t e = refl
+refused-tables (accepted p) n o t e = absurd (not-accepted n o e)
+
+refused-terms : (r : Reading Plan) (n o : ℕ) (t : List ℕ) → Refused n o ≡ outcome r → t ≡ termsOf r t
+unfolding outcome termsOf
+refused-terms (refused m k) n o t e = refl
+refused-terms (accepted p) n o t e = absurd (not-accepted n o e)
+
+accepted-outcome : (r : Reading Plan) → r ≡ accepted (said r) → Accepted ≡ outcome r
+unfolding outcome
+accepted-outcome r e = sym (ap outcome e)
+
+module _ (file : List ℕ) (e : read file ≡ accepted (said (read file))) where
+  lawful-here : LawfulPlan (said (read file))
+  lawful-here = lawful-file file (said (read file)) e
+
+  accepted-tables : (t : List ℕ) → front (wordBytes (tableWords (said (read file)))) t ≡ tablesOf (read file) t
+  unfolding front tablesOf
+  accepted-tables t =
+      let p = said (read file) in
+      let n : length (wordBytes (tableWords p)) ≡ tableSize = omega (arith, length-wordBytes (tableWords p), length-tableWords p (room-for p lawful-here)) in
+      ap (λ (k : ℕ). wordBytes (tableWords p) ++ drop k t) n
+      ∙ sym (ap (λ (r : Reading Plan). tablesOf r t) e)
+
+  accepted-terms : (t : List ℕ) → front (wordBytes (termWords (said (read file)))) t ≡ termsOf (read file) t
+  unfolding front termsOf
+  accepted-terms t =
+      let p = said (read file) in
+      ap (λ (k : ℕ). wordBytes (termWords p) ++ drop k t) (terms-long p lawful-here) ∙ sym (ap (λ (r : Reading Plan). termsOf r t) e)
+
+module _ (file tables terms : List ℕ) where
+  small : tooSmall tables terms ≡ true → (Refused 21 0 ≡ loading file tables terms) × ((tables ≡ tablesAfter file tables terms) × (terms ≡ termsAfter file tables terms))
+  unfolding loading tablesAfter termsAfter
+  small e = (rw e, (rw e, rw e))
+
+  pub small-tables : length tables < tableSize → (Refused 21 0 ≡ loading file tables terms) × ((tables ≡ tablesAfter file tables terms) × (terms ≡ termsAfter file tables terms))
+  unfolding tooSmall _or_
+  small-tables h = small (rw (lt-ltb _ _ h))
+
+  pub small-terms : length terms < termSize → (Refused 21 0 ≡ loading file tables terms) × ((tables ≡ tablesAfter file tables terms) × (terms ≡ termsAfter file tables terms))
+  unfolding tooSmall
+  small-terms h = small (rw (lt-ltb _ _ h) (or-true (ltb (length tables) tableSize)))
+
+  module _ (a : tableSize ≤ length tables) (b : termSize ≤ length terms) where
+    large : tooSmall tables terms ≡ false
+    unfolding tooSmall _or_
+    large = rw (le-ltb _ _ a, le-ltb _ _ b)
+
+    pub kept :
+        (v : Answer) (n o : ℕ) → v ≡ outcome (read file) → v ≡ Refused n o
+        → (v ≡ loading file tables terms) × ((tables ≡ tablesAfter file tables terms) × (terms ≡ termsAfter file tables terms))
+    unfolding loading tablesAfter termsAfter
+    kept v n o e r =
+        (rw large e, (rw large (refused-tables (read file) n o tables (sym r ∙ e)), rw large (refused-terms (read file) n o terms (sym r ∙ e))))
+
+    pub filled :
+        (t u : List ℕ) → read file ≡ accepted (said (read file)) → t ≡ front (wordBytes (tableWords (said (read file)))) tables → u ≡ front (wordBytes (termWords (said (read file)))) terms
+        → (Accepted ≡ loading file tables terms) × ((t ≡ tablesAfter file tables terms) × (u ≡ termsAfter file tables terms))
+    unfolding loading tablesAfter termsAfter
+    filled t u e p q =
+        (rw large (accepted-outcome (read file) e), (rw large (p ∙ accepted-tables file e tables), rw large (q ∙ accepted-terms file e terms)))

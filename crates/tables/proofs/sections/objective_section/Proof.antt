@@ -1,0 +1,32 @@
+-- `tables::sections::objective_section` meets its contract: cleared, then each coefficient at its variable's place.
+-- Assumes nothing.
+use borrow.Author.Needs.{needs}
+use native.Mathlib.Omega.{arith}
+use mathlib.Core.Path.{_≡_, refl, sym, ap, _∙_}
+use lib.ListN.{length, length-replicate}
+use Prim.Native.Nat.{ℕ}
+use Rattle.tables.specs.Places.{firstClause}
+use Rattle.tables.proofs.Found.{begun-room}
+use Rattle.tables.proofs.Dense.{objective-room, objective-range, objective-done}
+use Rattle.tables.proofs.sections.objective_section.Statement.{statement}
+use Rattle.tables.proofs.sections.objective_section.Tie as tie
+
+read-size-requires : tie.Need-read-size-requires
+unfolding firstClause
+read-size-requires c κs = omega (arith, begun-room _ _ (c .before .before .before .before .before .before .pre .0))
+
+put-coefficients-requires : tie.Need-put-coefficients-requires
+put-coefficients-requires c κs = let e = c .before .read-size .ensures in (objective-room _ _ (c .before .before .before .before .before .before .before .before .pre .0) _ e, objective-range _ _ (c .before .before .before .before .before .before .before .before .pre .0) _ e, ap length (c .before .before .before .before .clear .ensures) ∙ length-replicate {A = ℕ} _ 0 ∙ c .before .before .before .before .before .before .before .before .pre .1)
+
+returns : tie.Need-returns
+returns c = objective-done _ _ (c .before .before .before .before .before .before .before .before .before .before .before .pre .0) _ (c .before .before .before .before .read-size .ensures) (c .before .before .before .before .before .before .before .before .before .before .before .args .out .now) _ _ (c .before .before .before .before .before .before .before .before .before .before .before .pre .1) (c .before .before .before .before .before .before .before .clear .ensures) (c .before .before .put-coefficients .ensures)
+
+pub objective-section-spec : {M : Type 1} → statement M
+objective-section-spec =
+    tie.close
+    (tie.spec
+    (λ c κs. search needs)
+    read-size-requires
+    put-coefficients-requires
+    (λ c. search needs)
+    returns)

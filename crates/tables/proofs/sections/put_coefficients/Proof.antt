@@ -1,0 +1,38 @@
+-- `tables::sections::put_coefficients` meets its contract. The invariant: what the terms left would still write over the table is what all
+-- write over the first. The measure is how many are left.
+-- Assumes nothing.
+use borrow.Author.Needs.{needs}
+use native.Mathlib.Omega.{arith}
+use Rattle.tables.proofs.Dense.{Placing, placing-start, place-range, placing-more, placing-end}
+use Rattle.tables.proofs.sections.put_coefficients.Statement.{statement}
+use Rattle.tables.proofs.sections.put_coefficients.Tie as tie
+
+abbrev Inv-loop : tie.InvT-loop
+Inv-loop file from count out₀ at₀ left₀ out at left = Placing file from count out₀ at left out
+
+abbrev μ-loop : tie.MeasureT-loop
+μ-loop file from count out₀ at₀ left₀ out at left = left
+
+loop-holds : tie.Need-loop-holds Inv-loop μ-loop
+loop-holds c = placing-start _ _ _ _ (c .before .before .pre .0) (c .before .before .pre .1) (c .before .before .pre .2)
+
+put-coefficient-requires : tie.Need-put-coefficient-requires Inv-loop μ-loop
+put-coefficient-requires c κs = let h = c .before .before .loop .inv in let (a, b) = place-range h (c .before .loop-test .taken) in (omega (arith, h .room), a, b, h .long)
+
+loop-again : tie.Need-loop-again Inv-loop μ-loop
+loop-again c = placing-more (c .before .before .before .before .before .loop .inv) (c .before .before .before .before .loop-test .taken) _ (λ i. c .before .before .before .before .before .before .before .shared-slice-known .given i .fits) (c .before .before .put-coefficient .ensures)
+
+pub put-coefficients-spec : {M : Type 1} → statement M
+put-coefficients-spec =
+    tie.close
+    (tie.spec
+    Inv-loop
+    μ-loop
+    loop-holds
+    put-coefficient-requires
+    (λ c. search needs)
+    (λ c. search needs)
+    (λ c. omega arith)
+    loop-again
+    (λ c. c .before .loop .inv .same)
+    (λ c. placing-end (c .before .loop .inv) (c .loop-test .left)))

@@ -1,0 +1,25 @@
+-- `tables::walk::terms_of` meets its contract.
+-- Assumes nothing.
+use borrow.Author.Needs.{needs}
+use native.Mathlib.Omega.{arith}
+use mathlib.Core.Path.{_∙_}
+use Rattle.format.specs.File.{lengthAt, termsIn}
+use Rattle.tables.proofs.walk.terms_of.Statement.{statement}
+use Rattle.tables.proofs.walk.terms_of.Tie as tie
+
+sub-result : tie.Need-sub-result
+unfolding lengthAt
+sub-result c = omega arith
+
+returns : tie.Need-returns
+unfolding lengthAt termsIn
+returns c = rw (c .read-size .ensures)
+
+pub terms-of-spec : {M : Type 1} → statement M
+terms-of-spec =
+    tie.close
+    (tie.spec
+    (λ c. search needs)
+    (λ c κs. search needs)
+    sub-result
+    returns)
