@@ -1,4 +1,4 @@
-// Opening, flip and counts on each plan file named: the proved calls beside the plain ones, with all their checks, in one run.
+// Loading, opening, flip and counts on each plan file named: the proved calls beside the plain ones, with all their checks, in one run.
 #include "plain.h"
 #include "../include/planner.h"
 
@@ -24,7 +24,10 @@ static double now(void) {
 
 #define T (const uint8_t *)&tables, sizeof tables, (const uint8_t *)&terms, sizeof terms
 
+static size_t length;
+
 static void run(int call, int proved, uint32_t x) {
+    if (call == 3) sink = proved ? planner_load(file, length, (uint8_t *)&tables, sizeof tables, (uint8_t *)&terms, sizeof terms).refusal : plain_load(file, length, &tables, &terms).refusal;
     if (call == 0) sink = proved ? planner_open(T, a, 512, (uint8_t *)&ours, sizeof ours) : plain_open(&tables, &terms, b, &theirs);
     if (call == 1) sink = proved ? planner_flip(T, a, 512, (uint8_t *)&ours, sizeof ours, x) : plain_flip(&tables, &terms, b, &theirs, x);
     if (call == 2) sink = proved ? planner_counts(T, a, 512, (uint8_t *)&ours, sizeof ours, x).break_count : plain_counts(&tables, &terms, b, &theirs, x).breaks;
@@ -43,13 +46,18 @@ static double best(int call, int proved) {
 }
 
 int main(int count, char **names) {
-    const char *calls[] = {"open", "flip", "counts"};
+    const char *calls[] = {"open", "flip", "counts", "load"};
     printf("| plan | call | proved, µs | C, µs | ratio |\n|---|---|---|---|---|\n");
     for (int i = 1; i < count; i++) {
         FILE *f = fopen(names[i], "rb");
-        size_t length = f ? fread(file, 1, sizeof file, f) : 0;
+        length = f ? fread(file, 1, sizeof file, f) : 0;
         if (f) fclose(f);
         if (plain_load(file, length, &tables, &terms).refusal) return printf("%s is no plan\n", names[i]), 1;
+        static plain_tables again;
+        static plain_terms more;
+        if (planner_load(file, length, (uint8_t *)&again, sizeof again, (uint8_t *)&more, sizeof more).refusal || memcmp(&again, &tables, sizeof again) ||
+            memcmp(&more, &terms, sizeof more))
+            return printf("the two load %s otherwise\n", names[i]), 1;
         for (uint32_t x = 0; x < 512; x++) a[x] = b[x] = x * 2654435761u >> 31;
         run(0, 1, 0);
         run(0, 0, 0);
@@ -63,7 +71,7 @@ int main(int count, char **names) {
         }
         const char *name = strrchr(names[i], '/');
         name = name ? name + 1 : names[i];
-        for (int call = 0; call < 3; call++) {
+        for (int call = 0; call < 4; call++) {
             double c = best(call, 0), r = best(call, 1);
             printf("| %.*s | %s | %.1f | %.1f | %.2f |\n", (int)(strrchr(name, '.') - name), name, calls[call], r, c, r / c);
         }

@@ -2,15 +2,49 @@
 // Each function promises what the function that it calls promises.
 ghost use mathlib.Core.Path.{_≡_};
 ghost use Rattle.tallies.specs.Calls.{openRefusal, openTallies, callRefusal, flipAssignment, flipTallies, countsBreak, countsMake};
+ghost use Rattle.tables.specs.Load.{refusalOf, offsetOf, loading, tablesAfter, termsAfter};
 use calls::counts::counts;
 use calls::flip::flip;
 use calls::open::open;
+use tables::Answer;
+use tables::load;
+
+#[repr(C)]
+pub struct Loaded {
+    pub refusal: u32,
+    pub offset: usize,
+}
 
 #[repr(C)]
 pub struct Counted {
     pub refusal: u32,
     pub breaks: u32,
     pub makes: u32,
+}
+
+// The answer in numbers: 0 and 0 for an accepted file.
+fn numbers(answer: Answer) -> Loaded
+    ensures { λ r. ⌜ (r .refusal ≡ refusalOf answer) × (r .offset ≡ offsetOf answer) ⌝ }
+{
+    match answer {
+        Answer::Accepted => Loaded {
+            refusal: 0,
+            offset: 0,
+        },
+        Answer::Refused(number, offset) => Loaded {
+            refusal: number,
+            offset,
+        },
+    }
+}
+
+#[no_mangle]
+pub extern "C" fn planner_load(file: &[u8], tables: &mut [u8], terms: &mut [u8]) -> Loaded
+    ensures { λ r. ⌜ (r .refusal ≡ refusalOf (loading (now (file .entry)) (now (tables .entry)) (now (terms .entry)))) × (r .offset ≡ offsetOf (loading (now (file .entry)) (now (tables .entry)) (now (terms .entry)))) ⌝ }
+    ensures { λ _. ⌜ now (tables .exit) ≡ tablesAfter (now (file .entry)) (now (tables .entry)) (now (terms .entry)) ⌝ }
+    ensures { λ _. ⌜ now (terms .exit) ≡ termsAfter (now (file .entry)) (now (tables .entry)) (now (terms .entry)) ⌝ }
+{
+    numbers(load(file, tables, terms))
 }
 
 #[no_mangle]

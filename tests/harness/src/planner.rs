@@ -1,5 +1,13 @@
 //! The planner's C interface as Rust sees it (include/planner.h).
 
+/// What loading answers.
+#[repr(C)]
+#[derive(Clone, Copy, Debug, PartialEq, Eq)]
+pub struct Loaded {
+    pub refusal: u32,
+    pub offset: usize,
+}
+
 /// What counts answers.
 #[repr(C)]
 #[derive(Clone, Copy, Debug, PartialEq, Eq)]
@@ -10,9 +18,17 @@ pub struct Counted {
 }
 
 mod raw {
-    use super::Counted;
+    use super::{Counted, Loaded};
 
     extern "C" {
+        pub fn planner_load(
+            file: *const u8,
+            file_length: usize,
+            tables: *mut u8,
+            tables_length: usize,
+            terms: *mut u8,
+            terms_length: usize,
+        ) -> Loaded;
         pub fn planner_open(
             tables: *const u8,
             tables_length: usize,
@@ -45,6 +61,19 @@ mod raw {
             tallies_length: usize,
             variable: u32,
         ) -> Counted;
+    }
+}
+
+pub fn load(file: &[u8], tables: &mut [u8], terms: &mut [u8]) -> Loaded {
+    unsafe {
+        raw::planner_load(
+            file.as_ptr(),
+            file.len(),
+            tables.as_mut_ptr(),
+            tables.len(),
+            terms.as_mut_ptr(),
+            terms.len(),
+        )
     }
 }
 
