@@ -1,0 +1,127 @@
+-- A call made is the definition's, and its answer is written where the list's answers go on. Assumes nothing.
+use Prim.Native.Nat.{ℕ, zero, suc, _+_, _*_, _-_, _/_, _≤_, _<_}
+use native.Mathlib.Omega.{arith}
+use mathlib.Core.Path.{_≡_, refl, sym, ap, ap₂, _∙_}
+use mathlib.Core.Bool.{Bool, cond}
+use mathlib.Core.List.{List, [], _∷_, _++_, append-nil, append-assoc}
+use lib.Dec.{eqb·suc-zero}
+use lib.ListN.{length, getD, take, drop, length-append, take-append-drop}
+use borrow.Author.Tests.{eq-eqb, ne-eqb}
+use Rattle.plpb.specs.Book.{Call, flipCall, countsCall, Answer, refused, accepted, counted}
+use Rattle.words.specs.Words.{numAt, bytesOf, wordBytes}
+use Rattle.words.specs.Writes.{front, put}
+use Rattle.words.proofs.Words.{length-bytesOf}
+use Rattle.words.proofs.Writes.{put-put, front-none}
+use Rattle.tallies.specs.Calls.{Lent, callRefusal, flipAssignment, flipTallies, countsBreak, countsMake}
+use Rattle.tallies.specs.Demand.{answer, leaves, answers, after}
+use Rattle.replay.specs.Replay.{callOf, callsFrom, callsOf, answerWords, answerBytes}
+
+-- ---- one call
+
+is-flip : (kind x : ℕ) → kind ≡ 0 → callOf kind x ≡ flipCall x
+unfolding callOf
+is-flip kind x e = ap (λ (b : Bool). cond b (flipCall x) (countsCall x)) (eq-eqb kind 0 e)
+
+is-counts : (kind x : ℕ) → (kind ≡ 0 → ⊥) → callOf kind x ≡ countsCall x
+unfolding callOf
+is-counts kind x n = ap (λ (b : Bool). cond b (flipCall x) (countsCall x)) (ne-eqb kind 0 n)
+
+flip-words : (l : Lent) (x k : ℕ) → k ≡ callRefusal l x → k ∷ 0 ∷ 0 ∷ [] ≡ answerWords (answer l (flipCall x))
+unfolding answer answerWords
+flip-words l x zero e = rw (sym e)
+flip-words l x (suc k) e = rw (sym e, eqb·suc-zero k)
+
+counts-words : (l : Lent) (x k : ℕ) → k ≡ callRefusal l x → k ∷ countsBreak l x ∷ countsMake l x ∷ [] ≡ answerWords (answer l (countsCall x))
+unfolding answer answerWords countsBreak countsMake
+counts-words l x zero e = rw (sym e)
+counts-words l x (suc k) e = rw (sym e, eqb·suc-zero k)
+
+module _ (l : Lent) (kind x k : ℕ) (e : k ≡ callRefusal l x) where
+  pub flip-made : kind ≡ 0
+      → (k ∷ 0 ∷ 0 ∷ [] ≡ answerWords (answer l (callOf kind x)))
+      × (flipAssignment l x ≡ leaves l (callOf kind x) .assignment)
+      × (flipTallies l x ≡ leaves l (callOf kind x) .tallies)
+  unfolding leaves
+  flip-made z = rw (is-flip kind x z) (flip-words l x k e, refl, refl)
+
+  pub counts-made : (b m : ℕ) → (kind ≡ 0 → ⊥) → b ≡ countsBreak l x → m ≡ countsMake l x
+      → (k ∷ b ∷ m ∷ [] ≡ answerWords (answer l (callOf kind x)))
+      × (l .assignment ≡ leaves l (callOf kind x) .assignment)
+      × (l .tallies ≡ leaves l (callOf kind x) .tallies)
+  unfolding leaves
+  counts-made b m n p q = rw (is-counts kind x n, p, q) (counts-words l x k e, refl, refl)
+
+-- ---- an answer written
+
+pub three-words : (to a b c : ℕ) (s : List ℕ) → to + 12 ≤ length s
+    → put (to + 8) (bytesOf 4 c) (put (to + 4) (bytesOf 4 b) (put to (bytesOf 4 a) s)) ≡ put to (wordBytes (a ∷ b ∷ c ∷ [])) s
+unfolding wordBytes
+three-words to a b c s h =
+    let one : length (bytesOf 4 a) ≡ 4 = length-bytesOf 4 a in
+    let two : length (bytesOf 4 a ++ bytesOf 4 b) ≡ 8 = length-append (bytesOf 4 a) (bytesOf 4 b) ∙ ap₂ _+_ one (length-bytesOf 4 b) in
+    let first = rw one at (put-put to (bytesOf 4 a) (bytesOf 4 b) s (rw one (omega arith))) in
+    let second = rw two at (put-put to (bytesOf 4 a ++ bytesOf 4 b) (bytesOf 4 c) s (rw two (omega arith))) in
+    ap (put (to + 8) (bytesOf 4 c)) first ∙ second ∙ ap (λ bs. put to bs s) (simp (append-assoc, append-nil))
+
+answer-size : (a : Answer) → length (wordBytes (answerWords a)) ≡ 12
+unfolding answerWords wordBytes bytesOf
+answer-size (refused n) = refl
+answer-size accepted = refl
+answer-size (counted b m) = refl
+
+-- ---- a list of calls
+
+-- What a call leaves, told by the two buffers that it may change.
+left-by : (l : Lent) (c : Call) (a t : List ℕ) → a ≡ leaves l c .assignment → t ≡ leaves l c .tallies
+    → record { tables = l .tables; terms = l .terms; assignment = a; tallies = t } ≡ leaves l c
+unfolding leaves
+left-by l (flipCall x) a t p q = ap₂ (λ (a' t' : List ℕ). record { tables = l .tables; terms = l .terms; assignment = a'; tallies = t' }) p q
+left-by l (countsCall x) a t p q = ap₂ (λ (a' t' : List ℕ). record { tables = l .tables; terms = l .terms; assignment = a'; tallies = t' }) p q
+
+calls-more : (left at : ℕ) (s : List ℕ) → 0 < left
+    → callsFrom left s at ≡ callOf (getD s at 0) (numAt 4 s (at + 1)) ∷ callsFrom (left - 1) s (at + 5)
+unfolding callsFrom
+calls-more zero at s h = absurd (omega arith)
+calls-more (suc k) at s h = let e : suc k - 1 ≡ k = omega arith in rw e
+
+write-more : (l : Lent) (c : Call) (cs : List Call) (to : ℕ) (out : List ℕ) → to + 12 ≤ length out
+    → put (to + 12) (answerBytes (answers (leaves l c) cs)) (put to (wordBytes (answerWords (answer l c))) out) ≡ put to (answerBytes (answers l (c ∷ cs))) out
+unfolding answers answerBytes
+write-more l c cs to out h =
+    let bs = wordBytes (answerWords (answer l c)) in
+    let rest = answerBytes (answers (leaves l c) cs) in
+    let n : length bs ≡ 12 = answer-size (answer l c) in
+    ap (λ k. put (to + k) rest (put to bs out)) (sym n) ∙ put-put to bs rest out (rw n h)
+
+-- One turn: a call, and its answer written.
+module _ (l : Lent) (s : List ℕ) (left at x : ℕ) (a t : List ℕ) (some : 0 < left) (named : x ≡ numAt 4 s (at + 1))
+    (p : a ≡ leaves l (callOf (getD s at 0) x) .assignment) (q : t ≡ leaves l (callOf (getD s at 0) x) .tallies) where
+  pub after-turn : after (record { tables = l .tables; terms = l .terms; assignment = a; tallies = t }) (callsFrom (left - 1) s (at + 5)) ≡ after l (callsFrom left s at)
+  unfolding after
+  after-turn =
+      rw (calls-more left at s some, sym named)
+      (ap (λ m. after m (callsFrom (left - 1) s (at + 5))) (left-by l (callOf (getD s at 0) x) a t p q))
+
+  pub answers-turn : (to : ℕ) (ws out now : List ℕ) → to + 12 ≤ length out → ws ≡ answerWords (answer l (callOf (getD s at 0) x)) → now ≡ put to (wordBytes ws) out
+      → put (to + 12) (answerBytes (answers (record { tables = l .tables; terms = l .terms; assignment = a; tallies = t }) (callsFrom (left - 1) s (at + 5)))) now
+      ≡ put to (answerBytes (answers l (callsFrom left s at))) out
+  answers-turn to ws out now h w e =
+      let c = callOf (getD s at 0) x in
+      let cs = callsFrom (left - 1) s (at + 5) in
+      ap₂ (λ (m : Lent) (o : List ℕ). put (to + 12) (answerBytes (answers m cs)) o) (left-by l c a t p q) (e ∙ ap (λ ws'. put to (wordBytes ws') out) w)
+      ∙ write-more l c cs to out h
+      ∙ ap (λ y. put to (answerBytes (answers l (callOf (getD s at 0) y ∷ cs))) out) named
+      ∙ ap (λ ds. put to (answerBytes (answers l ds)) out) (sym (calls-more left at s some))
+
+-- Before the first call and after the last.
+pub answers-first : (l : Lent) (s out : List ℕ) → put 0 (answerBytes (answers l (callsFrom (length s / 5) s 0))) out ≡ front (answerBytes (answers l (callsOf s))) out
+unfolding put callsOf
+answers-first l s out = refl
+
+pub answers-last : (l : Lent) (s : List ℕ) (left at to : ℕ) (out : List ℕ) → left ≡ 0 → put to (answerBytes (answers l (callsFrom left s at))) out ≡ out
+unfolding put callsFrom answers answerBytes
+answers-last l s left at to out z = rw (z, front-none) (take-append-drop to out)
+
+pub after-last : (l : Lent) (s : List ℕ) (left at : ℕ) → left ≡ 0 → after l (callsFrom left s at) ≡ l
+unfolding callsFrom after
+after-last l s left at z = rw z

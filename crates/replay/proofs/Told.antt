@@ -1,0 +1,65 @@
+-- What a refused and an accepted replay come to: as lent, or what the book says. Assumes nothing.
+use Prim.Native.Nat.{ℕ, zero, suc, _*_, _/_, _≤_, _<_}
+use native.Mathlib.Omega.{arith}
+use mathlib.Core.Path.{_≡_, refl, sym, ap, _∙_}
+use mathlib.Core.List.{List}
+use lib.Dec.{eqb·suc-zero}
+use lib.ListN.{length}
+use borrow.Author.Tests.{lt-ltb, le-ltb}
+use Rattle.plpb.specs.Plan.{Plan, Assignment}
+use Rattle.plpb.specs.Book.{Call}
+use Rattle.words.specs.Writes.{front}
+use Rattle.format.specs.File.{refuse}
+use Rattle.tallies.specs.Layout.{bitsOf}
+use Rattle.tallies.specs.Calls.{Lent, plan, openRefusal, openTallies}
+use Rattle.tallies.specs.Demand.{answers, after, opened, account}
+use Rattle.tallies.proofs.Bits.{length-bitsOf}
+use Rattle.tallies.proofs.Refusals.{Opens, opens, assignment-room}
+use Rattle.tallies.proofs.Steps.{holding, answers-of-book, after-book, opened-holding}
+use Rattle.replay.specs.Replay.{callsOf, answerBytes, replayRefusal, replayOut, replayAssignment, replayTallies}
+
+-- ---- the refusal
+
+module _ (l : Lent) (list out : List ℕ) where
+  pub no-room : length out / 12 < length list / 5 → 21 ≡ replayRefusal l list out
+  unfolding replayRefusal refuse
+  no-room h = rw (lt-ltb (length out) (12 * (length list / 5)) (omega arith))
+
+  pub with-room : length list / 5 ≤ length out / 12 → openRefusal l ≡ replayRefusal l list out
+  unfolding replayRefusal refuse
+  with-room h = rw (le-ltb (length out) (12 * (length list / 5)) (omega arith))
+
+  pub refused-keeps : (k : ℕ) → k ≡ replayRefusal l list out → (k ≡ 0 → ⊥)
+      → (out ≡ replayOut l list out) × (l .assignment ≡ replayAssignment l list out) × (l .tallies ≡ replayTallies l list out)
+  unfolding replayOut replayAssignment replayTallies
+  refused-keeps zero e n = absurd (n refl)
+  refused-keeps (suc k) e n = rw (sym e, eqb·suc-zero k) (refl, refl, refl)
+
+-- ---- what an accepted opening leaves, and a list after it
+
+pub opened-by : (l : Lent) (t : List ℕ) → t ≡ openTallies l → record { tables = l .tables; terms = l .terms; assignment = l .assignment; tallies = t } ≡ opened l
+unfolding opened
+opened-by l t e = ap (λ t'. record { tables = l .tables; terms = l .terms; assignment = l .assignment; tallies = t' }) e
+
+module _ (l : Lent) (o : Opens l) (cs : List Call) where
+  bits-size : length (bitsOf (plan l .variables) (l .assignment)) ≡ plan l .variables
+  bits-size = length-bitsOf (plan l .variables) (l .assignment) (assignment-room l o)
+
+  book-answers : answers (opened l) cs ≡ account (plan l) l cs .answers
+  book-answers = ap (λ m. answers m cs) (opened-holding l o) ∙ answers-of-book l o (bitsOf (plan l .variables) (l .assignment)) cs bits-size
+
+  book-leaves : after (opened l) cs ≡ holding l (account (plan l) l cs .bits)
+  book-leaves = ap (λ m. after m cs) (opened-holding l o) ∙ after-book l o (bitsOf (plan l .variables) (l .assignment)) cs bits-size
+
+module _ (l : Lent) (list out : List ℕ) (z : openRefusal l ≡ 0) (r : 0 ≡ replayRefusal l list out) where
+  pub told-answers : front (answerBytes (answers (opened l) (callsOf list))) out ≡ replayOut l list out
+  unfolding replayOut
+  told-answers = rw (sym r) (ap (λ rs. front (answerBytes rs) out) (book-answers l (opens l z) (callsOf list)))
+
+  pub told-assignment : after (opened l) (callsOf list) .assignment ≡ replayAssignment l list out
+  unfolding replayAssignment
+  told-assignment = rw (sym r, book-leaves l (opens l z) (callsOf list)) (unfold holding in refl)
+
+  pub told-tallies : after (opened l) (callsOf list) .tallies ≡ replayTallies l list out
+  unfolding replayTallies
+  told-tallies = rw (sym r, book-leaves l (opens l z) (callsOf list)) (unfold holding in refl)

@@ -1,0 +1,59 @@
+-- A list of calls lent as bytes, the bytes of its answers, and the book's account of the list after opening, as what is lent is to be left.
+-- Assumes nothing.
+use Prim.Native.Nat.{ℕ, zero, suc, _+_, _*_, _/_}
+use mathlib.Core.Bool.{cond}
+use mathlib.Core.List.{List, [], _∷_, _++_}
+use lib.Dec.{ltb, eqb}
+use lib.ListN.{length, getD, drop}
+use Rattle.plpb.specs.Tallies.{freshCount}
+use Rattle.plpb.specs.Book.{Call, flipCall, countsCall, Answer, refused, accepted, counted}
+use Rattle.words.specs.Words.{numAt, wordBytes}
+use Rattle.words.specs.Writes.{front}
+use Rattle.format.specs.File.{refuse}
+use Rattle.tallies.specs.Layout.{tallySize, bitBytes, tallyBytes}
+use Rattle.tallies.specs.Calls.{Lent, plan, openRefusal}
+use Rattle.tallies.specs.Demand.{account}
+
+-- A call in 5 bytes: its kind, 0 for flip and any other for counts, and its variable.
+unfoldable pub callOf : ℕ → ℕ → Call
+callOf kind x = cond (eqb kind 0) (flipCall x) (countsCall x)
+
+-- k calls from a place on.
+unfoldable pub callsFrom : ℕ → List ℕ → ℕ → List Call
+callsFrom zero s at = []
+callsFrom (suc k) s at = callOf (getD s at 0) (numAt 4 s (at + 1)) ∷ callsFrom k s (at + 5)
+
+-- The whole calls of a list. What stands behind the last of them is no call.
+unfoldable pub callsOf : List ℕ → List Call
+callsOf s = callsFrom (length s / 5) s 0
+
+-- An answer in three words: the refusal, 0 for none; the break count; the make count.
+unfoldable pub answerWords : Answer → List ℕ
+answerWords (refused n) = n ∷ 0 ∷ 0 ∷ []
+answerWords accepted = 0 ∷ 0 ∷ 0 ∷ []
+answerWords (counted b m) = 0 ∷ b ∷ m ∷ []
+
+unfoldable pub answerBytes : List Answer → List ℕ
+answerBytes [] = []
+answerBytes (a ∷ rest) = wordBytes (answerWords a) ++ answerBytes rest
+
+-- 21 where the answers have no room, else as opening is refused.
+unfoldable pub replayRefusal : Lent → List ℕ → List ℕ → ℕ
+replayRefusal l list out = refuse (ltb (length out) (12 * (length list / 5))) 21 (openRefusal l)
+
+-- The answers are the book's, the first n assignment bytes its bits, the tallies their fresh count; all else, and all with a refusal, is as lent.
+unfoldable pub replayOut : Lent → List ℕ → List ℕ → List ℕ
+replayOut l list out =
+    cond (eqb (replayRefusal l list out) 0) (front (answerBytes (account (plan l) l (callsOf list) .answers)) out) out
+
+unfoldable pub replayAssignment : Lent → List ℕ → List ℕ → List ℕ
+replayAssignment l list out =
+    cond (eqb (replayRefusal l list out) 0)
+    (bitBytes (account (plan l) l (callsOf list) .bits) ++ drop (plan l .variables) (l .assignment))
+    (l .assignment)
+
+unfoldable pub replayTallies : Lent → List ℕ → List ℕ → List ℕ
+replayTallies l list out =
+    cond (eqb (replayRefusal l list out) 0)
+    (tallyBytes (freshCount (plan l) (account (plan l) l (callsOf list) .bits)) ++ drop tallySize (l .tallies))
+    (l .tallies)

@@ -1,0 +1,120 @@
+// Opening, and then a list of calls one after another on the lent buffers: demand 3 as a claim about running code.
+ghost use mathlib.Core.Path.{_≡_};
+ghost use Prim.Native.Nat.{_+_, _*_, _/_, _≤_};
+ghost use mathlib.Core.List.{[], _∷_};
+ghost use lib.ListN.{length};
+ghost use Rattle.words.specs.Words.{wordBytes};
+ghost use Rattle.words.specs.Writes.{put, front};
+ghost use Rattle.tallies.specs.Demand.{answer, leaves, answers, after};
+ghost use Rattle.replay.specs.Replay.{callOf, callsOf, answerWords, answerBytes, replayRefusal, replayOut, replayAssignment, replayTallies};
+use calls::counts::Counted;
+use calls::counts::counts;
+use calls::flip::flip;
+use calls::open::open;
+use words::read_u32;
+use words::write_u32;
+
+// Makes one call: a flip where its kind is 0, else counts.
+fn make_call(
+    tables: &[u8],
+    terms: &[u8],
+    assignment: &mut [u8],
+    tallies: &mut [u8],
+    kind: u8,
+    x: u32,
+) -> Counted
+    ensures { λ r. ⌜ r .refusal ∷ r .breaks ∷ r .makes ∷ [] ≡ answerWords (answer (record { tables = now (tables .entry); terms = now (terms .entry); assignment = now (assignment .entry); tallies = now (tallies .entry) }) (callOf kind x)) ⌝ }
+    ensures { λ _. ⌜ now (assignment .exit) ≡ leaves (record { tables = now (tables .entry); terms = now (terms .entry); assignment = now (assignment .entry); tallies = now (tallies .entry) }) (callOf kind x) .assignment ⌝ }
+    ensures { λ _. ⌜ now (tallies .exit) ≡ leaves (record { tables = now (tables .entry); terms = now (terms .entry); assignment = now (assignment .entry); tallies = now (tallies .entry) }) (callOf kind x) .tallies ⌝ }
+{
+    if kind == 0 {
+        let refusal = flip(tables, terms, assignment, tallies, x);
+        return Counted {
+            refusal,
+            breaks: 0,
+            makes: 0,
+        };
+    }
+    counts(tables, terms, assignment, tallies, x)
+}
+
+// Writes an answer's three words at a place.
+fn write_answer(out: &mut [u8], to: usize, refusal: u32, breaks: u32, makes: u32)
+    requires { ⌜ to + 12 ≤ length (now out) ⌝ }
+    ensures { λ _. ⌜ now (out .exit) ≡ put to (wordBytes (refusal ∷ breaks ∷ makes ∷ [])) (now (out .entry)) ⌝ }
+{
+    write_u32(out, to, refusal);
+    write_u32(out, to + 4, breaks);
+    write_u32(out, to + 8, makes);
+}
+
+// Makes the calls of a list, each on what the one before it left.
+fn make_calls(
+    tables: &[u8],
+    terms: &[u8],
+    assignment: &mut [u8],
+    tallies: &mut [u8],
+    list: &[u8],
+    out: &mut [u8],
+)
+    requires { ⌜ 12 * (length (now list) / 5) ≤ length (now out) ⌝ }
+    ensures { λ _. ⌜ now (out .exit) ≡ front (answerBytes (answers (record { tables = now (tables .entry); terms = now (terms .entry); assignment = now (assignment .entry); tallies = now (tallies .entry) }) (callsOf (now (list .entry))))) (now (out .entry)) ⌝ }
+    ensures { λ _. ⌜ now (assignment .exit) ≡ after (record { tables = now (tables .entry); terms = now (terms .entry); assignment = now (assignment .entry); tallies = now (tallies .entry) }) (callsOf (now (list .entry))) .assignment ⌝ }
+    ensures { λ _. ⌜ now (tallies .exit) ≡ after (record { tables = now (tables .entry); terms = now (terms .entry); assignment = now (assignment .entry); tallies = now (tallies .entry) }) (callsOf (now (list .entry))) .tallies ⌝ }
+{
+    let mut left = list.len() / 5;
+    let mut at = 0;
+    let mut to = 0;
+    while 0 < left {
+        let kind = list[at];
+        let x = read_u32(list, at + 1);
+        let a = make_call(tables, terms, assignment, tallies, kind, x);
+        write_answer(out, to, a.refusal, a.breaks, a.makes);
+        left -= 1;
+        at += 5;
+        to += 12;
+    }
+}
+
+// Opens, and then makes the calls of `list`, 5 bytes each; `out` has room for 12 bytes of answer to each.
+pub fn replay(
+    tables: &[u8],
+    terms: &[u8],
+    assignment: &mut [u8],
+    tallies: &mut [u8],
+    list: &[u8],
+    out: &mut [u8],
+) -> u32
+    ensures { λ r. ⌜ r ≡ replayRefusal (record { tables = now (tables .entry); terms = now (terms .entry); assignment = now (assignment .entry); tallies = now (tallies .entry) }) (now (list .entry)) (now (out .entry)) ⌝ }
+    ensures { λ _. ⌜ now (out .exit) ≡ replayOut (record { tables = now (tables .entry); terms = now (terms .entry); assignment = now (assignment .entry); tallies = now (tallies .entry) }) (now (list .entry)) (now (out .entry)) ⌝ }
+    ensures { λ _. ⌜ now (assignment .exit) ≡ replayAssignment (record { tables = now (tables .entry); terms = now (terms .entry); assignment = now (assignment .entry); tallies = now (tallies .entry) }) (now (list .entry)) (now (out .entry)) ⌝ }
+    ensures { λ _. ⌜ now (tallies .exit) ≡ replayTallies (record { tables = now (tables .entry); terms = now (terms .entry); assignment = now (assignment .entry); tallies = now (tallies .entry) }) (now (list .entry)) (now (out .entry)) ⌝ }
+{
+    if out.len() / 12 < list.len() / 5 {
+        return 21;
+    }
+    let refusal = open(tables, terms, assignment, tallies);
+    if refusal != 0 {
+        return refusal;
+    }
+    make_calls(tables, terms, assignment, tallies, list, out);
+    0
+}
+
+// The same for C.
+#[no_mangle]
+pub extern "C" fn replay_calls(
+    tables: &[u8],
+    terms: &[u8],
+    assignment: &mut [u8],
+    tallies: &mut [u8],
+    list: &[u8],
+    out: &mut [u8],
+) -> u32
+    ensures { λ r. ⌜ r ≡ replayRefusal (record { tables = now (tables .entry); terms = now (terms .entry); assignment = now (assignment .entry); tallies = now (tallies .entry) }) (now (list .entry)) (now (out .entry)) ⌝ }
+    ensures { λ _. ⌜ now (out .exit) ≡ replayOut (record { tables = now (tables .entry); terms = now (terms .entry); assignment = now (assignment .entry); tallies = now (tallies .entry) }) (now (list .entry)) (now (out .entry)) ⌝ }
+    ensures { λ _. ⌜ now (assignment .exit) ≡ replayAssignment (record { tables = now (tables .entry); terms = now (terms .entry); assignment = now (assignment .entry); tallies = now (tallies .entry) }) (now (list .entry)) (now (out .entry)) ⌝ }
+    ensures { λ _. ⌜ now (tallies .exit) ≡ replayTallies (record { tables = now (tables .entry); terms = now (terms .entry); assignment = now (assignment .entry); tallies = now (tallies .entry) }) (now (list .entry)) (now (out .entry)) ⌝ }
+{
+    replay(tables, terms, assignment, tallies, list, out)
+}
