@@ -4,3 +4,4 @@ pub mod guarded;
 pub mod layout;
 pub mod planner;
 pub mod probe;
+pub mod replay;
