@@ -4,16 +4,16 @@ use Prim.Native.Nat.{ℕ, zero, suc, _+_, _*_, _≤_, _<_}
 use native.Mathlib.Nat.{zero-add, add-zero, add-suc, suc-add}
 use native.Mathlib.Omega.{arith}
 use mathlib.Core.Path.{_≡_, refl, sym, ap, _∙_}
-use mathlib.Core.Bool.{Bool, true}
+use mathlib.Core.Bool.{Bool}
 use mathlib.Core.List.{List, [], _∷_, _++_, map}
 use lib.Dec.{T}
-use lib.ListN.{length, getD, take, drop, length-take, length-append}
+use lib.ListN.{length, getD, take, length-take, length-append}
 use lib.Seq.{take-all}
 use Rattle.plpb.specs.Lists.{all, concat, row, sumBy}
 use Rattle.plpb.specs.Plan.{Rule, Clause, Plan, rising, numbersRise}
 use Rattle.plpb.specs.Tallies.{rulesOf}
 use Rattle.plpb.proofs.Lists.{and-left, and-right, and-both, all-at, all-concat}
-use Rattle.words.specs.Words.{wordBytes, wordAt}
+use Rattle.words.specs.Words.{wordAt}
 use Rattle.words.proofs.Words.{length-wordBytes}
 use Rattle.format.specs.Limits.{ruleLawful, termCount}
 use Rattle.format.specs.Tables.{clauseEntries, ruleEntries, tableWords, termWords, Holds, ruleOf, clauseOf, planIn, planOfTables}

@@ -1,18 +1,18 @@
 -- Laws of a recount: a rule read makes its word right, the rules of a clause its count, and all clauses the whole.
 -- Assumes nothing.
-use Prim.Native.Nat.{ℕ, zero, suc, _+_, _*_, _-_, _≤_, _<_}
+use Prim.Native.Nat.{ℕ, _+_, _*_, _-_, _≤_, _<_}
 use native.Mathlib.Nat.{zero-add, eq-or-lt-of-le}
 use native.Mathlib.Numerals.{add-one}
 use native.Mathlib.Decide.{decLt}
 use native.Mathlib.Omega.{arith}
-use mathlib.Core.Path.{_≡_, refl, sym, ap, ap₂, _∙_}
+use mathlib.Core.Path.{_≡_, sym, ap, ap₂, _∙_}
 use mathlib.Core.Logic.{⊎-elim}
-use mathlib.Core.Bool.{Bool, true, false, not, cond}
-use mathlib.Core.List.{List, [], _∷_, _++_, map}
-use lib.Dec.{T, eqb}
-use lib.ListN.{length, take, drop, take-append-drop}
+use mathlib.Core.Bool.{Bool, true, false, cond}
+use mathlib.Core.List.{List, _++_, map}
+use lib.Dec.{eqb}
+use lib.ListN.{length, drop, take-append-drop}
 use Rattle.plpb.specs.Lists.{count, row}
-use Rattle.plpb.specs.Plan.{Rule, Clause, Plan, Assignment, ruleHolds, clauseHolds, namedIn, names}
+use Rattle.plpb.specs.Plan.{Plan, Assignment, ruleHolds, clauseHolds, namedIn, names}
 use Rattle.plpb.specs.Normal.{P}
 use Rattle.plpb.specs.Equations.{out}
 use Rattle.plpb.specs.Tallies.{rulesOf, unsatisfied, freshCount}
@@ -27,7 +27,7 @@ use Rattle.rules.specs.State.{StateOf, holdsIn}
 use Rattle.rules.specs.declared.state.State.{State}
 use Rattle.rules.proofs.States.{holds-rule, rule-at}
 use Rattle.tallies.specs.Layout.{tallySize, tallyBytes}
-use Rattle.tallies.specs.Core.{Laid, Ready, tallyWord, Wrote, Kept, Right, RuleCounted, ClauseCounted, Spare, Countable, Unused}
+use Rattle.tallies.specs.Core.{Laid, tallyWord, Wrote, Kept, Right, RuleCounted, ClauseCounted, Countable, Unused}
 use Rattle.tallies.proofs.Along.{along-step, along-end}
 use Rattle.tallies.proofs.TallyBytes.{roomy-fits}
 use Rattle.tallies.proofs.Tallied.{rule-word, clause-word, total-word, unused-rule, unused-clause, words-fresh}

@@ -3,15 +3,14 @@
 use Prim.Native.Nat.{ℕ, zero, suc, _+_, _*_, _-_, _≤_, _<_}
 use native.Mathlib.Nat.{zero-add, eq-or-lt-of-le}
 use native.Mathlib.Omega.{arith}
-use mathlib.Core.Path.{_≡_, refl, sym, ap, ap₂, _∙_}
+use mathlib.Core.Path.{_≡_, refl, ap, ap₂, _∙_}
 use mathlib.Core.Logic.{⊎-elim}
-use mathlib.Core.Bool.{Bool, true, false, cond, true≢false}
+use mathlib.Core.Bool.{Bool, true, false, cond}
 use mathlib.Core.List.{List, [], _∷_, map}
 use borrow.Author.Tests.{lt-ltb, le-ltb}
-use lib.Dec.{T, eqb}
-use lib.ListN.{length, getD}
+use lib.Dec.{eqb}
 use Rattle.plpb.specs.Lists.{_or_, any, row}
-use Rattle.plpb.specs.Plan.{Term, Rule, Clause, Plan, Assignment, namedIn, names}
+use Rattle.plpb.specs.Plan.{Term, Rule, Clause, Assignment, namedIn, names}
 use Rattle.plpb.specs.Normal.{literal, literalTrue, size}
 use Rattle.plpb.specs.Equations.{Standing, out, on, off, standing, shares, sharesOf, product, clauseBreak, clauseMake}
 use Rattle.plpb.specs.Tallies.{rulesOf}

@@ -1,11 +1,8 @@
 -- `rule_names` meets its contract: a rule's entry says which terms are its own.
 -- Assumes nothing.
-use borrow.Author.Needs.{needs}
-use Prim.Native.Nat.{_+_, _*_}
 use native.Mathlib.Omega.{arith}
-use mathlib.Core.Path.{_≡_, _∙_, ap, ap₂}
+use mathlib.Core.Path.{_∙_, ap, ap₂}
 use Rattle.plpb.specs.Plan.{namedIn}
-use Rattle.words.specs.Words.{wordAt}
 use Rattle.format.specs.Tables.{ruleOf}
 use Rattle.rules.specs.Terms.{termsAt}
 use Rattle.tallies.proofs.Laid.{rules-few, entry-inside, terms-inside}

@@ -1,9 +1,8 @@
 -- `is_due` meets its contract: only a variable that does not occur leaves a rule out.
 -- Assumes nothing.
 use borrow.Author.Needs.{needs}
-use mathlib.Core.Path.{_≡_, refl, sym}
+use mathlib.Core.Path.{refl}
 use mathlib.Core.Bool.{true≢false}
-use Rattle.rules.specs.Sums.{standingIn}
 use Rattle.tallies.proofs.recount.is_due.Statement.{statement}
 use Rattle.tallies.proofs.recount.is_due.Tie as tie
 

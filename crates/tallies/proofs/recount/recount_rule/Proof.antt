@@ -1,9 +1,7 @@
 -- `recount_rule` meets its contract: the state read tells P and whether the rule holds, and a word not written is right already.
 -- Assumes nothing.
 use borrow.Author.Needs.{needs}
-use Prim.Native.Nat.{_+_, _*_}
 use native.Mathlib.Omega.{arith}
-use mathlib.Core.Path.{_≡_}
 use Rattle.tallies.proofs.Laid.{rules-few, rule-ready}
 use Rattle.tallies.proofs.Recounting.{rule-spared, rule-counted}
 use Rattle.tallies.proofs.recount.recount_rule.Statement.{statement}
