@@ -1,39 +1,35 @@
 -- Laws of a rule's state: the rule holds, has its shares and is turned over as its state says.
 -- Assumes nothing.
 use Prim.Native.Nat.{ℕ, _+_, _*_, _-_, _≤_, _<_}
-use native.Mathlib.Nat.{add-assoc}
 use native.Mathlib.Omega.{arith}
-use mathlib.Core.Path.{_≡_, refl, sym, ap, ap₂, _∙_, subst}
+use mathlib.Core.Path.{_≡_, refl, sym, ap, ap₂, _∙_}
 use mathlib.Core.Bool.{Bool, true, false, not, cond}
 use mathlib.Core.List.{List, [], _∷_}
 use lib.Dec.{T, eqb}
-use lib.ListN.{length, take}
-use borrow.Author.Tests.{eqb-true, eqb-false}
-use Rattle.plpb.specs.Lists.{_and_}
-use Rattle.plpb.specs.Plan.{Term, Rule, Assignment, value, flip, rising, ruleHolds}
+use lib.ListN.{length}
+use borrow.Author.Tests.{eqb-true}
+use Rattle.plpb.specs.Lists.{_and_, _or_}
+use Rattle.plpb.specs.Plan.{Term, Rule, Assignment, flip, rising, ruleHolds, namedIn}
 use Rattle.plpb.specs.Normal.{literal, literalTrue, size, rise, K, P, N}
-use Rattle.plpb.specs.Equations.{Standing, out, on, off, standing, shares, sharesOf}
-use Rattle.plpb.proofs.Normal.{P-at-most-K, N-and-P, belowSize, lower-by-size, upper-by-size}
+use Rattle.plpb.specs.Equations.{out, on, off, standing, sharesOf}
+use Rattle.plpb.proofs.Normal.{N-and-P, belowSize, lower-by-size, upper-by-size}
 use Rattle.plpb.proofs.Flip.{flip-literal-same}
 use Rattle.plpb.proofs.Equations.{lost, gained, P-flipped}
 use Rattle.counting.specs.Bound.{boundOf}
-use Rattle.words.specs.Words.{wordAt, signed}
+use Rattle.words.specs.Words.{wordAt}
 use Rattle.format.specs.File.{boundOf as boundIn}
-use Rattle.format.specs.Limits.{maxVariables, termsLawful, ruleLawful}
-use Rattle.format.specs.Tables.{ruleOf}
-use Rattle.format.proofs.Bools.{and-first, and-stop, T-true, true-T}
-use Rattle.format.proofs.Lawful.{rule-parts, terms-whole}
+use Rattle.format.proofs.Bools.{and-first, and-stop}
 use Rattle.rules.specs.declared.entry.Entry.{Entry}
-use Rattle.rules.specs.declared.sums.Stands.{Stands}
-use Rattle.rules.specs.declared.sums.Stands.the-variants.{Out, On, Off}
+use Rattle.rules.specs.declared.place.Stands.{Stands}
+use Rattle.rules.specs.declared.place.Stands.the-variants.{Out, On, Off}
 use Rattle.rules.specs.declared.sums.Sums.{Sums}
 use Rattle.rules.specs.declared.state.State.{State}
-use Rattle.rules.specs.Terms.{bitsIn, termsAt, Readable}
-use Rattle.rules.specs.Sums.{standingIn, Summed}
-use Rattle.rules.specs.Rules.{EntryAt, ruleAt, RuleReadable, lowerSize, upperSize}
-use Rattle.rules.specs.State.{Balanced, StateOf, Made, holdsIn, sharesFrom, opposite, Turned}
-use Rattle.rules.proofs.Terms.{first-bits, lawful-legal, readable}
-use Rattle.rules.proofs.Summing.{rise-at-most-K, K-at-most, lost-in-P, gained-beside-P, P-same, standing-same}
+use Rattle.rules.specs.Terms.{termsAt, Readable}
+use Rattle.rules.specs.Sums.{Summed}
+use Rattle.rules.specs.Places.{standingIn}
+use Rattle.rules.specs.Rules.{EntryAt, ruleAt, RuleInside, RuleReadable, lowerSize, upperSize}
+use Rattle.rules.specs.State.{Balanced, StateOf, Made, Seen, holdsIn, sharesFrom, opposite, Turned}
+use Rattle.rules.proofs.Finding.{lost-in-P, gained-beside-P}
 use Rattle.rules.proofs.Sizes.{rule-lower, rule-upper}
 
 -- ---- what a state says of its rule
@@ -61,10 +57,21 @@ one-fails {a} b p f = f ∙ sym (and-stop a b (sym p ∙ f))
 pub entry-readable : {tables terms assignment : List ℕ} {at : ℕ} {e : Entry} → EntryAt (wordAt tables) at e → RuleReadable tables terms assignment at → Readable terms assignment (e .first) (e .count)
 entry-readable d r = rw (d .first, d .count) (r .body)
 
+pub entry-inside : {tables terms : List ℕ} {at : ℕ} {e : Entry} → EntryAt (wordAt tables) at e → RuleInside tables terms at → 8 * (e .first + e .count) ≤ length terms
+entry-inside d r = rw (d .first, d .count) (r .body)
+
+-- .. and its terms, as the entry says them, are the rule's.
+pub entry-terms : {f : ℕ → ℕ} (g : ℕ → ℕ) {at : ℕ} {e : Entry} → EntryAt f at e → termsAt g (e .first) (e .count) ≡ ruleAt f g at .terms
+unfolding ruleAt
+entry-terms g d = ap₂ (termsAt g) (d .first) (d .count)
+
+pub entry-named : {f : ℕ → ℕ} (g : ℕ → ℕ) {at : ℕ} {e : Entry} (x : ℕ) {b : Bool} → EntryAt f at e → namedIn x (termsAt g (e .first) (e .count)) ≡ b → b ≡ namedIn x (ruleAt f g at .terms)
+entry-named g x d h = sym h ∙ ap (namedIn x) (entry-terms g d)
+
 -- The entry's words and the sums of its terms make the state of the rule.
-pub state-made : {f : ℕ → ℕ} (g : ℕ → ℕ) {at : ℕ} {a : Assignment} {x : ℕ} {e : Entry} {s : Sums} {r : State} → EntryAt f at e → Summed a x (termsAt g (e .first) (e .count)) s → s .k < 4_294_967_296 → Made e s r → StateOf a x (ruleAt f g at) r
+pub state-made : {f : ℕ → ℕ} (g : ℕ → ℕ) {at : ℕ} {a : Assignment} {e : Entry} {s : Sums} {r : State} → EntryAt f at e → Summed a (termsAt g (e .first) (e .count)) s → s .k < 4_294_967_296 → standing a 0 (termsAt g (e .first) (e .count)) ≡ out → Made e s r → StateOf a 0 (ruleAt f g at) r
 unfolding ruleAt N
-state-made {f} g {at} {a} {x} {e} {s} {r} d m small h =
+state-made {f} g {at} {a} {e} {s} {r} d m small none h =
     record {
       falses = falses;
       trues = trues;
@@ -73,8 +80,8 @@ state-made {f} g {at} {a} {x} {e} {s} {r} d m small h =
       upper = h .upper ∙ ap₂ upperSize rises (ap₂ (boundIn 1) (d .mode) (d .upper)) ∙ rule-upper (ruleAt f g at);
       balanced = record {
         small = omega (arith, falses, trues, N-and-P a ts, whole, small);
-        loses = rw (stands, trues) (lost-in-P a x ts);
-        gains = rw (stands, falses) (omega (arith, gained-beside-P a x ts));
+        loses = rw (stands, trues) (lost-in-P a 0 ts);
+        gains = rw (stands, falses) (omega (arith, gained-beside-P a 0 ts));
       };
     }
   where
@@ -96,8 +103,28 @@ state-made {f} g {at} {a} {x} {e} {s} {r} d m small h =
     falses : r .n ≡ N a ts
     falses = h .falses ∙ ap₂ _-_ whole (m .trues ∙ ap (P a) same)
 
-    stands : standingIn (r .stands) ≡ standing a x ts
-    stands = ap standingIn (h .stands) ∙ m .stands ∙ ap (standing a x) same
+    stands : standingIn (r .stands) ≡ standing a 0 ts
+    stands = ap standingIn (h .stands) ∙ sym none ∙ ap (standing a 0) same
+
+-- Seen from another variable, the rest is as it was.
+pub state-seen : {a : Assignment} {x y : ℕ} {q : Rule} {z : Stands} {s r : State} → StateOf a y q s → standingIn z ≡ standing a x (q .terms) → Seen z s r → StateOf a x q r
+unfolding N
+state-seen {a} {x} {y} {q} {z} {s} {r} h e t =
+    let falses = t .falses ∙ h .falses in
+    let trues = t .trues ∙ h .trues in
+    let stands = ap standingIn (t .stands) ∙ e in
+    record {
+      falses = falses;
+      trues = trues;
+      stands = stands;
+      lower = ap boundOf (t .lower) ∙ h .lower;
+      upper = ap boundOf (t .upper) ∙ h .upper;
+      balanced = record {
+        small = rw (t .falses, t .trues) (h .balanced .small);
+        loses = rw (stands, trues) (lost-in-P a x (q .terms));
+        gains = rw (stands, falses) (omega (arith, gained-beside-P a x (q .terms)));
+      };
+    }
 
 -- ---- a state turned over
 
@@ -170,62 +197,3 @@ module _ (s : State) (b : Balanced s) where
         upper = refl;
         balanced = record { small = omega (arith, b .small); loses = omega arith; gains = omega arith };
       }
-
--- ---- for callers: the rules of tables that hold a plan of n variables
-
--- A rule with lawful terms can be read ..
-module _ (tables terms assignment : List ℕ) (at n : ℕ) where
-  pub rule-readable : 4 * at + 20 ≤ length tables → 8 * (wordAt tables at + wordAt tables (at + 1)) ≤ length terms → n ≤ maxVariables → n ≤ length assignment → T (termsLawful n (ruleAt (wordAt tables) (wordAt terms) at .terms)) → RuleReadable tables terms assignment at
-  unfolding ruleAt
-  rule-readable entry inside small bytes t =
-      record { entry = entry; body = readable terms assignment (wordAt tables at) (wordAt tables (at + 1)) n inside small bytes t }
-
--- .. and its state is that under any assignment that says the same of the plan's variables, so that under the first n bytes.
-pub state-same : (n : ℕ) {a b : Assignment} {x : ℕ} {q : Rule} {s : State} → ((v : ℕ) → v ≤ n → value a v ≡ value b v) → T (termsLawful n (q .terms)) → StateOf a x q s → StateOf b x q s
-unfolding N
-state-same n {a} {b} {x} {q} {s} same t h =
-    let l = lawful-legal n (q .terms) t in
-    let trues : P a (q .terms) ≡ P b (q .terms) = P-same n a b same (q .terms) l in
-    record {
-      falses = h .falses ∙ ap (λ p. K (q .terms) - p) trues;
-      trues = h .trues ∙ trues;
-      stands = h .stands ∙ standing-same n a b same x (q .terms) l;
-      lower = h .lower;
-      upper = h .upper;
-      balanced = h .balanced;
-    }
-
-pub state-first : (n : ℕ) (bytes : List ℕ) {x : ℕ} {q : Rule} {s : State} → T (termsLawful n (q .terms)) → StateOf (bitsIn bytes) x q s → StateOf (bitsIn (take n bytes)) x q s
-state-first n bytes t h = state-same n (first-bits n bytes) t h
-
--- A lawful rule has lawful terms, whose numbers rise.
-module _ (n : ℕ) (q : Rule) (t : T (ruleLawful n q)) where
-  pub rule-terms : T (termsLawful n (q .terms))
-  rule-terms = true-T _ (terms-whole n (q .terms) (rule-parts n q (T-true _ t) .terms))
-
-  pub rule-rises : T (rising (q .terms))
-  rule-rises = true-T _ (rule-parts n q (T-true _ t) .terms .rise)
-
--- Rule r has its entry at word 1,542 + 5·r.
-pub rule-at : (f g : ℕ → ℕ) (r : ℕ) → ruleAt f g (1_542 + 5 * r) ≡ ruleOf f g r
-unfolding ruleAt ruleOf termsAt
-rule-at f g r =
-    let one : 1_542 + 5 * r + 1 ≡ 1_543 + 5 * r = omega arith in
-    let two : 1_542 + 5 * r + 2 ≡ 1_544 + 5 * r = omega arith in
-    let three : 1_542 + 5 * r + 3 ≡ 1_545 + 5 * r = omega arith in
-    let four : 1_542 + 5 * r + 4 ≡ 1_546 + 5 * r = omega arith in
-    rw (one, two, three, four) refl
-
--- Both at once, for a lawful rule of the tables.
-module _ (tables terms assignment : List ℕ) (n r : ℕ) (t : T (ruleLawful n (ruleOf (wordAt tables) (wordAt terms) r))) where
-  terms-at : T (termsLawful n (ruleAt (wordAt tables) (wordAt terms) (1_542 + 5 * r) .terms))
-  terms-at = rw (rule-at (wordAt tables) (wordAt terms) r) (rule-terms n (ruleOf (wordAt tables) (wordAt terms) r) t)
-
-  pub table-rule-readable : 26_668 ≤ length tables → r < 1_025 → 8 * (wordAt tables (1_542 + 5 * r) + wordAt tables (1_543 + 5 * r)) ≤ length terms → n ≤ maxVariables → n ≤ length assignment → RuleReadable tables terms assignment (1_542 + 5 * r)
-  table-rule-readable whole few inside small bytes =
-      let one : 1_542 + 5 * r + 1 ≡ 1_543 + 5 * r = omega arith in
-      rule-readable tables terms assignment (1_542 + 5 * r) n (omega arith) (rw one inside) small bytes terms-at
-
-  pub table-rule-state : {x : ℕ} {s : State} → StateOf (bitsIn assignment) x (ruleAt (wordAt tables) (wordAt terms) (1_542 + 5 * r)) s → StateOf (bitsIn (take n assignment)) x (ruleOf (wordAt tables) (wordAt terms) r) s
-  table-rule-state {x} {s} h =
-      rw (rule-at (wordAt tables) (wordAt terms) r) at (state-first n assignment terms-at h)

@@ -1,26 +1,24 @@
 -- Laws of the sums of a rule's terms: they are made term by term from the last to the first, and none is larger than K.
 -- Assumes nothing.
-use Prim.Native.Nat.{ℕ, zero, suc, _+_, _*_, _-_, _≤_, _<_, zero-le}
+use Prim.Native.Nat.{ℕ, suc, _+_, _*_, _-_, _≤_, _<_, zero-le}
 use native.Mathlib.Nat.{add-zero, sub-zero}
 use native.Mathlib.Omega.{arith}
-use mathlib.Core.Path.{_≡_, refl, sym, ap, ap₂, _∙_, subst₂}
+use mathlib.Core.Path.{_≡_, refl, ap, ap₂, _∙_}
 use mathlib.Core.Bool.{Bool, true, false, not, cond}
 use mathlib.Core.List.{List, [], _∷_}
-use lib.Dec.{T, eqb}
+use lib.Dec.{T}
 use lib.ListN.{length}
 use Rattle.plpb.specs.Lists.{all, sumBy}
 use Rattle.plpb.specs.Plan.{Term, Assignment, value}
-use Rattle.plpb.specs.Normal.{literal, literalTrue, isNegative, size, rise, K, P, N}
-use Rattle.plpb.specs.Equations.{Standing, out, on, off, standing}
+use Rattle.plpb.specs.Normal.{literal, literalTrue, isNegative, size, rise, K, P}
 use Rattle.plpb.proofs.Lists.{and-left, and-right, sumBy-each}
 use Rattle.plpb.proofs.Normal.{P-at-most-K}
-use Rattle.plpb.proofs.Equations.{lost, gained}
 use Rattle.words.specs.Words.{wordAt}
 use Rattle.format.specs.Tables.{termOf}
-use Rattle.rules.specs.declared.sums.Stands.the-variants.{Out}
 use Rattle.rules.specs.declared.sums.Sums.{Sums}
-use Rattle.rules.specs.Terms.{termsAt, Readable}
-use Rattle.rules.specs.Sums.{Summed, Room, trueAt, Added}
+use Rattle.rules.specs.declared.term.Literal.{Literal}
+use Rattle.rules.specs.Terms.{LiteralOf, termsAt, Readable}
+use Rattle.rules.specs.Sums.{Summed, Room, Added, AddedTerm}
 use Rattle.rules.proofs.Terms.{termLegal, lawful-legal, legal-high, legal-weight, legal-at, legal-rest, terms-none, terms-next, length-terms}
 
 -- ---- bounds
@@ -39,54 +37,36 @@ unfolding K sumBy all size
 K-at-most n [] l = zero-le
 K-at-most n (t ∷ ts) l = omega (arith, legal-weight n t (and-left _ _ l), K-at-most n ts (and-right _ _ l))
 
--- The variable's weight is part of P where its literal is true, and not of P where it is false.
-pub lost-in-P : (a : Assignment) (x : ℕ) (ts : List Term) → lost (standing a x ts) ≤ P a ts
-unfolding standing P sumBy lost
-lost-in-P a x [] = zero-le
-lost-in-P a x (t ∷ ts) = at (eqb (t .variable) x) (literalTrue a (literal t)) (lost-in-P a x ts)
-  where
-    at : (b c : Bool) → lost (standing a x ts) ≤ P a ts → lost (cond b (cond c (on (size t)) (off (size t))) (standing a x ts)) ≤ cond c (size t) 0 + P a ts
-    at true true h = omega arith
-    at true false h = zero-le
-    at false c h = omega (arith, h)
-
-pub gained-beside-P : (a : Assignment) (x : ℕ) (ts : List Term) → gained (standing a x ts) + P a ts ≤ K ts
-unfolding standing P K sumBy gained
-gained-beside-P a x [] = zero-le
-gained-beside-P a x (t ∷ ts) = at (eqb (t .variable) x) (literalTrue a (literal t)) (gained-beside-P a x ts)
-  where
-    at : (b c : Bool) → gained (standing a x ts) + P a ts ≤ K ts → gained (cond b (cond c (on (size t)) (off (size t))) (standing a x ts)) + (cond c (size t) 0 + P a ts) ≤ size t + K ts
-    at true true h = omega (arith, P-at-most-K a ts)
-    at true false h = omega (arith, P-at-most-K a ts)
-    at false true h = omega arith
-    at false false h = omega arith
-
 -- ---- term by term
 
--- What is added is told by the value and the term.
-pub added-same : {v v′ : Bool} {x : ℕ} {t t′ : Term} {s r : Sums} → v ≡ v′ → t ≡ t′ → Added v x t s r → Added v′ x t′ s r
-added-same {v} {v′} {x} {t} {t′} {s} {r} p q d = subst₂ (λ b u. Added b x u s r) p q d
+-- A literal added is its term added.
+pub literal-added : {a : Assignment} {t : Term} {l : Literal} {s r : Sums} → LiteralOf a t l → Added l s r → AddedTerm a t s r
+literal-added {s = s} h d =
+    record {
+      whole = d .whole ∙ ap (λ n. n + s .k) (h .sized);
+      rises = d .rises ∙ ap₂ (λ b n. cond b n 0 + s .rise) (h .negates) (h .sized);
+      trues = d .trues ∙ ap₂ (λ b n. cond b n 0 + s .p) (h .truth) (h .sized);
+    }
 
-module _ (a : Assignment) (x : ℕ) where
-  none-summed : Summed a x [] (record { k = 0; rise = 0; p = 0; stands = Out })
-  unfolding K rise P sumBy standing
-  none-summed = record { whole = refl; rises = refl; trues = refl; stands = refl }
+module _ (a : Assignment) where
+  none-summed : Summed a [] (record { k = 0; rise = 0; p = 0 })
+  unfolding K rise P sumBy
+  none-summed = record { whole = refl; rises = refl; trues = refl }
 
-  more-summed : (t : Term) (ts : List Term) (s r : Sums) → Summed a x ts s → Added (value a (t .variable)) x t s r → Summed a x (t ∷ ts) r
-  unfolding K rise P sumBy standing literalTrue literal trueAt
+  more-summed : (t : Term) (ts : List Term) (s r : Sums) → Summed a ts s → AddedTerm a t s r → Summed a (t ∷ ts) r
+  unfolding K rise P sumBy
   more-summed t ts s r h d =
       record {
         whole = d .whole ∙ ap (λ n. size t + n) (h .whole);
         rises = d .rises ∙ ap (λ n. cond (isNegative (t .weight)) (size t) 0 + n) (h .rises);
         trues = d .trues ∙ ap (λ n. cond (literalTrue a (literal t)) (size t) 0 + n) (h .trues);
-        stands = d .stands ∙ ap (λ z. cond (eqb (t .variable) x) (cond (literalTrue a (literal t)) (on (size t)) (off (size t))) z) (h .stands);
       }
 
   -- The loop: it starts with the terms behind the last, goes on with one more in front, and ends with all.
-  pub summed-start : (g : ℕ → ℕ) (first count : ℕ) → Summed a x (termsAt g (first + count) (count - count)) (record { k = 0; rise = 0; p = 0; stands = Out })
+  pub summed-start : (g : ℕ → ℕ) (first count : ℕ) → Summed a (termsAt g (first + count) (count - count)) (record { k = 0; rise = 0; p = 0 })
   summed-start g first count = rw (terms-none g (first + count) (count - count) (omega arith)) none-summed
 
-  pub summed-step : (g : ℕ → ℕ) (first count left : ℕ) (s r : Sums) → 0 < left → left ≤ count → Summed a x (termsAt g (first + left) (count - left)) s → Added (value a (g (2 * (first + (left - 1))))) x (termOf g (first + (left - 1))) s r → Summed a x (termsAt g (first + (left - 1)) (count - (left - 1))) r
+  pub summed-step : (g : ℕ → ℕ) (first count left : ℕ) (s r : Sums) → 0 < left → left ≤ count → Summed a (termsAt g (first + left) (count - left)) s → AddedTerm a (termOf g (first + (left - 1))) s r → Summed a (termsAt g (first + (left - 1)) (count - (left - 1))) r
   unfolding termOf
   summed-step g first count left s r low high h d =
       let i = first + (left - 1) in
@@ -95,15 +75,15 @@ module _ (a : Assignment) (x : ℕ) where
       rw (more, terms-next g i (count - left))
       (more-summed (termOf g i) (termsAt g (suc i) (count - left)) s r (rw next at h) d)
 
-  pub summed-end : (g : ℕ → ℕ) (first count left : ℕ) (s : Sums) → left ≤ 0 → Summed a x (termsAt g (first + left) (count - left)) s → Summed a x (termsAt g first count) s
+  pub summed-end : (g : ℕ → ℕ) (first count left : ℕ) (s : Sums) → left ≤ 0 → Summed a (termsAt g (first + left) (count - left)) s → Summed a (termsAt g first count) s
   summed-end g first count left s low h =
       let none : left ≡ 0 = omega arith in
       rw (none, add-zero, sub-zero) at h
 
 -- The next weight fits: all of them together do.
-pub next-fits : (terms assignment : List ℕ) (first count : ℕ) (r : Readable terms assignment first count) (a : Assignment) (x left : ℕ) (s : Sums) → 0 < left → left ≤ count → Summed a x (termsAt (wordAt terms) (first + left) (count - left)) s → Room (size (termOf (wordAt terms) (first + (left - 1)))) s
+pub next-fits : (terms assignment : List ℕ) (first count : ℕ) (r : Readable terms assignment first count) (a : Assignment) (left : ℕ) (s : Sums) → 0 < left → left ≤ count → Summed a (termsAt (wordAt terms) (first + left) (count - left)) s → Room (size (termOf (wordAt terms) (first + (left - 1)))) s
 unfolding size
-next-fits terms assignment first count r a x left s low high h =
+next-fits terms assignment first count r a left s low high h =
     let n = length assignment in
     let ts = termsAt (wordAt terms) (first + left) (count - left) in
     let t = termOf (wordAt terms) (first + (left - 1)) in
@@ -117,11 +97,11 @@ next-fits terms assignment first count r a x left s low high h =
     }
 
 -- What is known of the sums of a rule.
-pub summed-below : {a : Assignment} {x : ℕ} {ts : List Term} {s : Sums} → Summed a x ts s → (s .p ≤ s .k) × (s .rise ≤ s .k)
-summed-below {a} {x} {ts} {s} h =
+pub summed-below : {a : Assignment} {ts : List Term} {s : Sums} → Summed a ts s → (s .p ≤ s .k) × (s .rise ≤ s .k)
+summed-below {a} {ts} {s} h =
     (omega (arith, h .whole, h .trues, P-at-most-K a ts), omega (arith, h .whole, h .rises, rise-at-most-K ts))
 
-pub summed-small : {terms assignment : List ℕ} {first count : ℕ} {a : Assignment} {x : ℕ} {s : Sums} → Readable terms assignment first count → Summed a x (termsAt (wordAt terms) first count) s → s .k < 4_294_967_296
+pub summed-small : {terms assignment : List ℕ} {first count : ℕ} {a : Assignment} {s : Sums} → Readable terms assignment first count → Summed a (termsAt (wordAt terms) first count) s → s .k < 4_294_967_296
 summed-small {terms} {assignment} {first} {count} r h =
     let ts = termsAt (wordAt terms) first count in
     let all-legal = lawful-legal (length assignment) ts (r .lawful) in
@@ -130,7 +110,7 @@ summed-small {terms} {assignment} {first} {count} r h =
 -- ---- assignments that say the same
 
 module _ (n : ℕ) (a b : Assignment) (same : (v : ℕ) → v ≤ n → value a v ≡ value b v) where
-  literal-same : (t : Term) → T (termLegal n t) → literalTrue a (literal t) ≡ literalTrue b (literal t)
+  pub literal-same : (t : Term) → T (termLegal n t) → literalTrue a (literal t) ≡ literalTrue b (literal t)
   unfolding literalTrue literal
   literal-same t l = ap (λ v. cond (isNegative (t .weight)) (not v) v) (same (t .variable) (legal-high n t l))
 
@@ -138,11 +118,3 @@ module _ (n : ℕ) (a b : Assignment) (same : (v : ℕ) → v ≤ n → value a 
   unfolding P
   P-same ts l =
       sumBy-each (termLegal n) (λ t. cond (literalTrue a (literal t)) (size t) 0) (λ t. cond (literalTrue b (literal t)) (size t) 0) ts (λ t h. ap (λ c. cond c (size t) 0) (literal-same t h)) l
-
-  pub standing-same : (x : ℕ) (ts : List Term) → T (all (termLegal n) ts) → standing a x ts ≡ standing b x ts
-  unfolding standing all
-  standing-same x [] l = refl
-  standing-same x (t ∷ ts) l =
-      ap₂ (λ c z. cond (eqb (t .variable) x) (cond c (on (size t)) (off (size t))) z)
-      (literal-same t (and-left _ _ l))
-      (standing-same x ts (and-right _ _ l))

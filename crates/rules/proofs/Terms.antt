@@ -1,24 +1,24 @@
 -- Laws of terms in tables and of assignments in bytes: what is lawful of all terms of a rule is so of each and of those from a place on.
 -- Assumes nothing.
 use Prim.Native.Nat.{ℕ, zero, suc, _+_, _*_, _-_, _≤_, _<_}
-use native.Mathlib.Nat.{zero-add, add-zero, suc-add, add-suc, le-trans}
+use native.Mathlib.Nat.{zero-add, add-zero, suc-add, add-suc}
 use native.Mathlib.Numerals.{add-one}
 use native.Mathlib.Omega.{arith}
 use mathlib.Core.Path.{_≡_, refl, sym, ap, _∙_, subst}
 use mathlib.Core.Bool.{Bool}
-use mathlib.Core.List.{List, [], _∷_, map}
+use mathlib.Core.List.{List, [], _∷_}
 use lib.Dec.{T, leb, ltb, eqb, leb→le, le→leb, ltb→lt, lt→ltb}
 use lib.IntN.{ℤ, natAbs}
 use lib.ListN.{length, getD, take, length-map, List·getD-map}
-use lib.Seq.{getD-take}
+use lib.Seq.{getD-take, length-take-le}
 use Rattle.plpb.specs.Lists.{_and_, all, row}
-use Rattle.plpb.specs.Plan.{Term, Rule, value, risingAbove, rising}
-use Rattle.plpb.proofs.Lists.{and-left, and-right, and-both, is-true, length-row}
+use Rattle.plpb.specs.Plan.{Term, value, risingAbove, rising}
+use Rattle.plpb.proofs.Lists.{and-left, and-right, and-both, length-row}
 use Rattle.words.specs.Words.{wordAt}
-use Rattle.format.specs.Limits.{maxVariables, weightLawful, termsLawful, ruleLawful}
+use Rattle.format.specs.Limits.{maxVariables, weightLawful, termsLawful}
 use Rattle.format.specs.Tables.{termOf}
-use Rattle.format.proofs.Bools.{T-true, true-T}
-use Rattle.format.proofs.Lawful.{LawfulTerms, terms-short, terms-parts, rule-parts, terms-whole, weight-small}
+use Rattle.format.proofs.Bools.{T-true}
+use Rattle.format.proofs.Lawful.{LawfulTerms, terms-short, terms-parts, weight-small}
 use Rattle.rules.specs.Terms.{bitsIn, termsAt, TermReadable, Readable}
 
 -- ---- assignments
@@ -35,6 +35,10 @@ first-bits n bytes (suc i) h =
     List·getD-map (λ b. eqb b 1) bytes i 0
     ∙ ap (λ b. eqb b 1) (sym (getD-take n bytes i 0 h))
     ∙ sym (List·getD-map (λ b. eqb b 1) (take n bytes) i 0)
+
+pub length-first-bits : (n : ℕ) (bytes : List ℕ) → n ≤ length bytes → length (bitsIn (take n bytes)) ≡ n
+unfolding bitsIn
+length-first-bits n bytes h = length-map (take n bytes) (λ b. eqb b 1) ∙ length-take-le n bytes h
 
 -- ---- terms in a row
 

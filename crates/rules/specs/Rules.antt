@@ -30,7 +30,11 @@ ruleAt f g at =
       terms = termsAt g (f at) (f (at + 1));
     }
 
--- What reading that rule needs.
+-- What the search for a variable in that rule needs: entry and terms stand in the tables. And what reading it needs.
+pub record RuleInside (tables terms : List ℕ) (at : ℕ) : Type 0 where
+  pub entry : 4 * at + 20 ≤ length tables
+  pub body : 8 * (wordAt tables at + wordAt tables (at + 1)) ≤ length terms
+
 pub record RuleReadable (tables terms assignment : List ℕ) (at : ℕ) : Type 0 where
   pub entry : 4 * at + 20 ≤ length tables
   pub body : Readable terms assignment (wordAt tables at) (wordAt tables (at + 1))

@@ -14,8 +14,10 @@ use Rattle.counting.specs.Bound.{boundOf}
 use Rattle.format.specs.File.{boundOf as boundIn}
 use Rattle.rules.specs.declared.entry.Entry.{Entry}
 use Rattle.rules.specs.declared.sums.Sums.{Sums}
+use Rattle.rules.specs.declared.place.Stands.{Stands}
+use Rattle.rules.specs.declared.place.Stands.the-variants.{Out}
 use Rattle.rules.specs.declared.state.State.{State}
-use Rattle.rules.specs.Sums.{standingIn}
+use Rattle.rules.specs.Places.{standingIn}
 use Rattle.rules.specs.Rules.{lowerSize, upperSize}
 
 -- N and P together are a word, and the variable's weight is in the one or in the other.
@@ -37,9 +39,17 @@ pub record StateOf (a : Assignment) (x : ℕ) (q : Rule) (s : State) : Type 0 wh
 pub record Made (e : Entry) (s : Sums) (r : State) : Type 0 where
   pub falses : r .n ≡ s .k - s .p
   pub trues : r .p ≡ s .p
-  pub stands : r .stands ≡ s .stands
+  pub stands : r .stands ≡ Out
   pub lower : boundOf (r .a) ≡ lowerSize (s .k - s .rise) (boundIn 2 (e .mode) (e .lower))
   pub upper : boundOf (r .b) ≡ upperSize (s .rise) (boundIn 1 (e .mode) (e .upper))
+
+-- The same state seen from a variable that stands so.
+pub record Seen (z : Stands) (s r : State) : Type 0 where
+  pub falses : r .n ≡ s .n
+  pub trues : r .p ≡ s .p
+  pub stands : r .stands ≡ z
+  pub lower : r .a ≡ s .a
+  pub upper : r .b ≡ s .b
 
 -- Whether a rule in this state holds, and its shares.
 unfoldable pub holdsIn : State → Bool

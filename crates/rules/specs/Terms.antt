@@ -1,16 +1,19 @@
 -- Assignments in bytes and terms in tables, as the code of this crate reads them.
 -- Assumes nothing.
 use Prim.Native.Nat.{ℕ, _+_, _*_, _≤_, _<_}
+use mathlib.Core.Path.{_≡_}
 use mathlib.Core.List.{List, map}
 use lib.Dec.{T, eqb}
 use lib.ListN.{length}
 use Rattle.plpb.specs.Lists.{row}
 use Rattle.plpb.specs.Plan.{Assignment}
 use Rattle.plpb.specs.Plan.{Term as TermOf}
+use Rattle.plpb.specs.Normal.{isNegative, literal, literalTrue, size}
 use Rattle.words.specs.Words.{wordAt}
 use Rattle.format.specs.Limits.{termsLawful}
 use Rattle.format.specs.Tables.{termOf}
 use Rattle.rules.specs.declared.term.Term.{Term}
+use Rattle.rules.specs.declared.term.Literal.{Literal}
 
 -- The assignment that all bytes of a list say, 1 for true.
 unfoldable pub bitsIn : List ℕ → Assignment
@@ -19,6 +22,12 @@ bitsIn bytes = map (λ b. eqb b 1) bytes
 -- The term that a Term of the code is.
 abbrev pub termIn : Term → TermOf
 termIn t = record { variable = t .variable; weight = t .weight }
+
+-- The literal of a term under an assignment.
+pub record LiteralOf (a : Assignment) (t : TermOf) (l : Literal) : Type 0 where
+  pub sized : l .size ≡ size t
+  pub negates : l .negated ≡ isNegative (t .weight)
+  pub truth : l .truth ≡ literalTrue a (literal t)
 
 -- k terms of a table of words, the first of them term i.
 unfoldable pub termsAt : (ℕ → ℕ) → ℕ → ℕ → List TermOf

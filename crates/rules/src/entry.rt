@@ -1,5 +1,4 @@
 // A rule's entry in the table: its first term, how many it has, its mode and its two bounds.
-ghost use mathlib.Core.Path.{_≡_};
 ghost use Prim.Native.Nat.{_+_, _*_, _≤_};
 ghost use lib.ListN.{length};
 ghost use Rattle.words.specs.Words.{wordAt};

@@ -22,8 +22,8 @@ use Rattle.format.proofs.Lawful.{RoomyPlan, roomy-parts}
 use Rattle.format.proofs.Spells.{Spells, spells-at}
 use Rattle.format.proofs.Sections.{Sections, length-tableWords, length-termWords}
 use Rattle.format.proofs.ReadBack.{entry-here, entries-behind, rules-spelt, holds-sections}
-use Rattle.rules.specs.Rules.{RuleReadable}
-use Rattle.rules.proofs.States.{rule-rises, table-rule-readable}
+use Rattle.rules.specs.Rules.{RuleInside, RuleReadable}
+use Rattle.rules.proofs.Tables.{rule-rises, table-rule-readable}
 use Rattle.tallies.specs.Core.{Laid, Ready, RunReadable}
 use Rattle.tallies.proofs.Exact.{rules-lawful}
 
@@ -183,6 +183,11 @@ module _ (tables terms : List ℕ) (l : Laid tables terms) where
     terms-inside =
         let e = rw zero-add at (rule-end (wordAt tables) 0 0 (rulesOf here) (sections .ruleEntry) r (omega (arith, rules-word))) in
         omega (arith, e, parts .terms, terms-long)
+
+    pub rule-inside : RuleInside tables terms (1_542 + 5 * r)
+    rule-inside =
+        let one : 1_542 + 5 * r + 1 ≡ 1_543 + 5 * r = omega arith in
+        record { entry = entry-inside; body = rw one terms-inside }
 
   -- Variable numbers rise in every rule.
   pub rises : T (numbersRise (planOfTables tables terms))

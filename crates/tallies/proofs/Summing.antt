@@ -22,7 +22,8 @@ use Rattle.rules.specs.Terms.{bitsIn}
 use Rattle.rules.specs.Rules.{ruleAt}
 use Rattle.rules.specs.State.{StateOf, sharesFrom}
 use Rattle.rules.specs.declared.state.State.{State}
-use Rattle.rules.proofs.States.{shares-rule, rule-at}
+use Rattle.rules.proofs.States.{shares-rule}
+use Rattle.rules.proofs.Tables.{rule-at}
 use Rattle.tallies.specs.Layout.{bitsOf}
 use Rattle.tallies.specs.declared.counts.Counts.{Counts}
 use Rattle.tallies.specs.Core.{Ready, CountsAre}

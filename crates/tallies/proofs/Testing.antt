@@ -21,7 +21,8 @@ use Rattle.rules.specs.Terms.{bitsIn}
 use Rattle.rules.specs.Rules.{ruleAt}
 use Rattle.rules.specs.State.{StateOf, holdsIn}
 use Rattle.rules.specs.declared.state.State.{State}
-use Rattle.rules.proofs.States.{holds-rule, rule-at}
+use Rattle.rules.proofs.States.{holds-rule}
+use Rattle.rules.proofs.Tables.{rule-at}
 use Rattle.tallies.specs.Layout.{tallySize, bitsOf, tallyBytes}
 use Rattle.tallies.specs.Core.{Laid, Ready, tallyWord, ClauseCounted, Unused, Decides, FoundAt}
 use Rattle.tallies.specs.declared.fresh.Found.{Found}

@@ -14,7 +14,7 @@ use crate::clause::clause_names;
 use crate::clause::rules_of;
 use counting::count::Count;
 use counting::shares::Shares;
-use rules::state::read_state;
+use rules::state::read_state_from;
 use words::index;
 
 pub struct Counts {
@@ -43,7 +43,7 @@ fn join_rule(shares: Shares, tables: &[u8], terms: &[u8], bits: &[u8], r: usize,
     requires { ⌜ Ready (now tables) (now terms) (now bits) × (r < wordAt (now tables) 2) ⌝ }
     ensures { λ t. ⌜ sharesIn t ≡ cappedShares (joinedShares (sharesIn shares) (cappedShares (sharesOf (bitsIn (now (bits .entry))) x (ruleOf (wordAt (now (tables .entry))) (wordAt (now (terms .entry))) r)))) ⌝ }
 {
-    let s = read_state(tables, terms, bits, 1542 + 5 * r, x);
+    let s = read_state_from(tables, terms, bits, 1542 + 5 * r, x);
     shares.joined(s.shares())
 }
 

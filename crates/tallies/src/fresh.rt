@@ -24,7 +24,7 @@ fn check_rule(tables: &[u8], terms: &[u8], bits: &[u8], tallies: &[u8], r: usize
     requires { ⌜ Ready (now tables) (now terms) (now bits) × (tallySize ≤ length (now tallies)) × (r < wordAt (now tables) 2) ⌝ }
     ensures { λ k. ⌜ FoundAt (now (tables .entry)) (now (terms .entry)) (now (bits .entry)) (now (tallies .entry)) r k ⌝ }
 {
-    let s = read_state(tables, terms, bits, 1542 + 5 * r, 0);
+    let s = read_state(tables, terms, bits, 1542 + 5 * r);
     if word(tallies, r) == s.p {
         Found::Same(bit(s.holds()))
     } else {

@@ -3,9 +3,8 @@
 use borrow.Author.Needs.{needs}
 use Rattle.rules.proofs.size.lower_size.Statement.{statement}
 use Rattle.rules.proofs.size.lower_size.Tie as tie
-use mathlib.Core.Bool.{Bool, not}
 use mathlib.Core.Path.{_∙_, ap, ap₂}
-use lib.IntN.{ℤ, natAbs}
+use lib.IntN.{natAbs}
 use mir.Facts.{toZ-ofZ}
 use Rattle.plpb.specs.Normal.{isNegative}
 use Rattle.rules.specs.Rules.{reach}

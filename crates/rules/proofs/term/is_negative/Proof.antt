@@ -1,6 +1,5 @@
 -- `is_negative` meets its contract: the test `weight < 0` is that of the sign.
 -- Assumes nothing.
-use borrow.Author.Needs.{needs}
 use Rattle.rules.proofs.term.is_negative.Statement.{statement}
 use Rattle.rules.proofs.term.is_negative.Tie as tie
 use mir.Facts.{toZ-ofZ}
