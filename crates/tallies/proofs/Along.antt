@@ -1,18 +1,15 @@
 -- Laws for loops over numbers in a row: where they start, one turn, and how they end.
 -- Assumes nothing.
-use Prim.Native.Nat.{ℕ, zero, suc, _+_, _-_, _≤_, _<_}
+use Prim.Native.Nat.{ℕ, suc, _+_, _-_, _≤_, _<_}
 use native.Mathlib.Numerals.{add-one}
 use native.Mathlib.Omega.{arith}
-use mathlib.Core.Path.{_≡_, refl, sym, ap, _∙_}
+use mathlib.Core.Path.{_≡_, refl}
 use mathlib.Core.Bool.{Bool, true, false}
-use mathlib.Core.List.{List, [], _∷_, map}
+use mathlib.Core.List.{[], _∷_, map}
 use Rattle.plpb.specs.Lists.{_or_, any, row}
 
+-- What is left of a row from i up to e.
 module _ {A : Type 0} (h : ℕ → A) where
-  -- What is left of a row from i up to e.
-  abbrev pub along : ℕ → ℕ → List A
-  along i e = map h (row i (e - i))
-
   pub along-start : (i k : ℕ) → map h (row i (i + k - i)) ≡ map h (row i k)
   along-start i k = let z : i + k - i ≡ k = omega arith in rw z refl
 

@@ -5,21 +5,19 @@ use Prim.Native.Nat.{ℕ, zero, suc, _+_, _*_, _-_, _≤_, _<_}
 use native.Mathlib.Nat.{add-zero, add-suc, suc-add}
 use native.Mathlib.Omega.{arith}
 use mathlib.Core.Path.{_≡_, refl, sym, ap, ap₂, _∙_}
-use mathlib.Core.Bool.{Bool, true, false, true≢false}
-use mathlib.Core.List.{List, [], _∷_, _++_, map}
-use lib.Dec.{T}
+use mathlib.Core.Bool.{true, false, true≢false}
+use mathlib.Core.List.{List, _++_}
 use lib.ListN.{length, getD, set, take, drop, replicate, length-take, length-append, length-replicate, getD-replicate, List·getD-append}
 use lib.Seq.{length-take-le, drop-at}
-use Rattle.plpb.specs.Plan.{Plan, Assignment, flip}
-use Rattle.plpb.specs.Tallies.{rulesOf, freshCount}
+use Rattle.plpb.specs.Plan.{Plan, flip}
+use Rattle.plpb.specs.Tallies.{freshCount}
 use Rattle.plpb.proofs.Flip.{flip-twice}
 use Rattle.words.specs.Words.{wordAt, numAt}
 use Rattle.format.specs.Tables.{planOfTables}
 use Rattle.rules.specs.Terms.{bitsIn}
 use Rattle.tallies.specs.Layout.{tallySize, bitsOf, tallyBytes}
 use Rattle.tallies.specs.Calls.{turned}
-use Rattle.tallies.specs.Narrow.{concerns}
-use Rattle.tallies.specs.Core.{Laid, Ready, tallyWord, Countable, Unused, Flippable, counted}
+use Rattle.tallies.specs.Core.{Ready, tallyWord, Countable, Unused, Flippable, counted}
 use Rattle.tallies.proofs.Bits.{length-turned, turned-bits}
 use Rattle.tallies.proofs.TallyBytes.{roomy-fits, length-fresh}
 use Rattle.tallies.proofs.Tallied.{fresh-words, unused-rule, unused-clause}
@@ -71,9 +69,6 @@ module _ (s ys : List ℕ) (room : tallySize ≤ length s) (e : ys ≡ replicate
 
   long : length ys ≡ tallySize
   long = ap length e ∙ length-replicate {A = ℕ} (length (take tallySize s)) 0 ∙ full
-
-  pub cleared-part : tallySize ≡ length (take tallySize s)
-  cleared-part = sym full
 
   pub cleared-room : tallySize ≤ length (ys ++ drop tallySize s)
   cleared-room = rw (length-append ys (drop tallySize s)) (omega (arith, long))

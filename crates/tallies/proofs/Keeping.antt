@@ -1,22 +1,19 @@
 -- Tallies that become right word by word: what was right stays so, so that once every word is written or was right all are.
 -- Assumes nothing.
-use Prim.Native.Nat.{ℕ, zero, suc, _+_, _*_, _-_, _≤_, _<_}
+use Prim.Native.Nat.{ℕ, _+_, _*_, _-_, _≤_, _<_}
 use native.Mathlib.Decide.{decLt, ℕ-discrete}
 use native.Mathlib.Omega.{arith}
 use mathlib.Core.Path.{_≡_, refl, sym, ap, _∙_}
 use mathlib.Core.Logic.{_≢_}
-use mathlib.Core.Bool.{Bool, true, false}
-use mathlib.Core.List.{List, [], _∷_, _++_}
-use lib.Dec.{T}
-use lib.ListN.{length, getD, take, drop, length-append, take-append-drop}
+use mathlib.Core.List.{List, _++_}
+use lib.ListN.{length, take, drop}
 use lib.Seq.{drop-append-add, drop-drop, length-take-le}
-use Rattle.plpb.specs.Plan.{Plan, Assignment}
 use Rattle.words.specs.Words.{wordAt, numAt, bytesOf}
 use Rattle.words.specs.Writes.{front, put}
 use Rattle.words.proofs.Words.{length-bytesOf}
 use Rattle.words.proofs.Writes.{length-put, read-put, read-before, read-behind}
 use Rattle.tallies.specs.Layout.{tallySize}
-use Rattle.tallies.specs.Core.{tallyWord, Wrote, Kept, Spare}
+use Rattle.tallies.specs.Core.{Wrote, Kept}
 
 -- What stands past a write is as it was.
 drop-put : (n at : ℕ) (bs s : List ℕ) → at + length bs ≤ n → n ≤ length s → drop n (put at bs s) ≡ drop n s
@@ -71,6 +68,3 @@ module _ (h : ℕ → ℕ) where
       at : (j : ℕ) → wordAt s j ≡ h j → Dec (j ≡ i) → wordAt t j ≡ h j
       at j r (yes z) = ap (wordAt t) z ∙ w .here ∙ e ∙ ap h (sym z)
       at j r (no z) = w .others j z ∙ r
-
-pub spare-kept : (every : Bool) (p : Plan) (a : Assignment) (x : ℕ) (s t : List ℕ) → Spare every p a x s → Kept (tallyWord p a) s t → Spare every p a x t
-spare-kept every p a x s t r k = λ e i h n. k .right i (r e i h n)

@@ -4,16 +4,16 @@ use Prim.Native.Nat.{ℕ, zero, suc, _+_, _*_, _≤_, _<_}
 use native.Mathlib.Nat.{zero-add, add-zero, add-suc, suc-add}
 use native.Mathlib.Omega.{arith}
 use mathlib.Core.Path.{_≡_, refl, sym, ap, _∙_}
-use mathlib.Core.Bool.{Bool, true}
+use mathlib.Core.Bool.{Bool}
 use mathlib.Core.List.{List, [], _∷_, _++_, map}
 use lib.Dec.{T}
-use lib.ListN.{length, getD, take, drop, length-take, length-append}
+use lib.ListN.{length, getD, take, length-take, length-append}
 use lib.Seq.{take-all}
 use Rattle.plpb.specs.Lists.{all, concat, row, sumBy}
 use Rattle.plpb.specs.Plan.{Rule, Clause, Plan, rising, numbersRise}
 use Rattle.plpb.specs.Tallies.{rulesOf}
 use Rattle.plpb.proofs.Lists.{and-left, and-right, and-both, all-at, all-concat}
-use Rattle.words.specs.Words.{wordBytes, wordAt}
+use Rattle.words.specs.Words.{wordAt}
 use Rattle.words.proofs.Words.{length-wordBytes}
 use Rattle.format.specs.Limits.{ruleLawful, termCount}
 use Rattle.format.specs.Tables.{clauseEntries, ruleEntries, tableWords, termWords, Holds, ruleOf, clauseOf, planIn, planOfTables}
@@ -23,7 +23,7 @@ use Rattle.format.proofs.Spells.{Spells, spells-at}
 use Rattle.format.proofs.Sections.{Sections, length-tableWords, length-termWords}
 use Rattle.format.proofs.Entries.{entry-here, entries-behind}
 use Rattle.format.proofs.ReadBack.{rules-spelt, holds-sections}
-use Rattle.rules.specs.Rules.{RuleReadable}
+use Rattle.rules.specs.Rules.{RuleInside, RuleReadable}
 use Rattle.rules.proofs.Tables.{rule-rises, table-rule-readable}
 use Rattle.tallies.specs.Core.{Laid, Ready, RunReadable}
 use Rattle.tallies.proofs.Exact.{rules-lawful}
@@ -184,6 +184,11 @@ module _ (tables terms : List ℕ) (l : Laid tables terms) where
     terms-inside =
         let e = rw zero-add at (rule-end (wordAt tables) 0 0 (rulesOf here) (sections .ruleEntry) r (omega (arith, rules-word))) in
         omega (arith, e, parts .terms, terms-long)
+
+    pub rule-inside : RuleInside tables terms (1_542 + 5 * r)
+    rule-inside =
+        let one : 1_542 + 5 * r + 1 ≡ 1_543 + 5 * r = omega arith in
+        record { entry = entry-inside; body = rw one terms-inside }
 
   -- Variable numbers rise in every rule.
   pub rises : T (numbersRise (planOfTables tables terms))

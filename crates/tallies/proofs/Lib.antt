@@ -15,3 +15,4 @@ pub mod Recounting
 pub mod Cores
 pub mod Summing
 pub mod Testing
+pub mod Callers

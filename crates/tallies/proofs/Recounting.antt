@@ -1,40 +1,38 @@
 -- Laws of a recount: a rule read makes its word right, the rules of a clause its count, and all clauses the whole.
 -- Assumes nothing.
-use Prim.Native.Nat.{ℕ, zero, suc, _+_, _*_, _-_, _≤_, _<_}
+use Prim.Native.Nat.{ℕ, _+_, _*_, _-_, _≤_, _<_}
 use native.Mathlib.Nat.{zero-add, eq-or-lt-of-le}
 use native.Mathlib.Numerals.{add-one}
 use native.Mathlib.Decide.{decLt}
 use native.Mathlib.Omega.{arith}
-use mathlib.Core.Path.{_≡_, refl, sym, ap, ap₂, _∙_}
+use mathlib.Core.Path.{_≡_, sym, ap, ap₂, _∙_}
 use mathlib.Core.Logic.{⊎-elim}
-use mathlib.Core.Bool.{Bool, true, false, not, cond}
-use mathlib.Core.List.{List, [], _∷_, _++_, map}
-use lib.Dec.{T, eqb}
-use lib.ListN.{length, take, drop, take-append-drop}
+use mathlib.Core.Bool.{Bool, true, false, cond}
+use mathlib.Core.List.{List, _++_, map}
+use lib.Dec.{eqb}
+use lib.ListN.{length, drop, take-append-drop}
 use Rattle.plpb.specs.Lists.{count, row}
-use Rattle.plpb.specs.Plan.{Rule, Clause, Plan, Assignment, ruleHolds, clauseHolds, namedIn, names}
+use Rattle.plpb.specs.Plan.{Plan, Assignment, ruleHolds, clauseHolds, namedIn, names}
 use Rattle.plpb.specs.Normal.{P}
-use Rattle.plpb.specs.Equations.{out}
 use Rattle.plpb.specs.Tallies.{rulesOf, unsatisfied, freshCount}
 use Rattle.plpb.proofs.Lists.{count-nil, count-cons, none-by-count}
 use Rattle.words.specs.Words.{wordAt}
 use Rattle.words.proofs.Words.{Below}
 use Rattle.format.specs.Tables.{ruleOf, clauseOf, planIn, planOfTables}
 use Rattle.rules.specs.Terms.{bitsIn}
-use Rattle.rules.specs.Places.{standingIn}
 use Rattle.rules.specs.Rules.{ruleAt}
 use Rattle.rules.specs.State.{StateOf, holdsIn}
 use Rattle.rules.specs.declared.state.State.{State}
 use Rattle.rules.proofs.States.{holds-rule}
 use Rattle.rules.proofs.Tables.{rule-at}
 use Rattle.tallies.specs.Layout.{tallySize, tallyBytes}
-use Rattle.tallies.specs.Core.{Laid, Ready, tallyWord, Wrote, Kept, Right, RuleCounted, ClauseCounted, Spare, Countable, Unused}
+use Rattle.tallies.specs.Core.{Laid, tallyWord, Wrote, Kept, Right, RuleCounted, ClauseCounted, Countable, Unused}
 use Rattle.tallies.proofs.Along.{along-step, along-end}
 use Rattle.tallies.proofs.TallyBytes.{roomy-fits}
 use Rattle.tallies.proofs.Tallied.{rule-word, clause-word, total-word, unused-rule, unused-clause, words-fresh}
 use Rattle.tallies.proofs.Laid.{startOf, start-none, rules-word, clauses-word, rules-few, clauses-few, rule-here, clause-here, first-rule, next-rule, last-rule, rules-inside}
 use Rattle.tallies.proofs.Keeping.{kept-none, kept-more, wrote-kept}
-use Rattle.tallies.proofs.Unnamed.{out-unnamed, rule-unconcerned, clause-unconcerned, rule-of-clause}
+use Rattle.tallies.proofs.Unnamed.{rule-unconcerned, clause-unconcerned, rule-of-clause}
 
 -- ---- the words of rules and clauses as they are read
 
@@ -52,17 +50,15 @@ module _ (tables terms : List ℕ) (l : Laid tables terms) (a : Assignment) wher
 
 -- ---- a rule
 
-module _ (tables terms bits : List ℕ) (r x : ℕ) (h : r < wordAt tables 2) {s : State} (k : StateOf (bitsIn bits) x (ruleAt (wordAt tables) (wordAt terms) (1_542 + 5 * r)) s) where
-  state-here : StateOf (bitsIn bits) x (ruleOf (wordAt tables) (wordAt terms) r) s
+module _ (tables terms bits : List ℕ) (r y : ℕ) (h : r < wordAt tables 2) {s : State} (k : StateOf (bitsIn bits) y (ruleAt (wordAt tables) (wordAt terms) (1_542 + 5 * r)) s) where
+  state-here : StateOf (bitsIn bits) y (ruleOf (wordAt tables) (wordAt terms) r) s
   state-here = rw (rule-at (wordAt tables) (wordAt terms) r) at k
 
-  -- Where the variable does not occur the word is right already.
-  pub rule-spared : (tallies : List ℕ) (every : Bool) → Countable tables terms bits tallies x every → every ≡ false → standingIn (s .stands) ≡ out → wordAt tallies r ≡ s .p
-  rule-spared tallies every n e o =
+  -- Where the rule does not name the variable the word is right already.
+  pub rule-spared : (tallies : List ℕ) (x : ℕ) (every : Bool) → Countable tables terms bits tallies x every → every ≡ false → namedIn x (ruleOf (wordAt tables) (wordAt terms) r .terms) ≡ false → wordAt tallies r ≡ s .p
+  rule-spared tallies x every n e u =
       let l = n .ready .laid in
-      let q = ruleOf (wordAt tables) (wordAt terms) r in
-      let unnamed : namedIn x (q .terms) ≡ false = out-unnamed (bitsIn bits) x (q .terms) (sym (state-here .stands) ∙ o) in
-      n .spare e r (omega (arith, rules-few tables terms l)) (rule-unconcerned tables terms l x r h unnamed)
+      n .spare e r (omega (arith, rules-few tables terms l)) (rule-unconcerned tables terms l x r h u)
       ∙ word-of-rule tables terms l (bitsIn bits) r h
       ∙ sym (state-here .trues)
 

@@ -1,22 +1,20 @@
 -- Laws of the counts of a variable: the shares of a clause joined rule by rule, its counts summed clause by clause, each capped at each step.
 -- Assumes nothing.
-use Prim.Native.Nat.{ℕ, zero, suc, _+_, _*_, _-_, _≤_, _<_}
+use Prim.Native.Nat.{ℕ, _+_, _*_, _-_, _≤_, _<_}
 use native.Mathlib.Nat.{add-zero, zero-add}
 use native.Mathlib.Omega.{arith}
-use mathlib.Core.Path.{_≡_, refl, sym, ap, ap₂, _∙_}
-use mathlib.Core.Bool.{Bool, true, false}
-use mathlib.Core.List.{List, [], _∷_, map}
-use lib.Dec.{T}
+use mathlib.Core.Path.{_≡_, refl, sym, ap, _∙_}
+use mathlib.Core.Bool.{false}
+use mathlib.Core.List.{List, map}
 use lib.ListN.{length, take}
 use Rattle.plpb.specs.Lists.{sumBy, row}
-use Rattle.plpb.specs.Plan.{Rule, Clause, Plan, Assignment, names}
+use Rattle.plpb.specs.Plan.{Clause, Assignment, names}
 use Rattle.plpb.specs.Count.{capped, cappedBreak, cappedMake}
 use Rattle.plpb.specs.Equations.{sharesOf, clauseBreak, clauseMake, breakSum, makeSum}
 use Rattle.plpb.specs.Equations.{Shares as SharesOf}
 use Rattle.plpb.proofs.Equations.{break-formula, make-formula}
 use Rattle.plpb.proofs.Capped.{capped-zero, capped-twice, sum-step}
-use Rattle.counting.specs.Count.{number}
-use Rattle.counting.specs.Shares.{sharesIn, cappedShares, startShares, joinedShares, joinedAlong}
+use Rattle.counting.specs.Shares.{cappedShares, startShares, joinedShares, joinedAlong}
 use Rattle.counting.proofs.Joining.{capped-stays, capped-start, joined-step, clause-shares}
 use Rattle.words.specs.Words.{wordAt}
 use Rattle.format.specs.Tables.{ruleOf, clauseOf, planIn, planOfTables}
@@ -28,10 +26,10 @@ use Rattle.rules.proofs.States.{shares-rule}
 use Rattle.rules.proofs.Tables.{rule-at}
 use Rattle.tallies.specs.Layout.{bitsOf}
 use Rattle.tallies.specs.declared.counts.Counts.{Counts}
-use Rattle.tallies.specs.Core.{Laid, Ready, CountsAre}
+use Rattle.tallies.specs.Core.{Ready, CountsAre}
 use Rattle.tallies.proofs.Along.{along-step, along-end}
 use Rattle.tallies.proofs.Bits.{length-bitsOf}
-use Rattle.tallies.proofs.Laid.{rises, variables-word}
+use Rattle.tallies.proofs.Laid.{rises}
 use Rattle.tallies.proofs.Unnamed.{no-break, no-make}
 use Rattle.tallies.proofs.Cores.{first-bits-of}
 

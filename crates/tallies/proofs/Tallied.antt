@@ -2,14 +2,13 @@
 -- Assumes nothing.
 use Prim.Native.Nat.{ℕ, zero, suc, _+_, _≤_, _<_}
 use native.Mathlib.Omega.{arith}
-use mathlib.Core.Path.{_≡_, refl, sym, ap, _∙_}
-use mathlib.Core.Bool.{Bool}
+use mathlib.Core.Path.{_≡_, refl, _∙_}
 use mathlib.Core.List.{List, [], _∷_, _++_, map}
 use lib.Dec.{T}
-use lib.ListN.{length, getD, take, drop, length-map, List·getD-append, List·getD-eq-default, take-append-drop}
+use lib.ListN.{length, getD, take, length-map, List·getD-append, List·getD-eq-default}
 use lib.Seq.{getD-append-add}
 use Rattle.plpb.specs.Lists.{count}
-use Rattle.plpb.specs.Plan.{Rule, Clause, Plan, Assignment, ruleHolds}
+use Rattle.plpb.specs.Plan.{Rule, Plan, Assignment, ruleHolds}
 use Rattle.plpb.specs.Normal.{P}
 use Rattle.plpb.specs.Tallies.{rulesOf, unsatisfied, freshCount}
 use Rattle.words.specs.Words.{wordAt}

@@ -1,23 +1,22 @@
 -- Laws of the test of tallies: it goes through the words as a recount does and writes none, so that where it ends all are right; and where it
 -- stops one is not.
 -- Assumes nothing.
-use Prim.Native.Nat.{ℕ, zero, suc, _+_, _*_, _-_, _≤_, _<_}
+use Prim.Native.Nat.{ℕ, zero, _+_, _*_, _-_, _≤_, _<_}
 use native.Mathlib.Nat.{eq-or-lt-of-le}
 use native.Mathlib.Omega.{arith}
 use mathlib.Core.Path.{_≡_, refl, sym, ap, _∙_}
-use mathlib.Core.Logic.{_≢_, ⊎-elim}
+use mathlib.Core.Logic.{⊎-elim}
 use mathlib.Core.Bool.{Bool, true, false, cond, true≢false}
-use mathlib.Core.List.{List, [], _∷_, _++_, map}
-use lib.Dec.{T, eqb}
+use mathlib.Core.List.{List}
+use lib.Dec.{eqb}
 use borrow.Author.Tests.{eqb-true, eqb-false}
 use lib.ListN.{length, take, drop}
-use Rattle.plpb.specs.Lists.{count}
-use Rattle.plpb.specs.Plan.{Plan, Assignment, ruleHolds}
-use Rattle.plpb.specs.Tallies.{rulesOf, unsatisfied, freshCount}
-use Rattle.plpb.proofs.Lists.{is-true, T-true, count-nil}
+use Rattle.plpb.specs.Plan.{ruleHolds}
+use Rattle.plpb.specs.Tallies.{freshCount}
+use Rattle.plpb.proofs.Lists.{is-true, T-true}
 use Rattle.words.specs.Words.{wordAt}
 use Rattle.words.proofs.Words.{Below}
-use Rattle.format.specs.Tables.{ruleOf, clauseOf, planOfTables, sameBytes}
+use Rattle.format.specs.Tables.{ruleOf, planOfTables, sameBytes}
 use Rattle.rules.specs.Terms.{bitsIn}
 use Rattle.rules.specs.Rules.{ruleAt}
 use Rattle.rules.specs.State.{StateOf, holdsIn}
@@ -25,16 +24,15 @@ use Rattle.rules.specs.declared.state.State.{State}
 use Rattle.rules.proofs.States.{holds-rule}
 use Rattle.rules.proofs.Tables.{rule-at}
 use Rattle.tallies.specs.Layout.{tallySize, bitsOf, tallyBytes}
-use Rattle.tallies.specs.Core.{Laid, Ready, tallyWord, Kept, RuleCounted, ClauseCounted, Unused, Decides, FoundAt}
+use Rattle.tallies.specs.Core.{Laid, Ready, tallyWord, ClauseCounted, Unused, Decides, FoundAt}
 use Rattle.tallies.specs.declared.fresh.Found.{Found}
 use Rattle.tallies.specs.declared.fresh.Found.the-variants.{Other, Same}
-use Rattle.tallies.proofs.Along.{along-end}
 use Rattle.tallies.proofs.TallyBytes.{roomy-fits, same-self, same-bytes, take-fresh}
-use Rattle.tallies.proofs.Tallied.{fresh-words, unused-rule, unused-clause, total-word}
+use Rattle.tallies.proofs.Tallied.{fresh-words, unused-rule, unused-clause}
 use Rattle.tallies.proofs.Laid.{rules-word, clauses-word, rules-few, clauses-few, rules-inside}
 use Rattle.tallies.proofs.Keeping.{kept-none, none-wrote}
 use Rattle.tallies.proofs.Cores.{first-bits-of}
-use Rattle.tallies.proofs.Recounting.{word-of-rule, RulesDone, rules-step, rules-end, rules-all, ClausesDone, clauses-step, clauses-end, clauses-all}
+use Rattle.tallies.proofs.Recounting.{word-of-rule, RulesDone, rules-step, rules-end, rules-all, ClausesDone, clauses-end, clauses-all}
 
 -- ---- tests
 
@@ -44,9 +42,6 @@ module _ {A : Type 0} where
 
   pub not-decides : {b : Bool} → b ≡ false → (A → ⊥) → Decides b A
   not-decides e n = record { so = λ t. absurd (true≢false (sym t ∙ e)); not-so = λ f. n }
-
-pub decides-both : {b : Bool} {A : Type 0} → (b ≡ true → A) → (b ≡ false → A → ⊥) → Decides b A
-decides-both f g = record { so = f; not-so = g }
 
 pub decides-same : (b : Bool) (xs ys : List ℕ) → Decides b (xs ≡ ys) → b ≡ sameBytes xs ys
 decides-same true xs ys d = sym (is-true _ (rw (d .so refl) (same-self ys)))

@@ -1,50 +1,25 @@
--- A variable that a rule or a clause does not name: it stands nowhere in it, its flip spoils and mends no part of it, and its words of the tallies do not concern it.
+-- A variable that a clause does not name: its flip spoils and mends no part of the clause, and the clause's words of the tallies do not concern it.
 -- Assumes nothing.
 use Prim.Native.Nat.{ℕ, zero, suc, _+_, _*_, _-_, _≤_, _<_}
-use native.Mathlib.Nat.{zero-add, eq-or-lt-of-le}
+use native.Mathlib.Nat.{eq-or-lt-of-le}
 use native.Mathlib.Omega.{arith}
-use mathlib.Core.Path.{_≡_, refl, sym, ap, ap₂, _∙_}
+use mathlib.Core.Path.{_≡_, refl, ap, ap₂, _∙_}
 use mathlib.Core.Logic.{⊎-elim}
-use mathlib.Core.Bool.{Bool, true, false, cond, true≢false}
+use mathlib.Core.Bool.{Bool, false}
 use mathlib.Core.List.{List, [], _∷_, map}
 use borrow.Author.Tests.{lt-ltb, le-ltb}
-use lib.Dec.{T, eqb}
-use lib.ListN.{length, getD}
-use Rattle.plpb.specs.Lists.{_or_, any, row}
-use Rattle.plpb.specs.Plan.{Term, Rule, Clause, Plan, Assignment, namedIn, names}
-use Rattle.plpb.specs.Normal.{literal, literalTrue, size}
-use Rattle.plpb.specs.Equations.{Standing, out, on, off, standing, shares, sharesOf, product, clauseBreak, clauseMake}
+use Rattle.plpb.specs.Lists.{any, row}
+use Rattle.plpb.specs.Plan.{Rule, Clause, Assignment, namedIn, names}
+use Rattle.plpb.specs.Equations.{sharesOf, product, clauseBreak, clauseMake}
 use Rattle.plpb.specs.Tallies.{rulesOf}
 use Rattle.words.specs.Words.{wordAt}
 use Rattle.format.specs.Tables.{ruleOf, clauseOf, planOfTables}
+use Rattle.rules.proofs.Unnamed.{unnamed-shares}
 use Rattle.tallies.specs.Narrow.{rulesNaming, clausesNaming, concerns}
 use Rattle.tallies.specs.Core.{Laid}
 use Rattle.tallies.proofs.Narrow.{or-none}
 use Rattle.tallies.proofs.Tallied.{getD-map}
 use Rattle.tallies.proofs.Laid.{rule-here, clause-here, rules-word, clauses-word, rules-few, clauses-few}
-
--- A variable stands nowhere among terms exactly where none names it.
-pub unnamed-out : (a : Assignment) (x : ℕ) (ts : List Term) → namedIn x ts ≡ false → standing a x ts ≡ out
-unfolding namedIn any standing
-unnamed-out a x [] e = refl
-unnamed-out a x (t ∷ ts) e =
-    let h = or-none (eqb (t .variable) x) (namedIn x ts) e in
-    rw (h .0) (unnamed-out a x ts (h .1))
-
-occurs : Standing → Bool
-occurs out = false
-occurs (on w) = true
-occurs (off w) = true
-
-pub out-unnamed : (a : Assignment) (x : ℕ) (ts : List Term) → standing a x ts ≡ out → namedIn x ts ≡ false
-unfolding namedIn any standing _or_ occurs
-out-unnamed a x [] e = refl
-out-unnamed a x (t ∷ ts) e = at (eqb (t .variable) x) (literalTrue a (literal t)) (out-unnamed a x ts) e
-  where
-    at : (b c : Bool) → (standing a x ts ≡ out → namedIn x ts ≡ false) → cond b (cond c (on (size t)) (off (size t))) (standing a x ts) ≡ out → b or namedIn x ts ≡ false
-    at true true ih z = ap occurs z
-    at true false ih z = ap occurs z
-    at false c ih z = ih z
 
 -- ---- counts
 
@@ -58,12 +33,10 @@ product-unnamed x f g h (r ∷ rs) e =
 
 module _ (a : Assignment) (x : ℕ) where
   spoils-none : (r : Rule) → namedIn x (r .terms) ≡ false → sharesOf a x r .e + sharesOf a x r .g ≡ sharesOf a x r .g
-  unfolding sharesOf shares
-  spoils-none r e = rw (unnamed-out a x (r .terms) e) (zero-add _)
+  spoils-none r e = omega (arith, unnamed-shares a x r e .0)
 
   mends-none : (r : Rule) → namedIn x (r .terms) ≡ false → sharesOf a x r .f + sharesOf a x r .g ≡ sharesOf a x r .g
-  unfolding sharesOf shares
-  mends-none r e = rw (unnamed-out a x (r .terms) e) (zero-add _)
+  mends-none r e = omega (arith, unnamed-shares a x r e .1)
 
   pub no-break : (c : Clause) → names c x ≡ false → clauseBreak a x c ≡ 0
   unfolding clauseBreak

@@ -7,7 +7,7 @@ use mathlib.Core.Bool.{Bool, true, false, cond}
 use mathlib.Core.List.{List, _++_}
 use lib.Dec.{T}
 use lib.ListN.{length, getD, take, drop}
-use Rattle.plpb.specs.Plan.{Rule, Plan, Assignment, ruleHolds}
+use Rattle.plpb.specs.Plan.{Plan, Assignment, ruleHolds}
 use Rattle.plpb.specs.Tallies.{rulesOf, freshCount}
 use Rattle.counting.specs.Count.{number}
 use Rattle.words.specs.Words.{wordAt}

@@ -4,19 +4,17 @@ ghost use mathlib.Core.Bool.{true, false, cond};
 ghost use mathlib.Core.List.{_++_};
 ghost use Prim.Native.Nat.{_+_, _*_, _≤_, _<_};
 ghost use lib.ListN.{length, drop};
-ghost use Rattle.plpb.specs.Equations.{Standing};
-ghost use Rattle.plpb.specs.Plan.{names};
+ghost use Rattle.plpb.specs.Plan.{namedIn, names};
 ghost use Rattle.plpb.specs.Tallies.{freshCount};
 ghost use Rattle.words.specs.Words.{wordAt};
-ghost use Rattle.format.specs.Tables.{clauseOf, planOfTables};
+ghost use Rattle.format.specs.Tables.{ruleOf, clauseOf, planOfTables};
 ghost use Rattle.rules.specs.Terms.{bitsIn};
-ghost use Rattle.rules.specs.Places.{standingIn};
 ghost use Rattle.tallies.specs.Layout.{tallySize, tallyBytes};
 ghost use Rattle.tallies.specs.Core.{Laid, Wrote, RuleCounted, ClauseCounted, Countable, Unused};
 use crate::clause::clause_names;
+use crate::clause::rule_names;
 use crate::clause::rules_of;
-use rules::place::Stands;
-use rules::state::read_state_from;
+use rules::state::read_state;
 use words::index;
 use words::word;
 use words::write_u32;
@@ -46,15 +44,15 @@ fn put_if(due: bool, tallies: &mut [u8], i: usize, v: u32)
     put(tallies, i, v);
 }
 
-// A rule in which the variable does not occur is not due, unless every rule is.
-fn is_due(every: bool, stands: Stands) -> bool
-    ensures { λ r. ⌜ (r ≡ false → (every ≡ false) × (standingIn stands ≡ Standing.out)) ⌝ }
+// A rule that does not name the variable is not due, unless every rule is.
+fn is_due(tables: &[u8], terms: &[u8], r: usize, x: u32, every: bool) -> bool
+    requires { ⌜ Laid (now tables) (now terms) × (r < wordAt (now tables) 2) ⌝ }
+    ensures { λ b. ⌜ (b ≡ false → (every ≡ false) × (namedIn x (ruleOf (wordAt (now (tables .entry))) (wordAt (now (terms .entry))) r .terms) ≡ false)) ⌝ }
 {
-    match stands {
-        Stands::Out => every,
-        Stands::On(_) => true,
-        Stands::Off(_) => true,
+    if every {
+        return true;
     }
+    rule_names(tables, terms, r, x)
 }
 
 // P of a rule, and whether it holds.
@@ -70,9 +68,9 @@ fn recount_rule(
     requires { ⌜ Countable (now tables) (now terms) (now bits) (now tallies) x every × (r < wordAt (now tables) 2) ⌝ }
     ensures { λ b. ⌜ RuleCounted (now (tables .entry)) (now (terms .entry)) (now (bits .entry)) r b (now (tallies .entry)) (now (tallies .exit)) ⌝ }
 {
-    let s = read_state_from(tables, terms, bits, 1542 + 5 * r, x);
-    let stands = s.stands;
-    put_if(is_due(every, stands), tallies, r, s.p);
+    let due = is_due(tables, terms, r, x, every);
+    let s = read_state(tables, terms, bits, 1542 + 5 * r);
+    put_if(due, tallies, r, s.p);
     s.holds()
 }
 

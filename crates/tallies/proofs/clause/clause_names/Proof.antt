@@ -1,16 +1,15 @@
 -- `clause_names` meets its contract. The invariant: one of the rules left names the variable exactly where one of the clause does. The measure is what is left.
 -- Assumes nothing.
-use Prim.Native.Nat.{ℕ, _+_, _*_, _-_, _≤_}
+use Prim.Native.Nat.{_-_, _≤_}
 use native.Mathlib.Omega.{arith}
-use mathlib.Core.Path.{_≡_, sym, _∙_, ap, ap₂}
-use mathlib.Core.Bool.{true, false}
+use mathlib.Core.Path.{_≡_, sym, _∙_, ap}
 use mathlib.Core.List.{map}
 use Rattle.plpb.specs.Lists.{any, row}
 use Rattle.plpb.specs.Plan.{Rule, namedIn, names}
 use Rattle.words.specs.Words.{wordAt}
 use Rattle.format.specs.Tables.{ruleOf, clauseOf}
 use Rattle.tallies.proofs.Along.{along-start, any-go, any-stop, any-end}
-use Rattle.tallies.proofs.Laid.{run-readable, rules-inside, rules-few}
+use Rattle.tallies.proofs.Laid.{run-readable, rules-inside}
 use Rattle.tallies.proofs.clause.clause_names.Statement.{statement}
 use Rattle.tallies.proofs.clause.clause_names.Tie as tie
 

@@ -2,7 +2,7 @@
 -- Assumes nothing.
 use borrow.Author.Needs.{needs}
 use borrow.Author.Tests.{not-true}
-use mathlib.Core.Path.{_≡_, sym, _∙_}
+use mathlib.Core.Path.{sym, _∙_}
 use Rattle.tallies.proofs.Summing.{shares-break, shares-make, none-broken, none-made}
 use Rattle.tallies.proofs.counts.clause_counts.Statement.{statement}
 use Rattle.tallies.proofs.counts.clause_counts.Tie as tie

@@ -2,7 +2,7 @@
 -- Assumes nothing.
 use Prim.Native.Nat.{_-_}
 use native.Mathlib.Omega.{arith}
-use mathlib.Core.Path.{_≡_, refl}
+use mathlib.Core.Path.{refl}
 use Rattle.counting.specs.Shares.{sharesIn, startShares}
 use Rattle.words.specs.Words.{wordAt}
 use Rattle.rules.specs.Terms.{bitsIn}

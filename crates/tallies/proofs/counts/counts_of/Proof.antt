@@ -3,7 +3,6 @@
 use borrow.Author.Needs.{needs}
 use Prim.Native.Nat.{_-_}
 use native.Mathlib.Omega.{arith}
-use mathlib.Core.Path.{_≡_}
 use Rattle.plpb.specs.Equations.{clauseBreak, clauseMake}
 use Rattle.counting.specs.Count.{number}
 use Rattle.words.specs.Words.{wordAt}

@@ -1,7 +1,6 @@
 -- `join_rule` meets its contract: the state read tells the rule's shares.
 -- Assumes nothing.
 use borrow.Author.Needs.{needs}
-use Prim.Native.Nat.{_+_, _*_}
 use native.Mathlib.Omega.{arith}
 use Rattle.tallies.proofs.Laid.{rules-few, rule-ready}
 use Rattle.tallies.proofs.Summing.{rule-joined}

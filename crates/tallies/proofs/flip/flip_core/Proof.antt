@@ -1,7 +1,6 @@
 -- `flip_core` meets its contract: the byte turned over turns over its bit, and the tallies follow from those before, which are the flipped bits' flipped back.
 -- Assumes nothing.
 use borrow.Author.Needs.{needs}
-use mathlib.Core.Path.{_≡_}
 use Rattle.tallies.proofs.Cores.{turned-ready, still-fresh}
 use Rattle.tallies.proofs.flip.flip_core.Statement.{statement}
 use Rattle.tallies.proofs.flip.flip_core.Tie as tie

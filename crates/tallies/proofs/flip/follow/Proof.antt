@@ -1,9 +1,8 @@
 -- `follow` meets its contract: the words that do not concern the variable are the same before and after its flip.
 -- Assumes nothing.
 use borrow.Author.Needs.{needs}
-use Prim.Native.Nat.{_≤_}
 use native.Mathlib.Omega.{arith}
-use mathlib.Core.Path.{_≡_, refl}
+use mathlib.Core.Path.{refl}
 use Rattle.tallies.proofs.Laid.{tables-long}
 use Rattle.tallies.proofs.Cores.{first-length, first-ready, first-counted, first-fresh, follow-countable, follow-unused}
 use Rattle.tallies.proofs.flip.follow.Statement.{statement}

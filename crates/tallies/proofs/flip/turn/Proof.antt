@@ -1,7 +1,6 @@
 -- `turn` meets its contract: 1 less a byte is its opposite, and the byte of variable x stands at place x − 1.
 -- Assumes nothing.
 use borrow.Author.Needs.{needs}
-use mathlib.Core.Path.{_≡_}
 use Rattle.tallies.proofs.Cores.{turned-byte}
 use Rattle.tallies.proofs.flip.turn.Statement.{statement}
 use Rattle.tallies.proofs.flip.turn.Tie as tie

@@ -1,7 +1,6 @@
 -- `check_rule` meets its contract: the state read tells the word that is wanted and whether the rule holds.
 -- Assumes nothing.
 use borrow.Author.Needs.{needs}
-use Prim.Native.Nat.{_+_, _*_}
 use native.Mathlib.Omega.{arith}
 use Rattle.tallies.proofs.Laid.{rules-few, rule-ready}
 use Rattle.tallies.proofs.Testing.{found-same, found-other}

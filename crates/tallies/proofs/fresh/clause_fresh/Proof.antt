@@ -3,7 +3,7 @@
 use borrow.Author.Needs.{needs}
 use Prim.Native.Nat.{_-_}
 use native.Mathlib.Omega.{arith}
-use mathlib.Core.Path.{_≡_, refl}
+use mathlib.Core.Path.{refl}
 use Rattle.tallies.proofs.Laid.{run-readable, rules-inside, rules-few, clauses-few}
 use Rattle.tallies.proofs.Recounting.{RulesDone, rules-start}
 use Rattle.tallies.proofs.Testing.{not-decides, check-step, check-stop, check-end}

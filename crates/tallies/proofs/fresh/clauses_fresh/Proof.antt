@@ -2,9 +2,9 @@
 -- Assumes nothing.
 use borrow.Author.Needs.{needs}
 use borrow.Author.Tests.{not-true, not-false}
-use Prim.Native.Nat.{ℕ, _-_}
+use Prim.Native.Nat.{_-_}
 use native.Mathlib.Omega.{arith}
-use mathlib.Core.Path.{_≡_, refl}
+use mathlib.Core.Path.{refl}
 use Rattle.tallies.proofs.Laid.{tables-long, clauses-few}
 use Rattle.tallies.proofs.Recounting.{ClausesDone, clauses-start, clauses-step}
 use Rattle.tallies.proofs.Testing.{not-decides, fresh-clause, whole-end}

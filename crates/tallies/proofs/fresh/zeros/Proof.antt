@@ -1,6 +1,5 @@
 -- `zeros` meets its contract. The invariant: the words passed are 0. The measure is what is left.
 -- Assumes nothing.
-use borrow.Author.Needs.{needs}
 use Prim.Native.Nat.{ℕ, _-_, _≤_, _<_}
 use native.Mathlib.Omega.{arith}
 use mathlib.Core.Path.{_≡_, refl, sym, _∙_}

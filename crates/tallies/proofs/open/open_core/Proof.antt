@@ -1,9 +1,8 @@
 -- `open_core` meets its contract: cleared tallies have 0 in unused entries, and the recount does the rest.
 -- Assumes nothing.
 use borrow.Author.Needs.{needs}
-use Prim.Native.Nat.{_≤_}
 use native.Mathlib.Omega.{arith}
-use mathlib.Core.Path.{_≡_, sym}
+use mathlib.Core.Path.{sym}
 use lib.Seq.{length-take-le}
 use Rattle.tallies.specs.Layout.{tallySize}
 use Rattle.tallies.proofs.Laid.{tables-long}

@@ -1,8 +1,6 @@
 -- `put` meets its contract: four bytes written at a word's place change that word alone.
 -- Assumes nothing.
 use borrow.Author.Needs.{needs}
-use mathlib.Core.Path.{_≡_, subst, sym}
-use Rattle.tallies.specs.Core.{Wrote}
 use Rattle.tallies.proofs.Keeping.{put-wrote}
 use Rattle.tallies.proofs.recount.put.Statement.{statement}
 use Rattle.tallies.proofs.recount.put.Tie as tie

@@ -1,10 +1,9 @@
 -- `recount` meets its contract. The invariant: the clauses before c are done. The measure is what is left.
 -- Assumes nothing.
 use borrow.Author.Needs.{needs}
-use Prim.Native.Nat.{ℕ, _-_}
+use Prim.Native.Nat.{_-_}
 use native.Mathlib.Omega.{arith}
-use mathlib.Core.Path.{_≡_, sym, _∙_}
-use Rattle.words.specs.Words.{wordAt}
+use mathlib.Core.Path.{_∙_}
 use Rattle.tallies.proofs.Laid.{tables-long, clauses-few}
 use Rattle.tallies.proofs.Recounting.{ClausesDone, clauses-start, clauses-step, clauses-end, still-countable}
 use Rattle.tallies.proofs.recount.recount.Statement.{statement}

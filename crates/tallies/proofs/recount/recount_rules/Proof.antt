@@ -3,7 +3,7 @@
 use borrow.Author.Needs.{needs}
 use Prim.Native.Nat.{_-_}
 use native.Mathlib.Omega.{arith}
-use mathlib.Core.Path.{_≡_, _∙_}
+use mathlib.Core.Path.{_∙_}
 use Rattle.tallies.proofs.Laid.{run-readable, rules-inside, rules-few, clauses-few}
 use Rattle.tallies.proofs.Recounting.{RulesDone, rules-start, rules-step, rules-end, still-countable}
 use Rattle.tallies.proofs.recount.recount_rules.Statement.{statement}
