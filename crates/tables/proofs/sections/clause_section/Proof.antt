@@ -58,10 +58,10 @@ mul-end : tie.Need-mul-end Inv-loop μ-loop
 mul-end c = omega (arith, clause-few (lawful-file _ _ (c .before .before .before .before .before .before .pre .0)) (c .before .before .before .before .before .before .pre .1) (c .before .before .loop .inv))
 
 sub-clear : tie.Need-sub-clear Inv-loop μ-loop
-sub-clear c = clause-space (lawful-file _ _ (c .before .before .before .before .before .before .pre .0)) (c .before .before .before .before .before .before .pre .1) (c .before .before .loop .inv)
+sub-clear c = omega (arith, clause-space (lawful-file _ _ (c .before .before .before .before .before .before .pre .0)) (c .before .before .before .before .before .before .pre .1) (c .before .before .loop .inv), c .before .before .loop .inv .same, c .before .before .before .before .before .before .pre .1)
 
 part-clear-start : tie.Need-part-clear-start Inv-loop μ-loop
-part-clear-start c = clause-space (lawful-file _ _ (c .before .before .before .before .before .before .pre .0)) (c .before .before .before .before .before .before .pre .1) (c .before .before .loop .inv)
+part-clear-start c = omega (arith, clause-space (lawful-file _ _ (c .before .before .before .before .before .before .pre .0)) (c .before .before .before .before .before .before .pre .1) (c .before .before .loop .inv), c .before .before .loop .inv .same, c .before .before .before .before .before .before .pre .1)
 
 same-length : tie.Need-same-length Inv-loop μ-loop
 same-length c = clause-same (lawful-file _ _ (c .before .before .before .before .before .before .before .before .before .before .pre .0)) (c .before .before .before .before .before .before .before .before .before .before .pre .1) (c .before .before .before .before .before .before .loop .inv) _ (c .before .before .clear .ensures)
