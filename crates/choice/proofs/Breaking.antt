@@ -1,0 +1,81 @@
+-- What a caller learns of rules and clauses in tables that hold a plan: the effect of a flip on a rule, rule by rule on a clause, clause by clause on the plan.
+-- Assumes nothing.
+use Prim.Native.Nat.{ℕ, suc, _+_, _*_, _-_, _≤_, _<_}
+use native.Mathlib.Nat.{zero-add}
+use native.Mathlib.Numerals.{add-one}
+use native.Mathlib.Omega.{arith}
+use mathlib.Core.Path.{_≡_, refl, sym, ap, ap₂, _∙_}
+use mathlib.Core.Bool.{Bool, true, false, not}
+use mathlib.Core.List.{List, [], _∷_, map}
+use lib.Dec.{ltb}
+use lib.ListN.{length, take, length-map}
+use Rattle.plpb.specs.Lists.{_and_, _or_, any, all, row}
+use Rattle.plpb.specs.Plan.{Rule, Clause, Plan, Assignment}
+use Rattle.plpb.specs.Equations.{sharesOf, clauseBreak}
+use Rattle.plpb.specs.Equations.{Shares as SharesOf}
+use Rattle.plpb.proofs.Lists.{true-and, false-and, or-assoc, or-false, not-not}
+use Rattle.words.specs.Words.{wordAt}
+use Rattle.format.specs.Tables.{ruleOf, planOfTables}
+use Rattle.rules.specs.declared.state.State.{State}
+use Rattle.rules.specs.Terms.{bitsIn}
+use Rattle.rules.specs.Rules.{ruleAt}
+use Rattle.rules.specs.State.{StateOf, sharesFrom}
+use Rattle.rules.proofs.States.{shares-rule, table-rule-state}
+use Rattle.tallies.specs.Layout.{bitsOf}
+use Rattle.tallies.specs.Core.{Laid, Ready}
+use Rattle.tallies.proofs.Laid.{rule-lawful}
+use Rattle.choice.specs.declared.breaks.Effect.{Effect}
+use Rattle.choice.specs.Breaks.{lentBits, spoilsPart, falseAfter, EffectOf, breaksAlong}
+
+-- ---- one rule
+
+-- A rule's state as it is read is that under the assignment that is lent.
+pub lent-state : {tables terms assignment : List ℕ} {r x : ℕ} {s : State} → Ready tables terms assignment → r < wordAt tables 2 → StateOf (bitsIn assignment) x (ruleAt (wordAt tables) (wordAt terms) (1_542 + 5 * r)) s → StateOf (lentBits tables terms assignment) x (ruleOf (wordAt tables) (wordAt terms) r) s
+unfolding bitsOf bitsIn
+lent-state {tables} {terms} {assignment} {r} y h s =
+    table-rule-state tables terms assignment (planOfTables tables terms .variables) r (rule-lawful tables terms (y .laid) r h) s
+
+pub effect-told : {a : Assignment} {x : ℕ} {q : Rule} {s : State} {fails spoils : Bool} → StateOf a x q s → fails ≡ ltb 0 (sharesFrom s .e + sharesFrom s .g) → spoils ≡ ltb 0 (sharesFrom s .e) → EffectOf a x q (record { fails = fails; spoils = spoils })
+unfolding falseAfter spoilsPart
+effect-told h f s =
+    record {
+      fails = f ∙ ap (λ (t : SharesOf). ltb 0 (t .e + t .g)) (shares-rule h);
+      spoils = s ∙ ap (λ (t : SharesOf). ltb 0 (t .e)) (shares-rule h);
+    }
+
+-- ---- rule by rule
+
+along-step : {A : Type 0} (h : ℕ → A) (i e : ℕ) → i < e → map h (row i (e - i)) ≡ h i ∷ map h (row (i + 1) (e - (i + 1)))
+unfolding row
+along-step h i e l = let z : e - i ≡ suc (e - (i + 1)) = omega arith in rw (z, add-one i) refl
+
+along-end : {A : Type 0} (h : ℕ → A) (i e : ℕ) → e ≤ i → map h (row i (e - i)) ≡ []
+unfolding row
+along-end h i e l = let z : e - i ≡ 0 = omega arith in rw z refl
+
+module _ (a : Assignment) (x : ℕ) where
+  along-more : (seen : Bool) (q : Rule) (qs : List Rule) → falseAfter a x q ≡ true → breaksAlong a x (seen or spoilsPart a x q) qs ≡ breaksAlong a x seen (q ∷ qs)
+  unfolding breaksAlong all any
+  along-more seen q qs h =
+      rw (h, true-and (all (falseAfter a x) qs)) (ap (λ b. all (falseAfter a x) qs and b) (or-assoc seen (spoilsPart a x q) (any (spoilsPart a x) qs)))
+
+  along-stop : (seen : Bool) (q : Rule) (qs : List Rule) → falseAfter a x q ≡ false → breaksAlong a x seen (q ∷ qs) ≡ false
+  unfolding breaksAlong all any
+  along-stop seen q qs h = rw (h, false-and (all (falseAfter a x) qs)) (false-and _)
+
+  along-none : (seen : Bool) → breaksAlong a x seen [] ≡ seen
+  unfolding breaksAlong all any
+  along-none seen = true-and (seen or false) ∙ or-false seen
+
+  -- A loop over the rules from r on: it goes on, it stops, it ends.
+  module _ (h : ℕ → Rule) (seen : Bool) (r e : ℕ) where
+    pub rules-go : {next : Bool} {d : Effect} → r < e → EffectOf a x (h r) d → not (d .fails) ≡ false → next ≡ seen or d .spoils → breaksAlong a x next (map h (row (r + 1) (e - (r + 1)))) ≡ breaksAlong a x seen (map h (row r (e - r)))
+    rules-go l d n q =
+        rw (along-step h r e l, q, d .spoils) (along-more seen (h r) (map h (row (r + 1) (e - (r + 1)))) (sym (d .fails) ∙ sym (not-not _) ∙ ap not n))
+
+    pub rules-stop : {d : Effect} → r < e → EffectOf a x (h r) d → not (d .fails) ≡ true → false ≡ breaksAlong a x seen (map h (row r (e - r)))
+    rules-stop l d n =
+        sym (rw (along-step h r e l) (along-stop seen (h r) (map h (row (r + 1) (e - (r + 1)))) (sym (d .fails) ∙ sym (not-not _) ∙ ap not n)))
+
+    pub rules-end : e ≤ r → seen ≡ breaksAlong a x seen (map h (row r (e - r)))
+    rules-end l = sym (rw (along-end h r e l) (along-none seen))

@@ -1,0 +1,3 @@
+-- The laws behind the choice, in reading order.
+pub mod Thresholds
+pub mod Breaking
