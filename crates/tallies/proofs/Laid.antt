@@ -25,7 +25,7 @@ use Rattle.format.proofs.Entries.{entry-here, entries-behind}
 use Rattle.format.proofs.ReadBack.{rules-spelt, holds-sections}
 use Rattle.rules.specs.Rules.{RuleReadable}
 use Rattle.rules.proofs.States.{rule-rises, table-rule-readable}
-use Rattle.tallies.specs.Core.{Laid, Ready}
+use Rattle.tallies.specs.Core.{Laid, Ready, RunReadable}
 use Rattle.tallies.proofs.Exact.{rules-lawful}
 
 -- ---- lists
@@ -161,6 +161,9 @@ module _ (tables terms : List ℕ) (l : Laid tables terms) where
     pub rules-inside : wordAt tables (516 + 2 * c) + wordAt tables (517 + 2 * c) ≤ wordAt tables 2
     unfolding rulesOf
     rules-inside = omega (arith, next-rule, start-within (here .clauses) (suc c), rules-word)
+
+    pub run-readable : RunReadable tables c
+    run-readable = record { inside = omega (arith, tables-long, clauses-few); few = omega (arith, rules-inside, rules-few) }
 
   pub last-rule : startOf (planOfTables tables terms .clauses) (wordAt tables 1) ≡ wordAt tables 2
   unfolding rulesOf

@@ -1,4 +1,5 @@
 -- What holds of opening, flip and counts.
+pub mod Along
 pub mod Bits
 pub mod TallyBytes
 pub mod Exact
@@ -9,4 +10,6 @@ pub mod Refusals
 pub mod Steps
 pub mod Demand3
 pub mod Narrow
-pub mod Naming
+pub mod Unnamed
+pub mod Recounting
+pub mod Cores

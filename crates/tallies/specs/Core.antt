@@ -4,15 +4,16 @@ use Prim.Native.Nat.{ℕ, _+_, _*_, _≤_, _<_}
 use mathlib.Core.Path.{_≡_}
 use mathlib.Core.Logic.{_≢_}
 use mathlib.Core.Bool.{Bool, true, false}
-use mathlib.Core.List.{List}
+use mathlib.Core.List.{List, _++_}
 use lib.Dec.{T}
-use lib.ListN.{length, getD, drop}
+use lib.ListN.{length, getD, take, drop}
 use Rattle.plpb.specs.Plan.{Rule, Plan, Assignment, ruleHolds}
 use Rattle.plpb.specs.Tallies.{rulesOf, freshCount}
 use Rattle.words.specs.Words.{wordAt}
 use Rattle.format.specs.Limits.{roomy}
 use Rattle.format.specs.Tables.{Holds, ruleOf, planOfTables}
-use Rattle.tallies.specs.Layout.{tallySize, tallyWords}
+use Rattle.rules.specs.Terms.{bitsIn}
+use Rattle.tallies.specs.Layout.{tallySize, bitsOf, areBits, tallyWords, tallyBytes}
 use Rattle.tallies.specs.Narrow.{concerns}
 
 -- Two tables hold the plan that is read back from them, and have room for it.
@@ -25,9 +26,19 @@ pub record Ready (tables terms assignment : List ℕ) : Type 0 where
   pub laid : Laid tables terms
   pub bytes : planOfTables tables terms .variables ≤ length assignment
 
+-- What reading a clause's entry needs: it stands there, and its rules are few.
+pub record RunReadable (tables : List ℕ) (c : ℕ) : Type 0 where
+  pub inside : 4 * (518 + 2 * c) ≤ length tables
+  pub few : wordAt tables (516 + 2 * c) + wordAt tables (517 + 2 * c) ≤ 1_025
+
 -- The words that a fresh count gives.
 unfoldable pub tallyWord : Plan → Assignment → ℕ → ℕ
 tallyWord p a i = getD (tallyWords (freshCount p a)) i 0
+
+-- The tallies that a fresh count gives for an assignment, and what stood past their full limits.
+abbrev pub counted : List ℕ → List ℕ → List ℕ → List ℕ → List ℕ
+counted tables terms assignment tallies =
+    tallyBytes (freshCount (planOfTables tables terms) (bitsOf (planOfTables tables terms .variables) assignment)) ++ drop tallySize tallies
 
 -- One word of tallies is written and nothing else.
 pub record Wrote (i v : ℕ) (s t : List ℕ) : Type 0 where
@@ -42,21 +53,31 @@ pub record Kept (h : ℕ → ℕ) (s t : List ℕ) : Type 0 where
   pub size : length t ≡ length s
   pub beyond : drop tallySize t ≡ drop tallySize s
 
--- A rule's word is right, and it is told whether the rule holds.
-pub record RuleCounted (p : Plan) (a : Assignment) (q : Rule) (r : ℕ) (b : Bool) (s t : List ℕ) : Type 0 where
-  pub holds : b ≡ ruleHolds a q
-  pub here : wordAt t r ≡ tallyWord p a r
-  pub kept : Kept (tallyWord p a) s t
+-- The words from one on and before another are right.
+abbrev pub Right : (ℕ → ℕ) → List ℕ → ℕ → ℕ → Type 0
+Right h s from end = (i : ℕ) → from ≤ i → i < end → wordAt s i ≡ h i
 
--- The words of a clause are right: those of its rules, of which the tables f say the first and how many, and its count.
-pub record ClauseCounted (f h : ℕ → ℕ) (c : ℕ) (s t : List ℕ) : Type 0 where
-  pub weights : (i : ℕ) → f (516 + 2 * c) ≤ i → i < f (516 + 2 * c) + f (517 + 2 * c) → wordAt t i ≡ h i
-  pub holding : wordAt t (1_025 + c) ≡ h (1_025 + c)
-  pub kept : Kept h s t
+-- A rule's word is right, and it is told whether the rule holds.
+pub record RuleCounted (tables terms bits : List ℕ) (r : ℕ) (b : Bool) (s t : List ℕ) : Type 0 where
+  pub holds : b ≡ ruleHolds (bitsIn bits) (ruleOf (wordAt tables) (wordAt terms) r)
+  pub here : wordAt t r ≡ tallyWord (planOfTables tables terms) (bitsIn bits) r
+  pub kept : Kept (tallyWord (planOfTables tables terms) (bitsIn bits)) s t
+
+-- The words of a clause are right: those of its rules and its count.
+pub record ClauseCounted (tables terms bits : List ℕ) (c : ℕ) (s t : List ℕ) : Type 0 where
+  pub weights : Right (tallyWord (planOfTables tables terms) (bitsIn bits)) t (wordAt tables (516 + 2 * c)) (wordAt tables (516 + 2 * c) + wordAt tables (517 + 2 * c))
+  pub holding : wordAt t (1_025 + c) ≡ tallyWord (planOfTables tables terms) (bitsIn bits) (1_025 + c)
+  pub kept : Kept (tallyWord (planOfTables tables terms) (bitsIn bits)) s t
 
 -- Where not every entry is due, the words that do not concern the variable are right already.
 abbrev pub Spare : Bool → Plan → Assignment → ℕ → List ℕ → Type 0
 Spare every p a x s = every ≡ false → (i : ℕ) → i < 1_539 → concerns p x i ≡ false → wordAt s i ≡ tallyWord p a i
+
+-- What a recount needs.
+pub record Countable (tables terms bits tallies : List ℕ) (x : ℕ) (every : Bool) : Type 0 where
+  pub ready : Ready tables terms bits
+  pub room : tallySize ≤ length tallies
+  pub spare : Spare every (planOfTables tables terms) (bitsIn bits) x tallies
 
 -- Unused entries are 0.
 pub record Unused (p : Plan) (s : List ℕ) : Type 0 where
@@ -67,3 +88,11 @@ pub record Unused (p : Plan) (s : List ℕ) : Type 0 where
 pub record Decides (b : Bool) (A : Type 0) : Type 0 where
   pub so : b ≡ true → A
   pub not-so : b ≡ false → A → ⊥
+
+-- What a flip needs: bits for the variables, the variable one of them, and the tallies those of the assignment.
+pub record Flippable (tables terms assignment tallies : List ℕ) (x : ℕ) : Type 0 where
+  pub ready : Ready tables terms assignment
+  pub bits : T (areBits (planOfTables tables terms .variables) assignment)
+  pub low : 1 ≤ x
+  pub high : x ≤ planOfTables tables terms .variables
+  pub fresh : take tallySize tallies ≡ tallyBytes (freshCount (planOfTables tables terms) (bitsOf (planOfTables tables terms .variables) assignment))

@@ -1,1 +1,5 @@
-// Opening, flip and counts.
+// Opening, flip and counts on tables, assignment and tallies that are known to fit: what is lent is tested by the callers.
+pub mod clause;
+pub mod flip;
+pub mod open;
+pub mod recount;
