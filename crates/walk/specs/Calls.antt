@@ -12,7 +12,7 @@ use Rattle.plpb.specs.Search.{Mode, linear, lbs, Settings, Reached, failed, rea
 use Rattle.format.specs.File.{refuse}
 use Rattle.format.specs.Tables.{tableSize, termSize, planOfTables, isLoaded}
 use Rattle.tallies.specs.Layout.{assignmentSize, tallySize, bitBytes}
-use Rattle.walk.specs.Numbers.{numbersOf}
+use Rattle.numbers.specs.Numbers.{numbersOf}
 
 -- What the planner sets.
 pub record Asked : Type 0 where

@@ -1,3 +1,2 @@
 -- What a search answers and leaves, for every lent byte.
-pub mod Numbers
 pub mod Calls

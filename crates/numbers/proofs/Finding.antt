@@ -1,0 +1,69 @@
+-- The clause that a pick among the unsatisfied points at is found by its tally: the k-th word that is 0. And the look: no clause is unsatisfied.
+-- Assumes nothing.
+use Prim.Native.Nat.{ℕ, suc, _+_, _-_, _<_}
+use native.Mathlib.Omega.{arith}
+use mathlib.Core.Path.{_≡_, sym, ap, _∙_}
+use mathlib.Core.Bool.{Bool, cond}
+use mathlib.Core.List.{List, [], map}
+use lib.Dec.{T, eqb, ltb, ltb→lt}
+use lib.ListN.{length, getD}
+use Rattle.plpb.specs.Lists.{keep, count, row}
+use Rattle.plpb.specs.Plan.{Clause, Plan, Assignment, ruleHolds, clauseHolds, satisfies}
+use Rattle.plpb.specs.Tallies.{unsatisfied, freshCount}
+use Rattle.plpb.proofs.Lists.{none-by-count, all-by-count}
+use Rattle.words.specs.Words.{wordAt}
+use Rattle.numbers.specs.Finding.{marked, zeroWords}
+use Rattle.numbers.proofs.Keep.{keep-each, keep-map, row-suc, row-below, places, kth-place, place-within}
+
+-- ---- marks
+
+-- The test of variable i + 1 reads byte i.
+pub mark-here : (marks : List ℕ) (v i e : ℕ) → e ≡ cond (eqb (getD marks i 0) v) 1 0 → e ≡ cond (eqb (getD marks (1 + i - 1) 0) v) 1 0
+mark-here marks v i e h = let s : 1 + i - 1 ≡ i = omega arith in rw s h
+
+-- Marks that tell who passes a test give those who do.
+pub marked-by : (marks : List ℕ) (n v : ℕ) (q : ℕ → Bool) → ((i : ℕ) → i < n → eqb (getD marks i 0) v ≡ q (suc i)) → marked marks n v ≡ keep q (row 1 n)
+unfolding marked
+marked-by marks n v q h =
+    ap (keep (λ x. eqb (getD marks (x - 1) 0) v)) (row-suc 0 n)
+    ∙ keep-map (λ x. eqb (getD marks (x - 1) 0) v) suc (row 0 n)
+    ∙ ap (map suc) (keep-each (λ i. ltb i n) (λ i. eqb (getD marks (suc i - 1) 0) v) (λ i. q (suc i)) (row 0 n) agree (row-below 0 n n (omega arith)))
+    ∙ sym (ap (keep q) (row-suc 0 n) ∙ keep-map q suc (row 0 n))
+  where
+    agree : (i : ℕ) → T (ltb i n) → eqb (getD marks (suc i - 1) 0) v ≡ q (suc i)
+    agree i t = let s : suc i - 1 ≡ i = omega arith in rw s (h i (ltb→lt i n t))
+
+-- ---- unsatisfied clauses
+
+pub unsatisfied-count : (a : Assignment) (c : Clause) → unsatisfied a c ≡ eqb (count (ruleHolds a) c) 0
+unfolding unsatisfied clauseHolds
+unsatisfied-count a c = none-by-count (ruleHolds a) c
+
+-- "if no clause is unsatisfied, return"
+pub look-by-count : (p : Plan) (a : Assignment) → satisfies a p ≡ eqb (freshCount p a .clausesUnsatisfied) 0
+unfolding satisfies freshCount unsatisfied
+look-by-count p a = all-by-count (clauseHolds a) (p .clauses)
+
+-- Where the words behind base others are how many rules of each clause hold, as a fresh count has them.
+module _ (p : Plan) (a : Assignment) (table : List ℕ) (base : ℕ)
+    (fresh : (i : ℕ) → i < length (p .clauses) → wordAt table (base + i) ≡ count (ruleHolds a) (getD (p .clauses) i [])) where
+  zero-test : (i : ℕ) → T (ltb i (length (p .clauses))) → eqb (wordAt table (base + i)) 0 ≡ unsatisfied a (getD (p .clauses) i [])
+  zero-test i t =
+      ap (λ w. eqb w 0) (fresh i (ltb→lt i (length (p .clauses)) t))
+      ∙ sym (unsatisfied-count a (getD (p .clauses) i []))
+
+  pub zero-places : zeroWords table base (length (p .clauses)) ≡ places [] (unsatisfied a) (p .clauses)
+  unfolding zeroWords places
+  zero-places =
+      keep-each (λ i. ltb i (length (p .clauses))) (λ i. eqb (wordAt table (base + i)) 0) (λ i. unsatisfied a (getD (p .clauses) i []))
+      (row 0 (length (p .clauses))) zero-test (row-below 0 (length (p .clauses)) (length (p .clauses)) (omega arith))
+
+  module _ (k r e : ℕ) (found : r ≡ getD (zeroWords table base (length (p .clauses))) k e) (few : k < count (unsatisfied a) (p .clauses)) where
+    at-place : r ≡ getD (places [] (unsatisfied a) (p .clauses)) k e
+    at-place = found ∙ ap (λ is. getD is k e) zero-places
+
+    pub clause-found : getD (keep (unsatisfied a) (p .clauses)) k [] ≡ getD (p .clauses) r []
+    clause-found = rw at-place (kth-place [] (unsatisfied a) (p .clauses) k e few)
+
+    pub clause-within : r < length (p .clauses)
+    clause-within = rw at-place (place-within [] (unsatisfied a) (p .clauses) k e few)
