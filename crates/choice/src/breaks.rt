@@ -19,6 +19,8 @@ use counting::bound::Bound;
 use rules::state::State;
 use rules::state::read_state;
 use rules::sums::Stands;
+use tallies::clause::clause_names;
+use tallies::clause::rules_of;
 use words::index;
 
 // Whether there are more choices of a bound's size among m + w than among m.
@@ -108,4 +110,32 @@ fn breaks_along(
         r += 1;
     }
     spoilt
+}
+
+// A clause that does not name the variable is passed over: nothing of it changes.
+fn clause_breaks(tables: &[u8], terms: &[u8], assignment: &[u8], c: usize, x: u32) -> bool
+    requires { ⌜ Ready (now tables) (now terms) (now assignment) × (c < wordAt (now tables) 1) ⌝ }
+    ensures { λ r. ⌜ r ≡ ltb 0 (clauseBreak (lentBits (now (tables .entry)) (now (terms .entry)) (now (assignment .entry))) x (clauseOf (wordAt (now (tables .entry))) (wordAt (now (terms .entry))) c)) ⌝ }
+{
+    if !clause_names(tables, terms, c, x) {
+        return false;
+    }
+    let rules = rules_of(tables, c);
+    breaks_along(tables, terms, assignment, rules.first, rules.end, x)
+}
+
+// Whether a variable's break count is 0: it stops at the first clause that breaks.
+pub fn breaks_none(tables: &[u8], terms: &[u8], assignment: &[u8], x: u32) -> bool
+    requires { ⌜ Ready (now tables) (now terms) (now assignment) × (0 < x) × (x ≤ planOfTables (now tables) (now terms) .variables) ⌝ }
+    ensures { λ r. ⌜ r ≡ eqb (cappedBreak (planOfTables (now (tables .entry)) (now (terms .entry))) (lentBits (now (tables .entry)) (now (terms .entry)) (now (assignment .entry))) x) 0 ⌝ }
+{
+    let clauses = index(tables, 1);
+    let mut c = 0;
+    while c < clauses {
+        if clause_breaks(tables, terms, assignment, c, x) {
+            return false;
+        }
+        c += 1;
+    }
+    true
 }
