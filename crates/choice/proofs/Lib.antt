@@ -1,3 +1,4 @@
 -- The laws behind the choice, in reading order.
 pub mod Thresholds
 pub mod Breaking
+pub mod Marking

@@ -1,0 +1,66 @@
+// Marks of variables, one byte each, that of variable x at place x − 1: 1 for those to choose from, 2 for those of them to pick among.
+ghost use mathlib.Core.Path.{_≡_};
+ghost use mathlib.Core.Bool.{cond};
+ghost use mathlib.Core.List.{[], _++_, map};
+ghost use Prim.Native.Nat.{ℕ, _+_, _*_, _-_, _≤_, _<_};
+ghost use lib.Dec.{eqb};
+ghost use lib.ListN.{length, getD, drop};
+ghost use Rattle.plpb.specs.Lists.{row};
+ghost use Rattle.plpb.specs.Count.{cappedBreak};
+ghost use Rattle.words.specs.Words.{wordAt};
+ghost use Rattle.format.specs.Tables.{ruleOf, planOfTables};
+ghost use Rattle.rules.specs.Terms.{termsAt, Readable};
+ghost use Rattle.tallies.specs.Core.{Laid, Ready};
+ghost use Rattle.numbers.specs.Finding.{marked};
+ghost use Rattle.choice.specs.Breaks.{lentBits};
+ghost use Rattle.choice.specs.Marks.{markTerms, markRules, clauseMarks, Parted};
+use crate::breaks::breaks_none;
+use numbers::count_marked;
+use tallies::clause::rules_of;
+use words::clear;
+use words::index;
+
+// Marks the variables of a run of terms.
+fn mark_terms(terms: &[u8], first: usize, count: usize, marks: &mut [u8])
+    requires { ⌜ Readable (now terms) (now marks) first count ⌝ }
+    ensures { λ _. ⌜ now (marks .exit) ≡ markTerms (termsAt (wordAt (now (terms .entry))) first count) (now (marks .entry)) ⌝ }
+{
+    let end = first + count;
+    let mut i = first;
+    while i < end {
+        let x = index(terms, 2 * i);
+        marks[x - 1] = 1;
+        i += 1;
+    }
+}
+
+fn mark_rule(tables: &[u8], terms: &[u8], r: usize, marks: &mut [u8])
+    requires { ⌜ Ready (now tables) (now terms) (now marks) × (r < wordAt (now tables) 2) ⌝ }
+    ensures { λ _. ⌜ now (marks .exit) ≡ markTerms (ruleOf (wordAt (now (tables .entry))) (wordAt (now (terms .entry))) r .terms) (now (marks .entry)) ⌝ }
+{
+    let first = index(tables, 1542 + 5 * r);
+    let count = index(tables, 1543 + 5 * r);
+    mark_terms(terms, first, count, marks);
+}
+
+fn mark_rules(tables: &[u8], terms: &[u8], first: usize, end: usize, marks: &mut [u8])
+    requires { ⌜ Ready (now tables) (now terms) (now marks) × (end ≤ wordAt (now tables) 2) ⌝ }
+    ensures { λ _. ⌜ now (marks .exit) ≡ markRules (map (ruleOf (wordAt (now (tables .entry))) (wordAt (now (terms .entry)))) (row first (end - first))) (now (marks .entry)) ⌝ }
+{
+    let mut r = first;
+    while r < end {
+        mark_rule(tables, terms, r, marks);
+        r += 1;
+    }
+}
+
+// Marks the variables that a clause names with 1 and the others with 0: each once, however many of its rules name it.
+pub fn mark_clause(tables: &[u8], terms: &[u8], c: usize, marks: &mut [u8])
+    requires { ⌜ Ready (now tables) (now terms) (now marks) × (c < wordAt (now tables) 1) ⌝ }
+    ensures { λ _. ⌜ now (marks .exit) ≡ clauseMarks (getD (planOfTables (now (tables .entry)) (now (terms .entry)) .clauses) c []) (planOfTables (now (tables .entry)) (now (terms .entry)) .variables) ++ drop (planOfTables (now (tables .entry)) (now (terms .entry)) .variables) (now (marks .entry)) ⌝ }
+{
+    let n = index(tables, 0);
+    clear(&mut marks[..n]);
+    let rules = rules_of(tables, c);
+    mark_rules(tables, terms, rules.first, rules.end, marks);
+}
