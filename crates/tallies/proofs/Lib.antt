@@ -13,3 +13,4 @@ pub mod Narrow
 pub mod Unnamed
 pub mod Recounting
 pub mod Cores
+pub mod Summing

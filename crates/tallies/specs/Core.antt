@@ -9,10 +9,12 @@ use lib.Dec.{T}
 use lib.ListN.{length, getD, take, drop}
 use Rattle.plpb.specs.Plan.{Rule, Plan, Assignment, ruleHolds}
 use Rattle.plpb.specs.Tallies.{rulesOf, freshCount}
+use Rattle.counting.specs.Count.{number}
 use Rattle.words.specs.Words.{wordAt}
 use Rattle.format.specs.Limits.{roomy}
 use Rattle.format.specs.Tables.{Holds, ruleOf, planOfTables}
 use Rattle.rules.specs.Terms.{bitsIn}
+use Rattle.tallies.specs.declared.counts.Counts.{Counts}
 use Rattle.tallies.specs.Layout.{tallySize, bitsOf, areBits, tallyWords, tallyBytes}
 use Rattle.tallies.specs.Narrow.{concerns}
 
@@ -96,3 +98,8 @@ pub record Flippable (tables terms assignment tallies : List ℕ) (x : ℕ) : Ty
   pub low : 1 ≤ x
   pub high : x ≤ planOfTables tables terms .variables
   pub fresh : take tallySize tallies ≡ tallyBytes (freshCount (planOfTables tables terms) (bitsOf (planOfTables tables terms .variables) assignment))
+
+-- The two numbers that a Counts of the code says.
+pub record CountsAre (spoils mends : ℕ) (r : Counts) : Type 0 where
+  pub breaks : number (r .breaks) ≡ spoils
+  pub makes : number (r .makes) ≡ mends
