@@ -2,3 +2,4 @@
 pub mod Thresholds
 pub mod Breaking
 pub mod Marking
+pub mod Parting

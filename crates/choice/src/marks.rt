@@ -1,19 +1,15 @@
 // Marks of variables, one byte each, that of variable x at place x − 1: 1 for those to choose from, 2 for those of them to pick among.
 ghost use mathlib.Core.Path.{_≡_};
-ghost use mathlib.Core.Bool.{cond};
 ghost use mathlib.Core.List.{[], _++_, map};
 ghost use Prim.Native.Nat.{ℕ, _+_, _*_, _-_, _≤_, _<_};
-ghost use lib.Dec.{eqb};
 ghost use lib.ListN.{length, getD, drop};
 ghost use Rattle.plpb.specs.Lists.{row};
-ghost use Rattle.plpb.specs.Count.{cappedBreak};
 ghost use Rattle.words.specs.Words.{wordAt};
 ghost use Rattle.format.specs.Tables.{ruleOf, planOfTables};
 ghost use Rattle.rules.specs.Terms.{termsAt, Readable};
 ghost use Rattle.tallies.specs.Core.{Laid, Ready};
-ghost use Rattle.numbers.specs.Finding.{marked};
 ghost use Rattle.choice.specs.Breaks.{lentBits};
-ghost use Rattle.choice.specs.Marks.{markTerms, markRules, clauseMarks, Parted};
+ghost use Rattle.choice.specs.Marks.{markTerms, markRules, clauseMarks, hasBreak, parting, Written, Parted};
 use crate::breaks::breaks_none;
 use numbers::count_marked;
 use tallies::clause::rules_of;
@@ -63,4 +59,48 @@ pub fn mark_clause(tables: &[u8], terms: &[u8], c: usize, marks: &mut [u8])
     clear(&mut marks[..n]);
     let rules = rules_of(tables, c);
     mark_rules(tables, terms, rules.first, rules.end, marks);
+}
+
+// The number of the variable whose mark stands at a place.
+fn variable_at(place: usize) -> u32
+    requires { ⌜ place < 512 ⌝ }
+    ensures { λ r. ⌜ r ≡ place + 1 ⌝ }
+{
+    (place + 1) as u32
+}
+
+// The mark of a variable to choose from becomes 2 where its flip breaks nothing; any other becomes 0.
+fn free_mark(tables: &[u8], terms: &[u8], assignment: &[u8], place: usize, mark: u8) -> u8
+    requires { ⌜ Ready (now tables) (now terms) (now assignment) × (place < planOfTables (now tables) (now terms) .variables) ⌝ }
+    ensures { λ r. ⌜ r ≡ parting (hasBreak (planOfTables (now (tables .entry)) (now (terms .entry))) (lentBits (now (tables .entry)) (now (terms .entry)) (now (assignment .entry))) 0) (place + 1) mark ⌝ }
+{
+    if mark != 1 {
+        return 0;
+    }
+    if breaks_none(tables, terms, assignment, variable_at(place)) {
+        2
+    } else {
+        1
+    }
+}
+
+fn free_marks(tables: &[u8], terms: &[u8], assignment: &[u8], n: usize, marks: &mut [u8])
+    requires { ⌜ Ready (now tables) (now terms) (now assignment) × (n ≤ planOfTables (now tables) (now terms) .variables) × (n ≤ length (now marks)) ⌝ }
+    ensures { λ _. ⌜ Written (parting (hasBreak (planOfTables (now (tables .entry)) (now (terms .entry))) (lentBits (now (tables .entry)) (now (terms .entry)) (now (assignment .entry))) 0)) n (now (marks .entry)) (now (marks .exit)) ⌝ }
+{
+    let mut i = 0;
+    while i < n {
+        marks[i] = free_mark(tables, terms, assignment, i, marks[i]);
+        i += 1;
+    }
+}
+
+// Among the variables marked 1, those with break count 0 become marked 2; how many they are.
+pub fn mark_free(tables: &[u8], terms: &[u8], assignment: &[u8], marks: &mut [u8]) -> usize
+    requires { ⌜ Ready (now tables) (now terms) (now assignment) × Ready (now tables) (now terms) (now marks) ⌝ }
+    ensures { λ r. ⌜ Parted (planOfTables (now (tables .entry)) (now (terms .entry)) .variables) (hasBreak (planOfTables (now (tables .entry)) (now (terms .entry))) (lentBits (now (tables .entry)) (now (terms .entry)) (now (assignment .entry))) 0) (now (marks .entry)) (now (marks .exit)) r ⌝ }
+{
+    let n = index(tables, 0);
+    free_marks(tables, terms, assignment, n, marks);
+    count_marked(marks, n, 2)
 }
