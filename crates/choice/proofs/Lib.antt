@@ -3,3 +3,4 @@ pub mod Thresholds
 pub mod Breaking
 pub mod Marking
 pub mod Parting
+pub mod Least

@@ -1,6 +1,6 @@
 -- Marks of variables: those of a clause, and those to choose from parted by a test.
 -- Assumes nothing.
-use Prim.Native.Nat.{ℕ, suc, _-_, _≤_, _<_}
+use Prim.Native.Nat.{ℕ, suc, _+_, _-_, _≤_, _<_, min}
 use mathlib.Core.Path.{_≡_}
 use mathlib.Core.Bool.{Bool, cond, not}
 use mathlib.Core.List.{List, [], _∷_, map}
@@ -8,7 +8,8 @@ use lib.Dec.{eqb}
 use lib.ListN.{length, getD, set, drop}
 use Rattle.plpb.specs.Lists.{keep, row}
 use Rattle.plpb.specs.Plan.{Term, Rule, Clause, Plan, Assignment, names}
-use Rattle.plpb.specs.Count.{cappedBreak}
+use Rattle.plpb.specs.Count.{cap, cappedBreak}
+use Rattle.plpb.specs.Choice.{leastBreak}
 use Rattle.numbers.specs.Finding.{marked}
 
 -- Terms and rules mark their variables one after another.
@@ -45,3 +46,14 @@ pub record Parted (n : ℕ) (q : ℕ → Bool) (entry exit : List ℕ) (count : 
   pub counted : count ≡ length (marked exit n 2)
   pub beyond : drop n exit ≡ drop n entry
   pub size : length exit ≡ length entry
+
+-- A mark 2 becomes 1 again.
+unfoldable pub lowering : ℕ → ℕ
+lowering mark = cond (eqb mark 2) 1 mark
+
+-- The first i marks are parted by the least count among them: none of those variables has a lower one, and with those behind them the least is that of all.
+pub record LeastSoFar (p : Plan) (a : Assignment) (i least : ℕ) (entry exit : List ℕ) : Type 0 where
+  pub written : Written (parting (hasBreak p a least)) i entry exit
+  pub small : least ≤ cap
+  pub low : (j : ℕ) → j < i → getD entry j 0 ≡ 1 → least ≤ cappedBreak p a (suc j)
+  pub rest : min least (leastBreak p a (keep (λ x. eqb (getD entry (x - 1) 0) 1) (row (1 + i) (p .variables - i)))) ≡ leastBreak p a (marked entry (p .variables) 1)
