@@ -4,3 +4,4 @@ pub mod Breaking
 pub mod Marking
 pub mod Parting
 pub mod Least
+pub mod Choosing

@@ -132,9 +132,13 @@ module _ (n : ℕ) where
   rules-beyond (q ∷ qs) s l =
       rules-beyond qs (markTerms (q .terms) s) (and-right _ _ l) ∙ terms-beyond (q .terms) s (lawful-legal n (q .terms) (rule-terms n q (and-left _ _ l)))
 
-  length-marks : (c : Clause) → length (clauseMarks c n) ≡ n
+  pub length-marks : (c : Clause) → length (clauseMarks c n) ≡ n
   unfolding clauseMarks
   length-marks c = length-map (row 1 n) (λ x. cond (names c x) 1 0) ∙ length-row 1 n
+
+  pub mark-at : (c : Clause) (i : ℕ) → i < n → getD (clauseMarks c n) i 0 ≡ cond (names c (suc i)) 1 0
+  unfolding clauseMarks
+  mark-at c i h = getD-row (λ x. cond (names c x) 1 0) 1 n i 0 h ∙ ap (λ x. cond (names c x) 1 0) (one-add i)
 
   -- A lawful clause's rules mark what is cleared.
   pub marks-of : (c : Clause) (s : List ℕ) → n ≤ length s → T (all (ruleLawful n) c) → markRules c (replicate n 0 ++ drop n s) ≡ clauseMarks c n ++ drop n s
@@ -159,7 +163,7 @@ module _ (n : ℕ) where
           getD-take n t j 0 i
           ∙ rules-at c u j l (omega (arith, long))
           ∙ ap (cond (names c (suc j)) 1) (List·getD-append (replicate n 0) (drop n s) 0 j (rw (length-replicate {A = ℕ} n 0) i) ∙ getD-replicate n j 0 0 i)
-          ∙ sym (unfold clauseMarks in getD-row (λ x. cond (names c x) 1 0) 1 n j 0 i ∙ ap (λ x. cond (names c x) 1 0) (one-add j))
+          ∙ sym (mark-at c j i)
 
       front : take n t ≡ clauseMarks c n
       front = ext-getD 0 (take n t) (clauseMarks c n) (size ∙ sym (length-marks c)) each

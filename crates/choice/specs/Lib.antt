@@ -1,3 +1,4 @@
 -- What the contracts of this crate say.
 pub mod Breaks
 pub mod Marks
+pub mod Outcome
