@@ -1,0 +1,4 @@
+-- What the contracts of this crate say.
+pub mod Breaks
+pub mod Marks
+pub mod Outcome

@@ -1,0 +1,130 @@
+// The choice of a variable of a clause (Algorithm 2, SKC): among those whose flip breaks nothing, else by the noise among the least counts or among all.
+ghost use mathlib.Core.Path.{_≡_};
+ghost use mathlib.Core.List.{[]};
+ghost use Prim.Native.Nat.{_/_, _≤_, _<_};
+ghost use lib.Dec.{ltb};
+ghost use lib.ListN.{length, getD, drop};
+ghost use Rattle.plpb.specs.Choice.{pickFrom, leastBreak, withBreak, noisyChoice, choice};
+ghost use Rattle.words.specs.Words.{wordAt};
+ghost use Rattle.format.specs.Tables.{planOfTables};
+ghost use Rattle.tallies.specs.Core.{Ready};
+ghost use Rattle.numbers.specs.Numbers.{numbersOf};
+ghost use Rattle.numbers.specs.Finding.{marked};
+ghost use Rattle.choice.specs.Breaks.{lentBits};
+ghost use Rattle.choice.specs.Outcome.{Chooses, PickMarked, ToChoose};
+use crate::marks::mark_clause;
+use crate::marks::mark_free;
+use crate::marks::mark_least;
+use numbers::Picked;
+use numbers::count_marked;
+use numbers::nth;
+use numbers::pick;
+use words::index;
+
+// The variable, and how many numbers are used after the choice; or how many are used where too few are left for it.
+pub enum Chosen {
+    At(u32, usize),
+    Short(usize),
+}
+
+// A variable found among the marks.
+fn variable_marked(marks: &[u8], n: usize, value: u8, k: usize) -> u32
+    requires { ⌜ (n ≤ 512) × (n ≤ length (now marks)) × (k < length (marked (now marks) n value)) ⌝ }
+    ensures { λ r. ⌜ r ≡ getD (marked (now (marks .entry)) n value) k 0 ⌝ }
+{
+    nth(marks, n, value, k) as u32
+}
+
+// A pick among the m variables with a mark.
+fn pick_marked(numbers: &[u8], used: usize, marks: &[u8], n: usize, value: u8, m: usize) -> Chosen
+    requires { ⌜ PickMarked (now numbers) used (now marks) n value m ⌝ }
+    ensures { λ r. ⌜ Chooses (pickFrom 0 (marked (now (marks .entry)) n value)) (numbersOf (now (numbers .entry))) used n r ⌝ }
+{
+    let p = pick(numbers, used, m);
+    match p {
+        Picked::At(k, after) => Chosen::At(variable_marked(marks, n, value, k), after),
+        Picked::Short(after) => Chosen::Short(after),
+    }
+}
+
+// "else to a pick among all"
+fn choose_any(numbers: &[u8], used: usize, n: usize, marks: &[u8]) -> Chosen
+    requires { ⌜ ToChoose (now numbers) used n (now marks) ⌝ }
+    ensures { λ r. ⌜ Chooses (pickFrom 0 (marked (now (marks .entry)) n 1)) (numbersOf (now (numbers .entry))) used n r ⌝ }
+{
+    let all = count_marked(marks, n, 1);
+    pick_marked(numbers, used, marks, n, 1, all)
+}
+
+// "a pick among the least break counts"
+fn choose_least(
+    tables: &[u8],
+    terms: &[u8],
+    assignment: &[u8],
+    numbers: &[u8],
+    used: usize,
+    n: usize,
+    marks: &mut [u8],
+) -> Chosen
+    requires { ⌜ Ready (now tables) (now terms) (now assignment) × (n ≡ planOfTables (now tables) (now terms) .variables) × ToChoose (now numbers) used n (now marks) ⌝ }
+    ensures { λ r. ⌜ Chooses (pickFrom 0 (withBreak (planOfTables (now (tables .entry)) (now (terms .entry))) (lentBits (now (tables .entry)) (now (terms .entry)) (now (assignment .entry))) (leastBreak (planOfTables (now (tables .entry)) (now (terms .entry))) (lentBits (now (tables .entry)) (now (terms .entry)) (now (assignment .entry))) (marked (now (marks .entry)) n 1)) (marked (now (marks .entry)) n 1))) (numbersOf (now (numbers .entry))) used n r × (drop n (now (marks .exit)) ≡ drop n (now (marks .entry))) ⌝ }
+{
+    let few = mark_least(tables, terms, assignment, marks);
+    pick_marked(numbers, used, marks, n, 2, few)
+}
+
+fn is_below(r: usize, noise: u32) -> bool
+    ensures { λ t. ⌜ t ≡ ltb r noise ⌝ }
+{
+    r < noise as usize
+}
+
+// "Otherwise a number r with r mod 1000 < noise leads to a pick among the least break counts, else to a pick among all."
+fn choose_noisy(
+    tables: &[u8],
+    terms: &[u8],
+    assignment: &[u8],
+    numbers: &[u8],
+    used: usize,
+    noise: u32,
+    n: usize,
+    marks: &mut [u8],
+) -> Chosen
+    requires { ⌜ Ready (now tables) (now terms) (now assignment) × (n ≡ planOfTables (now tables) (now terms) .variables) × ToChoose (now numbers) used n (now marks) ⌝ }
+    ensures { λ r. ⌜ Chooses (noisyChoice (planOfTables (now (tables .entry)) (now (terms .entry))) noise (lentBits (now (tables .entry)) (now (terms .entry)) (now (assignment .entry))) (marked (now (marks .entry)) n 1)) (numbersOf (now (numbers .entry))) used n r × (drop n (now (marks .exit)) ≡ drop n (now (marks .entry))) ⌝ }
+{
+    let p = pick(numbers, used, 1000);
+    match p {
+        Picked::At(r, after) => {
+            if is_below(r, noise) {
+                choose_least(tables, terms, assignment, numbers, after, n, marks)
+            } else {
+                choose_any(numbers, after, n, marks)
+            }
+        }
+        Picked::Short(after) => Chosen::Short(after),
+    }
+}
+
+// Among the variables of a clause, each once. Of the marks only those of the plan's variables change.
+pub fn choose(
+    tables: &[u8],
+    terms: &[u8],
+    assignment: &[u8],
+    numbers: &[u8],
+    used: usize,
+    noise: u32,
+    c: usize,
+    marks: &mut [u8],
+) -> Chosen
+    requires { ⌜ Ready (now tables) (now terms) (now assignment) × Ready (now tables) (now terms) (now marks) × (c < wordAt (now tables) 1) × (used ≤ length (now numbers) / 4) ⌝ }
+    ensures { λ r. ⌜ Chooses (choice (planOfTables (now (tables .entry)) (now (terms .entry))) noise (lentBits (now (tables .entry)) (now (terms .entry)) (now (assignment .entry))) (getD (planOfTables (now (tables .entry)) (now (terms .entry)) .clauses) c [])) (numbersOf (now (numbers .entry))) used (planOfTables (now (tables .entry)) (now (terms .entry)) .variables) r × (drop (planOfTables (now (tables .entry)) (now (terms .entry)) .variables) (now (marks .exit)) ≡ drop (planOfTables (now (tables .entry)) (now (terms .entry)) .variables) (now (marks .entry))) ⌝ }
+{
+    let n = index(tables, 0);
+    mark_clause(tables, terms, c, marks);
+    let free = mark_free(tables, terms, assignment, marks);
+    if 0 < free {
+        return pick_marked(numbers, used, marks, n, 2, free);
+    }
+    choose_noisy(tables, terms, assignment, numbers, used, noise, n, marks)
+}
