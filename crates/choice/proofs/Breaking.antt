@@ -20,7 +20,8 @@ use Rattle.rules.specs.declared.state.State.{State}
 use Rattle.rules.specs.Terms.{bitsIn}
 use Rattle.rules.specs.Rules.{ruleAt}
 use Rattle.rules.specs.State.{StateOf, sharesFrom}
-use Rattle.rules.proofs.States.{shares-rule, table-rule-state}
+use Rattle.rules.proofs.States.{shares-rule}
+use Rattle.rules.proofs.Tables.{table-rule-state}
 use Rattle.tallies.specs.Layout.{bitsOf}
 use Rattle.tallies.specs.Core.{Laid, Ready}
 use Rattle.tallies.proofs.Bits.{length-bitsOf}

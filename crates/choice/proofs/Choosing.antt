@@ -24,7 +24,7 @@ use Rattle.format.specs.Limits.{ruleLawful}
 use Rattle.format.proofs.Bools.{T-true}
 use Rattle.format.proofs.Lawful.{clauseLawful, rule-parts}
 use Rattle.rules.proofs.Terms.{termLegal, lawful-legal, legal-low, legal-high}
-use Rattle.rules.proofs.States.{rule-terms}
+use Rattle.rules.proofs.Tables.{rule-terms}
 use Rattle.words.specs.Words.{wordAt}
 use Rattle.format.specs.Tables.{planOfTables}
 use Rattle.tallies.specs.Core.{Laid}

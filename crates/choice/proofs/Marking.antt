@@ -20,7 +20,7 @@ use Rattle.format.proofs.Bools.{true-T}
 use Rattle.format.proofs.Lawful.{clauseLawful}
 use Rattle.rules.specs.Terms.{termsAt, TermReadable, Readable}
 use Rattle.rules.proofs.Terms.{term-readable, termLegal, lawful-legal, legal-low, legal-high}
-use Rattle.rules.proofs.States.{rule-terms}
+use Rattle.rules.proofs.Tables.{rule-terms}
 use Rattle.tallies.specs.Core.{Laid, Ready}
 use Rattle.tallies.proofs.Laid.{getD-row, parts, variables-word, clauses-word, clause-here, rule-ready}
 use Rattle.tallies.proofs.Along.{along-start, along-step, along-end}

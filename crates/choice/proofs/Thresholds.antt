@@ -24,7 +24,7 @@ use Rattle.plpb.proofs.Normal.{belowSize}
 use Rattle.plpb.proofs.Equations.{lost, gained, break-formula}
 use Rattle.counting.specs.Bound.{boundOf}
 use Rattle.rules.specs.declared.state.State.{State}
-use Rattle.rules.specs.Sums.{standingIn}
+use Rattle.rules.specs.Places.{standingIn}
 use Rattle.rules.specs.State.{Balanced, holdsIn, sharesFrom, Turned}
 use Rattle.choice.specs.Breaks.{spoilsPart, falseAfter, breaksAlong}
 

@@ -16,9 +16,9 @@ ghost use Rattle.format.specs.Tables.{ruleOf, clauseOf, planOfTables};
 ghost use Rattle.tallies.specs.Core.{Ready};
 ghost use Rattle.choice.specs.Breaks.{lentBits, EffectOf, breaksAlong};
 use counting::bound::Bound;
+use rules::place::Stands;
 use rules::state::State;
-use rules::state::read_state;
-use rules::sums::Stands;
+use rules::state::read_state_from;
 use tallies::clause::clause_names;
 use tallies::clause::rules_of;
 use words::index;
@@ -74,7 +74,7 @@ fn effect_on(tables: &[u8], terms: &[u8], assignment: &[u8], r: usize, x: u32) -
     requires { ⌜ Ready (now tables) (now terms) (now assignment) × (r < wordAt (now tables) 2) ⌝ }
     ensures { λ e. ⌜ EffectOf (lentBits (now (tables .entry)) (now (terms .entry)) (now (assignment .entry))) x (ruleOf (wordAt (now (tables .entry))) (wordAt (now (terms .entry))) r) e ⌝ }
 {
-    let s = read_state(tables, terms, assignment, 1542 + 5 * r, x);
+    let s = read_state_from(tables, terms, assignment, 1542 + 5 * r, x);
     Effect {
         fails: false_after(s),
         spoils: spoils(s),

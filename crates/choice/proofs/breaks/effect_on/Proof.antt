@@ -7,21 +7,21 @@ use Rattle.choice.proofs.Breaking.{lent-state, effect-told}
 use Rattle.choice.proofs.breaks.effect_on.Statement.{statement}
 use Rattle.choice.proofs.breaks.effect_on.Tie as tie
 
-mul-read-state : tie.Need-mul-read-state
-mul-read-state c = let at = c .before .before .before in omega (arith, rules-few _ _ (at .pre .0 .laid))
+mul-read-state-from : tie.Need-mul-read-state-from
+mul-read-state-from c = let at = c .before .before .before in omega (arith, rules-few _ _ (at .pre .0 .laid))
 
-add-read-state : tie.Need-add-read-state
-add-read-state c = let at = c .before .before .before in omega (arith, rules-few _ _ (at .pre .0 .laid))
+add-read-state-from : tie.Need-add-read-state-from
+add-read-state-from c = let at = c .before .before .before in omega (arith, rules-few _ _ (at .pre .0 .laid))
 
-read-state-requires : tie.Need-read-state-requires
-read-state-requires c κs = let at = c .before .before .before in rule-ready _ _ _ (at .pre .0) _ (at .pre .1)
+read-state-from-requires : tie.Need-read-state-from-requires
+read-state-from-requires c κs = let at = c .before .before .before in rule-ready _ _ _ (at .pre .0) _ (at .pre .1)
 
 returns : tie.Need-returns
 returns c =
     let at = c .before .before .before .before .before .before in
-    effect-told (lent-state (at .pre .0) (at .pre .1) (c .before .before .read-state .ensures)) (c .before .false-after .ensures) (c .spoils .ensures)
+    effect-told (lent-state (at .pre .0) (at .pre .1) (c .before .before .read-state-from .ensures)) (c .before .false-after .ensures) (c .spoils .ensures)
 
 pub effect-on-spec : {M : Type 1} → statement M
 effect-on-spec =
     tie.close
-    (tie.spec mul-read-state add-read-state read-state-requires (λ c κs. c .read-state .ensures .balanced) (λ c κs. search needs) returns)
+    (tie.spec mul-read-state-from add-read-state-from read-state-from-requires (λ c κs. c .read-state-from .ensures .balanced) (λ c κs. search needs) returns)
