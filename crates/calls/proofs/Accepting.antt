@@ -13,26 +13,15 @@ use Rattle.plpb.specs.Count.{cappedBreak, cappedMake}
 use Rattle.words.specs.Words.{wordAt}
 use Rattle.format.specs.File.{refuse}
 use Rattle.format.specs.Tables.{planOfTables, sameBytes}
-use Rattle.format.proofs.Lawful.{lawful-roomy}
-use Rattle.format.proofs.IsLoaded.{isLoaded-lawful, isLoaded-holds, isLoaded-tables, same-equal}
+use Rattle.format.proofs.IsLoaded.{isLoaded-tables, same-equal}
 use Rattle.tallies.specs.Layout.{tallySize, bitsOf}
 use Rattle.tallies.specs.Calls.{Lent, plan, freshBytes, openRefusal, openTallies, callRefusal, turned, flipAssignment, flipTallies, countsBreak, countsMake}
-use Rattle.tallies.specs.Core.{Laid, Ready, Flippable, counted}
+use Rattle.tallies.specs.Core.{Flippable, counted}
 use Rattle.calls.proofs.Opening.{first-words}
-use Rattle.tallies.proofs.Refusals.{Opens, opens, takes, only-variable, variable-range, assignment-room, tallies-room}
+use Rattle.tallies.proofs.Refusals.{Opens, opens, takes, only-variable}
+use Rattle.tallies.proofs.Callers.{takes-flippable}
 
 module _ (l : Lent) where
-  pub opens-ready : Opens l → Ready (l .tables) (l .terms) (l .assignment)
-  unfolding plan
-  opens-ready o =
-      record {
-        laid = record {
-          room = lawful-roomy _ (isLoaded-lawful (l .tables) (l .terms) (o .loaded));
-          holds = isLoaded-holds (l .tables) (l .terms) (o .loaded);
-        };
-        bytes = assignment-room l o;
-      }
-
   pub loaded-tables : Opens l → 26_668 ≤ length (l .tables)
   loaded-tables o = isLoaded-tables (l .tables) (l .terms) (o .loaded)
 
@@ -96,17 +85,7 @@ module _ (l : Lent) (x : ℕ) where
   flip-accepted e = (rw e, rw e)
 
   pub flippable : callRefusal l x ≡ 0 → Flippable (l .tables) (l .terms) (l .assignment) (l .tallies) x
-  unfolding freshBytes plan
-  flippable e =
-      let t = takes l x e in
-      let r = variable-range (plan l) x (t .variable) in
-      record {
-        ready = opens-ready l (t .opening);
-        bits = t .opening .bits;
-        low = r .0;
-        high = r .1;
-        fresh = t .fresh;
-      }
+  flippable e = takes-flippable l x (takes l x e)
 
   pub counts-refused : (k : ℕ) → k ≡ callRefusal l x → (k ≡ 0 → ⊥) → (0 ≡ countsBreak l x) × (0 ≡ countsMake l x)
   unfolding countsBreak countsMake

@@ -3,7 +3,8 @@ use borrow.Author.Needs.{needs}
 use native.Mathlib.Omega.{arith}
 use mathlib.Core.Path.{_≡_, sym, _∙_}
 use Rattle.tallies.proofs.Refusals.{opens, tallies-room}
-use Rattle.calls.proofs.Accepting.{opens-ready, open-refused, open-accepted}
+use Rattle.tallies.proofs.Callers.{opens-ready}
+use Rattle.calls.proofs.Accepting.{open-refused, open-accepted}
 use Rattle.calls.proofs.open.open.Statement.{statement}
 use Rattle.calls.proofs.open.open.Tie as tie
 
