@@ -8,7 +8,7 @@ ghost use Rattle.words.specs.Writes.{front};
 ghost use Rattle.format.specs.File.{termAt, termsAt, ruleAt};
 ghost use Rattle.format.specs.Tables.{ruleEntries, termEntries};
 ghost use Rattle.tables.specs.Places.{RuleHere};
-use crate::walk;
+use crate::fields;
 
 fn narrow(n: usize) -> u32
     requires { ⌜ n < 4_294_967_296 ⌝ }
@@ -76,7 +76,7 @@ pub fn put_rule(file: &[u8], at: usize, first: usize, out: &mut [u8])
     requires { ⌜ (20 ≤ length (now out)) × (first < 4_294_967_296) ⌝ }
     ensures { λ _. ⌜ now (out .exit) ≡ front (wordBytes (ruleEntries first (ruleAt (now (file .entry)) at ∷ []))) (now (out .entry)) ⌝ }
 {
-    let terms = narrow(walk::terms_of(file, at));
+    let terms = narrow(fields::terms_of(file, at));
     let mode = byte_word(file[at + 3]);
     let lower = words::read_u32(file, at + 4);
     let upper = words::read_u32(file, at + 8);

@@ -11,10 +11,10 @@ ghost use Rattle.tables.specs.Places.{Accepts, planOfFile};
 
 mod entries;
 mod field;
+mod fields;
 mod judge;
 mod sections;
 mod terms;
-mod walk;
 
 pub use judge::Answer;
 

@@ -12,7 +12,7 @@ ghost use Rattle.format.specs.Tables.{termWords};
 ghost use Rattle.tables.specs.Places.{Accepts, planOfFile};
 ghost use Rattle.tables.specs.Sections.{objectiveWords, clauseWords, ruleWords, placed, inRange};
 use crate::entries;
-use crate::walk;
+use crate::fields;
 
 fn put_coefficient(file: &[u8], at: usize, out: &mut [u8])
     requires { ⌜ (at + 6 ≤ length (now file)) × (1 ≤ numAt 2 (now file) at) × (numAt 2 (now file) at ≤ 512) × (length (now out) ≡ 2_048) ⌝ }
@@ -51,11 +51,11 @@ pub fn clause_section(file: &[u8], out: &mut [u8]) -> usize
     requires { ⌜ length (now out) ≡ 4_104 ⌝ }
     ensures { λ r. ⌜ (r ≡ length (planOfFile (now (file .entry)) .clauses)) × (now (out .exit) ≡ wordBytes (clauseWords (planOfFile (now (file .entry))))) ⌝ }
 {
-    let mut at = walk::first_clause(file);
+    let mut at = fields::first_clause(file);
     let mut clauses = 0;
     let mut first = 0;
     while file[at] == 3 {
-        let run = walk::clause_run(file, at + 3);
+        let run = fields::clause_run(file, at + 3);
         let place = 8 * clauses;
         let rules = run.rules;
         entries::put_clause(&mut out[place..], first, rules);
@@ -79,15 +79,15 @@ pub fn rule_section(file: &[u8], out: &mut [u8]) -> Counted
     requires { ⌜ length (now out) ≡ 20_500 ⌝ }
     ensures { λ r. ⌜ (r .rules ≡ length (rulesOf (planOfFile (now (file .entry))))) × (r .terms ≡ termCount (planOfFile (now (file .entry)))) × (now (out .exit) ≡ wordBytes (ruleWords (planOfFile (now (file .entry))))) ⌝ }
 {
-    let mut at = walk::first_rule(file);
+    let mut at = fields::first_rule(file);
     let mut rules = 0;
     let mut first = 0;
     while file[at] == 4 {
         let place = 20 * rules;
         entries::put_rule(file, at, first, &mut out[place..]);
-        first += walk::terms_of(file, at);
+        first += fields::terms_of(file, at);
         rules += 1;
-        at = walk::next_rule(file, at);
+        at = fields::next_rule(file, at);
     }
     let end = 20 * rules;
     words::clear(&mut out[end..]);
@@ -103,13 +103,13 @@ pub fn term_section(file: &[u8], terms: &mut [u8])
     requires { ⌜ length (now terms) ≡ 52_096 ⌝ }
     ensures { λ _. ⌜ now (terms .exit) ≡ wordBytes (termWords (planOfFile (now (file .entry)))) ⌝ }
 {
-    let mut at = walk::first_rule(file);
+    let mut at = fields::first_rule(file);
     let mut end = 0;
     while file[at] == 4 {
-        let count = walk::terms_of(file, at);
+        let count = fields::terms_of(file, at);
         entries::put_terms(file, at + 12, count, &mut terms[end..]);
         end += 8 * count;
-        at = walk::next_rule(file, at);
+        at = fields::next_rule(file, at);
     }
     words::clear(&mut terms[end..]);
 }

@@ -1,10 +1,10 @@
--- `tables::walk::next_rule` meets its contract.
+-- `tables::fields::next_rule` meets its contract.
 -- Assumes nothing.
 use borrow.Author.Needs.{needs}
 use mathlib.Core.Path.{ap, _∙_}
 use Rattle.tables.specs.Places.{ruleFrom}
-use Rattle.tables.proofs.walk.next_rule.Statement.{statement}
-use Rattle.tables.proofs.walk.next_rule.Tie as tie
+use Rattle.tables.proofs.fields.next_rule.Statement.{statement}
+use Rattle.tables.proofs.fields.next_rule.Tie as tie
 
 returns : tie.Need-returns
 returns c = c .rule-from .ensures ∙ ap (ruleFrom _) (c .before .after .ensures)

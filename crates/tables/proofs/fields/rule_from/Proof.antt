@@ -1,12 +1,12 @@
--- `tables::walk::rule_from` meets its contract.
+-- `tables::fields::rule_from` meets its contract.
 -- Assumes nothing.
 use borrow.Author.Needs.{needs}
 use mathlib.Core.Path.{sym, _∙_}
 use borrow.Author.Tests.{eq-eqb, ne-eqb}
 use Rattle.tables.specs.Places.{ruleFrom}
 use Rattle.tables.proofs.Judged.{tag-byte}
-use Rattle.tables.proofs.walk.rule_from.Statement.{statement}
-use Rattle.tables.proofs.walk.rule_from.Tie as tie
+use Rattle.tables.proofs.fields.rule_from.Statement.{statement}
+use Rattle.tables.proofs.fields.rule_from.Tie as tie
 
 returns : tie.Need-returns
 unfolding ruleFrom

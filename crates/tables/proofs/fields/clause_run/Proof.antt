@@ -1,4 +1,4 @@
--- `tables::walk::clause_run` meets its contract. The invariant: from the present place on stand the rules that are left, as many as were not
+-- `tables::fields::clause_run` meets its contract. The invariant: from the present place on stand the rules that are left, as many as were not
 -- counted. The measure is the bytes left.
 -- Assumes nothing.
 use borrow.Author.Needs.{needs}
@@ -10,8 +10,8 @@ use lib.ListN.{length}
 use Rattle.plpb.specs.Plan.{Rule, Clause}
 use Rattle.tables.specs.Places.{Reads, Found, Ran, behindField}
 use Rattle.tables.proofs.Found.{Running, run-start, run-more, run-end, found-room, found-body}
-use Rattle.tables.proofs.walk.clause_run.Statement.{statement}
-use Rattle.tables.proofs.walk.clause_run.Tie as tie
+use Rattle.tables.proofs.fields.clause_run.Statement.{statement}
+use Rattle.tables.proofs.fields.clause_run.Tie as tie
 
 abbrev Inv-loop : tie.InvT-loop
 Inv-loop file from at₀ rules₀ at rules = Running file from at rules

@@ -1,11 +1,11 @@
--- `tables::walk::after` meets its contract.
+-- `tables::fields::after` meets its contract.
 -- Assumes nothing.
 use borrow.Author.Needs.{needs}
 use native.Mathlib.Omega.{arith}
 use Rattle.format.specs.File.{lengthAt}
 use Rattle.tables.specs.Places.{behindField}
-use Rattle.tables.proofs.walk.after.Statement.{statement}
-use Rattle.tables.proofs.walk.after.Tie as tie
+use Rattle.tables.proofs.fields.after.Statement.{statement}
+use Rattle.tables.proofs.fields.after.Tie as tie
 
 add-result : tie.Need-add-result
 unfolding behindField lengthAt

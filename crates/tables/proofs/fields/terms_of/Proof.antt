@@ -1,11 +1,11 @@
--- `tables::walk::terms_of` meets its contract.
+-- `tables::fields::terms_of` meets its contract.
 -- Assumes nothing.
 use borrow.Author.Needs.{needs}
 use native.Mathlib.Omega.{arith}
 use mathlib.Core.Path.{_∙_}
 use Rattle.format.specs.File.{lengthAt, termsIn}
-use Rattle.tables.proofs.walk.terms_of.Statement.{statement}
-use Rattle.tables.proofs.walk.terms_of.Tie as tie
+use Rattle.tables.proofs.fields.terms_of.Statement.{statement}
+use Rattle.tables.proofs.fields.terms_of.Tie as tie
 
 sub-result : tie.Need-sub-result
 unfolding lengthAt

@@ -1,10 +1,10 @@
--- `tables::walk::first_rule` meets its contract.
+-- `tables::fields::first_rule` meets its contract.
 -- Assumes nothing.
 use borrow.Author.Needs.{needs}
 use mathlib.Core.Path.{ap, _∙_}
 use Rattle.tables.specs.Places.{ruleFrom}
-use Rattle.tables.proofs.walk.first_rule.Statement.{statement}
-use Rattle.tables.proofs.walk.first_rule.Tie as tie
+use Rattle.tables.proofs.fields.first_rule.Statement.{statement}
+use Rattle.tables.proofs.fields.first_rule.Tie as tie
 
 returns : tie.Need-returns
 returns c = c .rule-from .ensures ∙ ap (ruleFrom _) (c .before .first-clause .ensures)

@@ -1,12 +1,12 @@
--- `tables::walk::first_clause` meets its contract.
+-- `tables::fields::first_clause` meets its contract.
 -- Assumes nothing.
 use borrow.Author.Needs.{needs}
 use native.Mathlib.Omega.{arith}
 use Rattle.format.specs.File.{lengthAt}
 use Rattle.words.specs.Words.{numAt}
 use Rattle.tables.specs.Places.{firstClause}
-use Rattle.tables.proofs.walk.first_clause.Statement.{statement}
-use Rattle.tables.proofs.walk.first_clause.Tie as tie
+use Rattle.tables.proofs.fields.first_clause.Statement.{statement}
+use Rattle.tables.proofs.fields.first_clause.Tie as tie
 
 read-size-requires : tie.Need-read-size-requires
 unfolding firstClause
