@@ -1,18 +1,20 @@
 -- The search as a definition on what is lent: the refusal, the answer and the bytes left (document 01, "Who can cause which refusal" and "The walk").
 -- Assumes nothing.
 use Prim.Native.Nat.{ℕ, zero, suc}
+use mathlib.Core.Path.{_≡_}
 use mathlib.Core.Bool.{Bool, not, cond}
 use mathlib.Core.List.{List, _++_}
-use lib.Dec.{leb, ltb, eqb}
-use lib.IntN.{ℤ}
+use lib.Dec.{T, leb, ltb, eqb}
+use lib.IntN.{ℤ, pos}
 use lib.ListN.{length, drop, replicate}
 use Rattle.plpb.specs.Lists.{_and_, _or_}
-use Rattle.plpb.specs.Plan.{Plan}
+use Rattle.plpb.specs.Plan.{Plan, satisfies, cost}
 use Rattle.plpb.specs.Search.{Mode, linear, lbs, Settings, Reached, failed, reached, Ending, floor, ended, none, short-found, short-none, Answer, search}
 use Rattle.format.specs.File.{refuse}
 use Rattle.format.specs.Tables.{tableSize, termSize, planOfTables, isLoaded}
-use Rattle.tallies.specs.Layout.{assignmentSize, tallySize, bitBytes}
+use Rattle.tallies.specs.Layout.{assignmentSize, tallySize, bitsOf, bitBytes}
 use Rattle.numbers.specs.Numbers.{numbersOf}
+use Rattle.walk.specs.declared.search.Answer.{Answer as Answered}
 
 -- What the planner sets.
 pub record Asked : Type 0 where
@@ -35,7 +37,7 @@ pub record Lent : Type 0 where
   pub workMarks : List ℕ
 
 abbrev pub markSize : ℕ
-markSize = 2_560
+markSize = 512
 
 unfoldable pub tooSmall : Lent → Bool
 tooSmall l =
@@ -79,3 +81,41 @@ searchAssignment l k =
 -- "The work tables end filled with 0.", and are as they were past the full limits, and with a refusal.
 unfoldable pub cleared : Lent → Asked → ℕ → List ℕ → List ℕ
 cleared l k size bytes = cond (eqb (searchRefusal l k) 0) (replicate size 0 ++ drop size bytes) bytes
+
+-- The endings by number; 0 stands for a search that was refused.
+unfoldable pub endingNumber : Ending → ℕ
+endingNumber floor = 1
+endingNumber ended = 2
+endingNumber none = 3
+endingNumber short-found = 4
+endingNumber short-none = 5
+
+-- What is answered where nothing is refused, and what else.
+unfoldable pub unless : {A : Type 0} → Lent → Asked → A → A → A
+unless l k refused answered = cond (eqb (searchRefusal l k) 0) answered refused
+
+-- A search of what is lent and set gives this answer, and leaves this of what was lent.
+pub record Searches (l : Lent) (k : Asked) (r : Answered) (left : Lent) : Type 0 where
+  pub refusal : r .refusal ≡ searchRefusal l k
+  pub ending : r .ending ≡ unless l k 0 (endingNumber (answer l k .ending))
+  pub cost : r .cost ≡ unless l k (pos 0) (answer l k .cost)
+  pub finds : r .finds ≡ unless l k 0 (answer l k .finds)
+  pub flips : r .flips ≡ unless l k 0 (answer l k .flips)
+  pub used : r .used ≡ unless l k 0 (answer l k .used)
+  pub assignment : left .assignment ≡ searchAssignment l k
+  pub workTables : left .workTables ≡ cleared l k tableSize (l .workTables)
+  pub workTerms : left .workTerms ≡ cleared l k termSize (l .workTerms)
+  pub workAssignment : left .workAssignment ≡ cleared l k assignmentSize (l .workAssignment)
+  pub workTallies : left .workTallies ≡ cleared l k tallySize (l .workTallies)
+  pub workMarks : left .workMarks ≡ cleared l k markSize (l .workMarks)
+
+-- Whether an ending, by its number, comes with a plan.
+unfoldable pub hasPlan : ℕ → Bool
+hasPlan e = eqb e 1 or eqb e 2 or eqb e 4
+
+-- What a crew relies on: "A plan handed out satisfies every clause", and the cost is its cost.
+unfoldable pub HandsOut : Lent → Answered → List ℕ → Type 0
+HandsOut l r assignment =
+    let p = planOfTables (l .tables) (l .terms) in
+    let a = bitsOf (p .variables) assignment in
+    T (hasPlan (r .ending)) → T (satisfies a p) × (r .cost ≡ cost p a)

@@ -1,0 +1,81 @@
+-- What the whole search needs of tables that passed its tests, and what it answers and leaves before the work tables are cleared.
+-- Assumes nothing.
+use Prim.Native.Nat.{ℕ, _/_, _≤_}
+use mathlib.Core.Path.{_≡_}
+use mathlib.Core.List.{List, [], _∷_}
+use lib.Dec.{T}
+use lib.IntN.{pos}
+use lib.ListN.{length}
+use Rattle.plpb.specs.Plan.{Plan, Assignment, satisfies}
+use Rattle.plpb.specs.Walk.{run}
+use Rattle.plpb.specs.Search.{Settings, Reached, failed, reached, gap, tighten, Answer, conclude, search}
+use Rattle.plpb.proofs.Walks.{at}
+use Rattle.format.specs.Limits.{lawful}
+use Rattle.format.specs.Tables.{Holds, planOfTables, tableSize, termSize, isLoaded}
+use Rattle.tallies.specs.Layout.{assignmentSize, tallySize, bitsOf, areBits}
+use Rattle.numbers.specs.Numbers.{numbersOf}
+use Rattle.walk.specs.declared.tightening.Ending.{Ending as EndingOf}
+use Rattle.walk.specs.declared.tightening.Ending.the-variants as code
+use Rattle.walk.specs.declared.tightening.Searched.{Searched}
+use Rattle.walk.specs.Calls.{markSize, withFind}
+use Rattle.walk.specs.Steps.{Work, Beyond, bitsIn}
+use Rattle.walk.specs.Bounds.{answerOf}
+
+-- Nothing was found.
+pub record Empty (e : EndingOf) (used flips : ℕ) (r : Searched) : Type 0 where
+  pub ending : r .ending ≡ e
+  pub cost : r .stand .cost ≡ pos 0
+  pub finds : r .stand .finds ≡ 0
+  pub flips-made : r .stand .flips ≡ flips
+  pub numbers-used : r .stand .used ≡ used
+
+-- The walk's buffers have room for any plan.
+pub record Roomy (w : Work) : Type 0 where
+  pub assignment : assignmentSize ≤ length (w .assignment)
+  pub tallies : tallySize ≤ length (w .tallies)
+  pub marks : markSize ≤ length (w .marks)
+
+-- Tables of a lawful plan, and the first assignment found for it.
+pub record FirstFind (tables terms numbers : List ℕ) (used flips : ℕ) (assignment : List ℕ) (w : Work) : Type 0 where
+  pub lawful : T (lawful (planOfTables tables terms))
+  pub holds : Holds (planOfTables tables terms) tables terms
+  pub room : assignmentSize ≤ length assignment
+  pub work : Roomy w
+  pub bits : T (areBits (planOfTables tables terms .variables) (w .assignment))
+  pub some : 1 ≤ used
+  pub few : flips ≤ used
+  pub within : used ≤ length numbers / 4
+
+-- The tightening from there comes to this answer, and the assignment is the last find.
+pub record FromFind (s : Settings) (tables terms numbers : List ℕ) (used flips : ℕ) (r : Searched) (entry exit : List ℕ) (w v : Work) : Type 0 where
+  pub answers :
+      conclude (planOfTables tables terms)
+      (run (tighten (s .mode) s (planOfTables tables terms) (gap (planOfTables tables terms) (bitsIn tables terms w)) (bitsIn tables terms w))
+      (numbersOf numbers) (at used flips (bitsIn tables terms w ∷ [])))
+      ≡ answerOf (r .ending) (r .stand) (reached (bitsOf (planOfTables tables terms .variables) exit))
+  pub find : exit ≡ withFind (reached (bitsOf (planOfTables tables terms .variables) exit)) (planOfTables tables terms .variables) entry
+  pub beyond : Beyond (planOfTables tables terms .variables) w v
+
+-- Tables that passed the test for 22, and room for everything.
+pub record Searchable (tables terms assignment workTables workTerms : List ℕ) (w : Work) : Type 0 where
+  pub loaded : T (isLoaded tables terms)
+  pub long : tableSize ≤ length tables
+  pub long-terms : termSize ≤ length terms
+  pub room : assignmentSize ≤ length assignment
+  pub work-long : tableSize ≤ length workTables
+  pub work-long-terms : termSize ≤ length workTerms
+  pub work : Roomy w
+
+-- The last find, if there is one.
+unfoldable pub lastOf : EndingOf → Assignment → Reached
+lastOf code.Floor a = reached a
+lastOf code.Ended a = reached a
+lastOf code.None a = failed
+lastOf code.ShortFound a = reached a
+lastOf code.ShortNone a = failed
+
+-- The search of a plan, whole.
+pub record Whole (s : Settings) (p : Plan) (numbers : List ℕ) (r : Searched) (entry exit : List ℕ) (w v : Work) : Type 0 where
+  pub answers : search s p (numbersOf numbers) ≡ answerOf (r .ending) (r .stand) (lastOf (r .ending) (bitsOf (p .variables) exit))
+  pub find : exit ≡ withFind (search s p (numbersOf numbers) .assignment) (p .variables) entry
+  pub beyond : Beyond (p .variables) w v

@@ -1,0 +1,94 @@
+// One step of the walk (Algorithm 1, lines 5 to 7): an unsatisfied clause is picked, a variable of it chosen and flipped.
+ghost use mathlib.Core.Path.{_≡_};
+ghost use mathlib.Core.Bool.{true, cond};
+ghost use mathlib.Core.List.{List, []};
+ghost use Prim.Native.Nat.{ℕ, _+_, _/_, _≤_, _<_};
+ghost use lib.ListN.{length, getD};
+ghost use Rattle.plpb.specs.Plan.{Assignment, flip as flipped};
+ghost use Rattle.plpb.specs.Tallies.{unsatisfied, freshCount};
+ghost use Rattle.words.specs.Words.{wordAt};
+ghost use Rattle.format.specs.Tables.{planOfTables};
+ghost use Rattle.walk.specs.Steps.{Walking, Moves, InClause, settingsOf};
+use crate::tries::Settings;
+use choice::choose::Chosen;
+use choice::choose::choose;
+use numbers::Picked;
+use numbers::nth_zero;
+use numbers::pick;
+use tallies::flip::flip_core;
+use words::index;
+
+// Whether a flip was made, or too few numbers were left for one, and how many are used after it.
+pub struct Moved {
+    pub made: bool,
+    pub used: usize,
+}
+
+// "choose a variable of it; flip"
+fn flip_in(
+    tables: &[u8],
+    terms: &[u8],
+    numbers: &[u8],
+    used: usize,
+    s: Settings,
+    c: usize,
+    assignment: &mut [u8],
+    tallies: &mut [u8],
+    marks: &mut [u8],
+) -> Moved
+    requires { ⌜ Walking (now tables) (now terms) (record { assignment = now assignment; tallies = now tallies; marks = now marks }) × (c < wordAt (now tables) 1) × (used ≤ length (now numbers) / 4) ⌝ }
+    ensures { λ r. ⌜ InClause (settingsOf s) (now (tables .entry)) (now (terms .entry)) (now (numbers .entry)) used c r (record { assignment = now (assignment .entry); tallies = now (tallies .entry); marks = now (marks .entry) }) (record { assignment = now (assignment .exit); tallies = now (tallies .exit); marks = now (marks .exit) }) ⌝ }
+{
+    let v = choose(tables, terms, assignment, numbers, used, s.noise, c, marks);
+    match v {
+        Chosen::At(x, after) => {
+            flip_core(tables, terms, assignment, tallies, x);
+            Moved {
+                made: true,
+                used: after,
+            }
+        }
+        Chosen::Short(after) => Moved {
+            made: false,
+            used: after,
+        },
+    }
+}
+
+// "pick an unsatisfied clause": the tallies say how many there are and which.
+pub fn make_move(
+    tables: &[u8],
+    terms: &[u8],
+    numbers: &[u8],
+    used: usize,
+    s: Settings,
+    assignment: &mut [u8],
+    tallies: &mut [u8],
+    marks: &mut [u8],
+) -> Moved
+    requires { ⌜ Walking (now tables) (now terms) (record { assignment = now assignment; tallies = now tallies; marks = now marks }) × (0 < wordAt (now tallies) 1538) × (used ≤ length (now numbers) / 4) ⌝ }
+    ensures { λ r. ⌜ Moves (settingsOf s) (now (tables .entry)) (now (terms .entry)) (now (numbers .entry)) used r (record { assignment = now (assignment .entry); tallies = now (tallies .entry); marks = now (marks .entry) }) (record { assignment = now (assignment .exit); tallies = now (tallies .exit); marks = now (marks .exit) }) ⌝ }
+{
+    let unsatisfied = index(tallies, 1538);
+    let p = pick(numbers, used, unsatisfied);
+    match p {
+        Picked::At(k, after) => {
+            let c = nth_zero(tallies, 1025, index(tables, 1), k);
+            flip_in(
+                tables,
+                terms,
+                numbers,
+                after,
+                s,
+                c,
+                assignment,
+                tallies,
+                marks,
+            )
+        }
+        Picked::Short(after) => Moved {
+            made: false,
+            used: after,
+        },
+    }
+}

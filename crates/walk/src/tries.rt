@@ -1,0 +1,134 @@
+// One call of the walk (Algorithm 1): tries, each with its start and its flips.
+ghost use mathlib.Core.Path.{_≡_};
+ghost use Prim.Native.Nat.{_+_, _/_, _≤_};
+ghost use lib.ListN.{length};
+ghost use Rattle.plpb.specs.Search.{flipping, try, call as called};
+ghost use Rattle.format.specs.Tables.{planOfTables};
+ghost use Rattle.walk.specs.Steps.{Startable, Walking, Tries, bitsIn, settingsOf};
+use crate::moves::make_move;
+use numbers::Started;
+use numbers::start;
+use tallies::open::open_core;
+use words::index;
+use words::word;
+
+// What the planner sets.
+pub struct Settings {
+    pub noise: u32,
+    pub tries: u32,
+    pub flips: u32,
+    pub mode: u32,
+}
+
+// What a try or a call comes to, with how many numbers are used and flips made after it.
+pub enum Tried {
+    Reached(usize, usize),
+    Failed(usize, usize),
+    Short(usize, usize),
+}
+
+// "for each of the allowed flips: if no clause is unsatisfied, return; .. flip"
+fn make_flips(
+    tables: &[u8],
+    terms: &[u8],
+    numbers: &[u8],
+    begun: usize,
+    before: usize,
+    s: Settings,
+    assignment: &mut [u8],
+    tallies: &mut [u8],
+    marks: &mut [u8],
+) -> Tried
+    requires { ⌜ Walking (now tables) (now terms) (record { assignment = now assignment; tallies = now tallies; marks = now marks }) × (begun ≤ length (now numbers) / 4) × (before ≤ begun) ⌝ }
+    ensures { λ r. ⌜ Tries (flipping (settingsOf s) (planOfTables (now (tables .entry)) (now (terms .entry))) (s .flips) (bitsIn (now (tables .entry)) (now (terms .entry)) (record { assignment = now (assignment .entry); tallies = now (tallies .entry); marks = now (marks .entry) }))) (now (tables .entry)) (now (terms .entry)) (now (numbers .entry)) begun before begun r (record { assignment = now (assignment .entry); tallies = now (tallies .entry); marks = now (marks .entry) }) (record { assignment = now (assignment .exit); tallies = now (tallies .exit); marks = now (marks .exit) }) ⌝ }
+{
+    let mut used = begun;
+    let mut made = before;
+    let mut left = s.flips;
+    while 0 < left {
+        if word(tallies, 1538) == 0 {
+            return Tried::Reached(used, made);
+        }
+        let m = make_move(tables, terms, numbers, used, s, assignment, tallies, marks);
+        used = m.used;
+        if !m.made {
+            return Tried::Short(used, made);
+        }
+        made += 1;
+        left -= 1;
+    }
+    Tried::Failed(used, made)
+}
+
+// One try: its start, the tallies of that, its flips.
+fn try_once(
+    tables: &[u8],
+    terms: &[u8],
+    numbers: &[u8],
+    used: usize,
+    made: usize,
+    s: Settings,
+    assignment: &mut [u8],
+    tallies: &mut [u8],
+    marks: &mut [u8],
+) -> Tried
+    requires { ⌜ Startable (now tables) (now terms) (record { assignment = now assignment; tallies = now tallies; marks = now marks }) × (used ≤ length (now numbers) / 4) × (made ≤ used) ⌝ }
+    ensures { λ r. ⌜ Tries (try (settingsOf s) (planOfTables (now (tables .entry)) (now (terms .entry)))) (now (tables .entry)) (now (terms .entry)) (now (numbers .entry)) used made (used + 1) r (record { assignment = now (assignment .entry); tallies = now (tallies .entry); marks = now (marks .entry) }) (record { assignment = now (assignment .exit); tallies = now (tallies .exit); marks = now (marks .exit) }) ⌝ }
+{
+    let n = index(tables, 0);
+    let Started::Taken(after) = start(numbers, used, n, assignment) else {
+        return Tried::Short(used, made);
+    };
+    open_core(tables, terms, assignment, tallies);
+    make_flips(
+        tables,
+        terms,
+        numbers,
+        after,
+        made,
+        s,
+        assignment,
+        tallies,
+        marks,
+    )
+}
+
+// One call: tries until one reaches an assignment that satisfies the plan.
+pub fn call(
+    tables: &[u8],
+    terms: &[u8],
+    numbers: &[u8],
+    begun: usize,
+    before: usize,
+    s: Settings,
+    assignment: &mut [u8],
+    tallies: &mut [u8],
+    marks: &mut [u8],
+) -> Tried
+    requires { ⌜ Startable (now tables) (now terms) (record { assignment = now assignment; tallies = now tallies; marks = now marks }) × (begun ≤ length (now numbers) / 4) × (before ≤ begun) ⌝ }
+    ensures { λ r. ⌜ Tries (called (settingsOf s) (planOfTables (now (tables .entry)) (now (terms .entry)))) (now (tables .entry)) (now (terms .entry)) (now (numbers .entry)) begun before (begun + 1) r (record { assignment = now (assignment .entry); tallies = now (tallies .entry); marks = now (marks .entry) }) (record { assignment = now (assignment .exit); tallies = now (tallies .exit); marks = now (marks .exit) }) ⌝ }
+{
+    let mut used = begun;
+    let mut made = before;
+    let mut left = s.tries;
+    while 0 < left {
+        let t = try_once(
+            tables,
+            terms,
+            numbers,
+            used,
+            made,
+            s,
+            assignment,
+            tallies,
+            marks,
+        );
+        let Tried::Failed(u, f) = t else {
+            return t;
+        };
+        used = u;
+        made = f;
+        left -= 1;
+    }
+    Tried::Failed(used, made)
+}
