@@ -234,9 +234,10 @@ pub fn search(
         work_tallies,
         work_marks,
     );
+    let ending = r.ending;
     Answer {
         refusal: 0,
-        ending: number_of(r.ending),
+        ending: number_of(ending),
         cost: r.stand.cost,
         finds: r.stand.finds,
         flips: r.stand.flips,
