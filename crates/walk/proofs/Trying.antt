@@ -5,8 +5,8 @@ use mathlib.Core.Path.{_≡_, refl, sym, ap, _∙_, subst}
 use mathlib.Core.Bool.{Bool, true, false, not, cond, true≢false}
 use mathlib.Core.Logic.{_≢_}
 use mathlib.Core.List.{List, [], _∷_, _++_}
-use lib.Dec.{T, eqb}
-use lib.ListN.{length, drop}
+use lib.Dec.{T, leb, eqb}
+use lib.ListN.{length, take, drop}
 use borrow.Author.Tests.{eq-eqb, ne-eqb}
 use Rattle.plpb.specs.Lists.{count}
 use Rattle.plpb.specs.Plan.{Plan, Assignment, satisfies}
@@ -19,13 +19,14 @@ use Rattle.words.specs.Words.{wordAt}
 use Rattle.format.specs.Tables.{planOfTables}
 use Rattle.tallies.specs.Layout.{tallySize, bitsOf, bitBytes, areBits}
 use Rattle.tallies.specs.Core.{Ready, counted}
-use Rattle.tallies.proofs.Bits.{drop-bytes, bitsOf-bytes, areBits-bytes}
+use Rattle.tallies.proofs.Bits.{length-bitBytes, drop-bytes, bitsOf-bytes, areBits-bytes}
+use Rattle.tallies.proofs.Laid.{parts, variables-word}
 use Rattle.tallies.proofs.TallyBytes.{roomy-fits, take-fresh, drop-fresh}
 use Rattle.numbers.specs.declared.Started.{Started}
 use Rattle.numbers.specs.declared.Started.the-variants as started
 use Rattle.numbers.specs.Numbers.{numbersOf}
 use Rattle.numbers.specs.Taking.{Starts}
-use Rattle.numbers.proofs.Taking.{length-numbersOf, started-taken, started-short, words-use, words-gone}
+use Rattle.numbers.proofs.Taking.{length-numbersOf, length-start, started-taken, started-short, words-use, words-gone}
 use Rattle.numbers.proofs.Finding.{look-by-count}
 use Rattle.numbers.proofs.Runs.{counted as counted-down, flipping-none, flipping-found, flipping-moved, flipping-short, try-started, try-short, trying-none, trying-next, trying-found, trying-short, run-call}
 use Rattle.walk.specs.declared.moves.Moved.{Moved}
@@ -161,4 +162,97 @@ module _ {s : Settings} {tables terms numbers : List ℕ} {begun before : ℕ} {
         within = i .within;
         flipped = i .flipped;
         beyond = i .beyond;
+      }
+
+-- ---- a try
+
+if-reached : (r : Tried) {A B : Type 0} → (A → B) → IfReached r A → IfReached r B
+unfolding IfReached
+if-reached (tried.Reached used flips) f a = f a
+if-reached (tried.Failed used flips) f a = tt
+if-reached (tried.Short used flips) f a = tt
+
+-- Where too few are left, none is taken.
+few-left : (b : Bool) (ws : List ℕ) (w : ℕ) {u v : ℕ} → cond b (taken ws w) (tooFew u) ≡ tooFew v → u ≡ v
+few-left true ws w e = let z : _≡_ {A = ℕ} 0 1 = cc in absurd (omega arith)
+few-left false ws w e = cc
+
+words-left : (k : ℕ) (ns : List ℕ) {u v : ℕ} → takeWords k ns u ≡ tooFew v → u ≡ v
+unfolding takeWords
+words-left k ns {u} e = few-left (leb (u + k) (length ns)) (take k (drop u ns)) (u + k) e
+
+module _ {tables terms : List ℕ} (numbers : List ℕ) {used made : ℕ} {w : Work} (k : Startable tables terms w) (few : made ≤ used)
+    {n : ℕ} (size : n ≡ wordAt tables 0) {r : Started} {bytes : List ℕ} (h : Starts n (takeWords (startWords n) (numbersOf numbers) used) (w .assignment) r bytes) where
+  abbrev q : Plan
+  q = planOfTables tables terms
+
+  named : n ≡ q .variables
+  named = size ∙ sym (variables-word tables terms (k .ready .laid))
+
+  module _ {after : ℕ} (e : r ≡ started.Taken after) where
+    abbrev drew : (ws : List ℕ) × (takeWords (startWords n) (numbersOf numbers) used ≡ taken ws after) × (bytes ≡ bitBytes (startOf n ws) ++ drop n (w .assignment))
+    drew = started-taken (takeWords (startWords n) (numbersOf numbers) used) h e
+
+    start-size : length (startOf n (drew .0)) ≡ n
+    start-size = sym (length-bitBytes (startOf n (drew .0))) ∙ length-start n (drew .0)
+
+    started-bits : bitsOf (q .variables) bytes ≡ startOf n (drew .0)
+    started-bits = ap (λ m. bitsOf m bytes) (sym named) ∙ ap (bitsOf n) (drew .2) ∙ bitsOf-bytes n (startOf n (drew .0)) (drop n (w .assignment)) start-size
+
+    pub started-uses : (used + 1 ≤ after) × (after ≤ length numbers / 4) × (made ≤ after)
+    unfolding startWords
+    started-uses =
+        let u = words-use (startWords n) (numbersOf numbers) used (drew .1) in
+        let low : 1 ≤ n = omega (arith, named, parts tables terms (k .ready .laid) .low) in
+        (omega (arith, u .0), omega (arith, u .1, length-numbersOf numbers), omega (arith, u .0))
+
+    pub started-ready : length bytes ≡ length (w .assignment) → Ready tables terms bytes
+    started-ready l = record { laid = k .ready .laid; bytes = omega (arith, k .ready .bytes) }
+
+    module _ {tallies : List ℕ} (l : length bytes ≡ length (w .assignment)) (y : tallies ≡ counted tables terms bytes (w .tallies)) where
+      abbrev begun : Work
+      begun = record { assignment = bytes; tallies = tallies; marks = w .marks }
+
+      pub started-walking : Walking tables terms begun
+      started-walking =
+          record {
+            ready = started-ready l;
+            bits = rw (← named, drew .2) (areBits-bytes n (startOf n (drew .0)) (drop n (w .assignment)) start-size);
+            fresh = rw y (take-fresh q (roomy-fits q (k .ready .laid .room)) _ _);
+            marks = k .marks;
+          }
+
+      pub tried-once : (s : Settings) {t : Tried} {v : Work} → Tries (flipping s q (s .flips) (bitsIn tables terms begun)) tables terms numbers after made after t begun v
+          → Tries (try s q) tables terms numbers used made (used + 1) t w v
+      tried-once s {t} {v} g =
+          let u = started-uses in
+          record {
+            outcome = λ fs. try-started s q (numbersOf numbers) (at used made fs) (ap (λ m. takeWords (startWords m) (numbersOf numbers) used) (sym named) ∙ drew .1)
+                ∙ ap (λ a. run (flipping s q (s .flips) a) (numbersOf numbers) (at after made fs)) (ap (λ m. startOf m (drew .0)) (sym named) ∙ sym started-bits)
+                ∙ g .outcome fs;
+            finds = if-reached t (λ f. record { bits = f .bits; satisfied = f .satisfied; uses = omega (arith, f .uses, u .0) }) (g .finds);
+            uses = omega (arith, g .uses, u .0);
+            within = g .within;
+            flipped = g .flipped;
+            beyond = beyond-on (record {
+              assignment = rw (← named, drew .2) (drop-bytes n (startOf n (drew .0)) (drop n (w .assignment)) start-size);
+              tallies = rw y (drop-fresh q (roomy-fits q (k .ready .laid .room)) _ _);
+              marks = refl;
+            }) (g .beyond);
+          }
+
+  pub no-start : (s : Settings) {after : ℕ} {v : Work} → used ≤ length numbers / 4 → r ≡ started.Short after
+      → v .assignment ≡ bytes → v .tallies ≡ w .tallies → v .marks ≡ w .marks
+      → Tries (try s q) tables terms numbers used made (used + 1) (tried.Short used made) w v
+  unfolding triedOf usedBy flipsBy IfReached
+  no-start s {after} {v} l e a y m =
+      let d = started-short (takeWords (startWords n) (numbersOf numbers) used) h e in
+      let same = words-left (startWords n) (numbersOf numbers) (d .0) in
+      record {
+        outcome = λ fs. try-short s q (numbersOf numbers) (at used made fs) (ap (λ m. takeWords (startWords m) (numbersOf numbers) used) (sym named) ∙ d .0) ∙ ap (λ u. short (at u made fs)) (sym same);
+        finds = tt;
+        uses = omega arith;
+        within = l;
+        flipped = few;
+        beyond = record { assignment = ap (drop (q .variables)) (a ∙ d .1); tallies = ap (drop tallySize) y; marks = ap (drop (q .variables)) m };
       }
