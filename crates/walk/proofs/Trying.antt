@@ -8,6 +8,8 @@ use mathlib.Core.List.{List, [], _∷_, _++_}
 use lib.Dec.{T, leb, eqb}
 use lib.ListN.{length, take, drop}
 use borrow.Author.Tests.{eq-eqb, ne-eqb}
+use types.Run.{OneOf, miss}
+use denote.Enum.Declared.{tagOf}
 use Rattle.plpb.specs.Lists.{count}
 use Rattle.plpb.specs.Plan.{Plan, Assignment, satisfies}
 use Rattle.plpb.specs.Tallies.{unsatisfied, freshCount}
@@ -31,6 +33,7 @@ use Rattle.numbers.proofs.Finding.{look-by-count}
 use Rattle.numbers.proofs.Runs.{counted as counted-down, flipping-none, flipping-found, flipping-moved, flipping-short, try-started, try-short, trying-none, trying-next, trying-found, trying-short, run-call}
 use Rattle.walk.specs.declared.moves.Moved.{Moved}
 use Rattle.walk.specs.declared.tries.Tried.{Tried}
+use Rattle.walk.proofs.tries.Tried.{the-type}
 use Rattle.walk.specs.declared.tries.Tried.the-variants as tried
 use Rattle.walk.specs.Steps.{Work, bitsIn, Startable, Walking, Beyond, movedOf, Moves, triedOf, usedBy, flipsBy, IfReached, Finds, Tries}
 use Rattle.walk.proofs.Moving.{unsatisfied-word}
@@ -255,4 +258,112 @@ module _ {tables terms : List ℕ} (numbers : List ℕ) {used made : ℕ} {w : W
         within = l;
         flipped = few;
         beyond = record { assignment = ap (drop (q .variables)) (a ∙ d .1); tallies = ap (drop tallySize) y; marks = ap (drop (q .variables)) m };
+      }
+
+-- ---- a call
+
+-- What the tries have come to: as many are left, from another place in the list.
+pub record Calling (s : Settings) (tables terms numbers : List ℕ) (begun before : ℕ) (w : Work) (used made left : ℕ) (v : Work) : Type 0 where
+  pub startable : Startable tables terms v
+  pub outcome :
+      (fs : List Assignment)
+      → run (call s (planOfTables tables terms)) (numbersOf numbers) (at begun before fs)
+      ≡ run (trying s (planOfTables tables terms) left) (numbersOf numbers) (at used made fs)
+  pub uses : begun ≤ used
+  pub flipped : made ≤ used
+  pub within : used ≤ length numbers / 4
+  pub beyond : Beyond (planOfTables tables terms .variables) w v
+  pub sized : Sized w v
+
+pub calls-begin : (s : Settings) {tables terms numbers : List ℕ} {begun before : ℕ} {w : Work} → Startable tables terms w → begun ≤ length numbers / 4 → before ≤ begun
+    → Calling s tables terms numbers begun before w begun before (s .tries) w
+calls-begin s k l h =
+    record {
+      startable = k;
+      outcome = λ fs. run-call s _ _ (at _ _ fs);
+      uses = omega arith;
+      flipped = h;
+      within = l;
+      beyond = beyond-same _ _;
+      sized = record { assignment = refl; tallies = refl; marks = refl };
+    }
+
+startable-on : {tables terms : List ℕ} {w v : Work} → Startable tables terms w → Sized w v → Startable tables terms v
+startable-on k z =
+    record {
+      ready = record { laid = k .ready .laid; bytes = omega (arith, k .ready .bytes, z .assignment) };
+      room = omega (arith, k .room, z .tallies);
+      marks = record { laid = k .marks .laid; bytes = omega (arith, k .marks .bytes, z .marks) };
+    }
+
+unfoldable pub isFailed : Tried → Bool
+isFailed (tried.Reached used flips) = false
+isFailed (tried.Failed used flips) = true
+isFailed (tried.Short used flips) = false
+
+-- What is left where the code has told a failure apart.
+pub not-failed : (t : Tried) → OneOf (0 ∷ 2 ∷ []) (tagOf the-type t) → isFailed t ≡ false
+unfolding isFailed
+not-failed (tried.Reached used flips) k = refl
+not-failed (tried.Failed used flips) k = absurd (miss (0 ∷ 2 ∷ []) 1 tt k)
+not-failed (tried.Short used flips) k = refl
+
+module _ {s : Settings} {tables terms numbers : List ℕ} {begun before : ℕ} {w : Work} {used made left : ℕ} {v : Work} (i : Calling s tables terms numbers begun before w used made left v) where
+  abbrev o : Plan
+  o = planOfTables tables terms
+
+  module _ (h : 0 < left) where
+    again : (fs : List Assignment) → run (call s o) (numbersOf numbers) (at begun before fs) ≡ run (trying s o (suc (left - 1))) (numbersOf numbers) (at used made fs)
+    again fs = i .outcome fs ∙ ap (λ k. run (trying s o k) (numbersOf numbers) (at used made fs)) (counted-down left h)
+
+    pub calls-more : {u : Work} {after flips : ℕ} (t : Tried) → t ≡ tried.Failed after flips → Tries (try s o) tables terms numbers used made (used + 1) t v u → Sized v u
+        → Calling s tables terms numbers begun before w after flips (left - 1) u
+    unfolding triedOf usedBy flipsBy
+    calls-more {u} {after} {flips} t e g z =
+        let ua : usedBy t ≡ after = ap usedBy e in
+        let fa : flipsBy t ≡ flips = ap flipsBy e in
+        record {
+          startable = startable-on (i .startable) z;
+          outcome = λ fs. again fs ∙ trying-next s o (numbersOf numbers) (at used made fs) (left - 1) (g .outcome fs ∙ ap (λ d. triedOf d (bitsIn tables terms u) fs) e);
+          uses = omega (arith, i .uses, g .uses);
+          flipped = omega (arith, g .flipped);
+          within = omega (arith, g .within);
+          beyond = beyond-on (i .beyond) (g .beyond);
+          sized = sized-on (i .sized) (z .assignment) (z .tallies) (z .marks);
+        }
+
+    pub calls-done : {u : Work} (t : Tried) → isFailed t ≡ false → Tries (try s o) tables terms numbers used made (used + 1) t v u
+        → Tries (call s o) tables terms numbers begun before (begun + 1) t w u
+    unfolding isFailed triedOf usedBy flipsBy IfReached
+    calls-done (tried.Reached after flips) e g =
+        record {
+          outcome = λ fs. again fs ∙ trying-found s o (numbersOf numbers) (at used made fs) (left - 1) (g .outcome fs);
+          finds = record { bits = g .finds .bits; satisfied = g .finds .satisfied; uses = omega (arith, g .finds .uses, i .uses) };
+          uses = omega (arith, i .uses, g .uses);
+          within = g .within;
+          flipped = g .flipped;
+          beyond = beyond-on (i .beyond) (g .beyond);
+        }
+    calls-done (tried.Failed after flips) e g = absurd (true≢false e)
+    calls-done (tried.Short after flips) e g =
+        record {
+          outcome = λ fs. again fs ∙ trying-short s o (numbersOf numbers) (at used made fs) (left - 1) (g .outcome fs);
+          finds = tt;
+          uses = omega (arith, i .uses, g .uses);
+          within = g .within;
+          flipped = g .flipped;
+          beyond = beyond-on (i .beyond) (g .beyond);
+        }
+
+  pub calls-end : left ≤ 0 → Tries (call s o) tables terms numbers begun before (begun + 1) (tried.Failed used made) w v
+  unfolding triedOf usedBy flipsBy IfReached
+  calls-end h =
+      let e : left ≡ 0 = omega arith in
+      record {
+        outcome = λ fs. i .outcome fs ∙ ap (λ k. run (trying s o k) (numbersOf numbers) (at used made fs)) e ∙ trying-none s o (numbersOf numbers) (at used made fs);
+        finds = tt;
+        uses = i .uses;
+        within = i .within;
+        flipped = i .flipped;
+        beyond = i .beyond;
       }
