@@ -1,0 +1,2 @@
+-- What holds of walk.bin.
+pub mod Judging

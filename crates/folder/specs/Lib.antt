@@ -1,0 +1,2 @@
+-- What the program reads from its folder.
+pub mod Files
