@@ -1,15 +1,15 @@
 -- Laws that join the tests of the code, one after the other, to the definition of walk.bin.
 -- Assumes nothing.
-use Prim.Native.Nat.{ℕ, zero, suc, _+_, _≤_, _<_}
+use Prim.Native.Nat.{ℕ, suc, _+_, _≤_, _<_}
 use native.Mathlib.Omega.{arith}
 use mathlib.Core.Path.{_≡_, refl, sym, ap, _∙_}
-use mathlib.Core.Bool.{Bool, true, false, not, cond}
+use mathlib.Core.Bool.{Bool, true, false}
 use mathlib.Core.List.{List}
-use lib.Dec.{ltb, eqb}
+use lib.Dec.{eqb}
 use lib.ListN.{length, getD}
 use borrow.Author.Tests.{eq-eqb, ne-eqb, lt-ltb, le-ltb, ltb-false, eqb-true, not-false}
 use Rattle.words.specs.Words.{numAt}
-use Rattle.format.specs.File.{refused, accepted, refuse, tagAt, lengthAt}
+use Rattle.format.specs.File.{refuse, tagAt, lengthAt}
 use Rattle.walk.specs.Calls.{Asked, settingsRefusal}
 use Rattle.folder.specs.Files.{askedIn, walkFault, judged, readWalk, walked}
 use Rattle.folder.specs.declared.files.Walked.the-variants.{Settings, Refused}
