@@ -83,9 +83,9 @@ fn byte_word(b: u8) -> u32
 pub fn judge_walk(file: &[u8]) -> Walked
     ensures { λ r. ⌜ r ≡ walked (readWalk (now (file .entry))) ⌝ }
 {
-    let fault = head_fault(file);
-    if fault != 0 {
-        return Walked::Refused(fault, 0);
+    let head = head_fault(file);
+    if head != 0 {
+        return Walked::Refused(head, 0);
     }
     if 12 < file.len() {
         return Walked::Refused(7, 12);

@@ -12,10 +12,10 @@ use Rattle.folder.proofs.lines.put_signed.Statement.{statement}
 use Rattle.folder.proofs.lines.put_signed.Tie as tie
 
 put-number-requires : tie.Need-put-number-requires
-put-number-requires c κs = let a = c .before .before .before .before .args in omega (arith, c .before .before .before .before .pre, length-set (a .out .now) (a .at) 45)
+put-number-requires c κs = simp length-set (omega arith)
 
 same-length : tie.Need-same-length
-same-length c = let a = c .before .before .before .before .before .before .before .args in c .before .before .put-number .kept .0 ∙ length-set (a .out .now) (a .at) 45
+same-length c = let a = c .before .before .before .before .before .before .before .args in c .before .before .put-number .kept .0 ∙ length-set (a .out .now) (a .at) _
 
 returns : tie.Need-returns
 returns c =
