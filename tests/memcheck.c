@@ -41,7 +41,8 @@ int main(int count, char **arguments) {
     uint8_t *lent[BUFFERS], *work[BUFFERS];
     /* The last round has every size as it must be; in each before it one buffer is one byte short. */
     for (int shortened = 0; shortened <= BUFFERS; shortened++) {
-        uint32_t small = PLANNER_BUFFER_TOO_SMALL, load = shortened < 2 ? small : 0, call = shortened < 4 ? small : 0, search = shortened < 5 ? small : 0;
+        uint32_t small = PLANNER_BUFFER_TOO_SMALL;
+        uint32_t load = shortened < 2 ? small : 0, call = shortened < 4 ? small : 0, search = shortened < 5 ? small : 0;
         for (int i = 0; i < BUFFERS; i++) {
             size[i] = sizes[i] - (i == shortened);
             lent[i] = block(size[i]);
