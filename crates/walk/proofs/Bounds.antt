@@ -1,57 +1,43 @@
 -- Laws of the tightening: tables with the added clause, what a call under its bound comes to, and what tightening from a find comes to, step by step.
 -- Assumes nothing.
-use Prim.Native.Nat.{ℕ, zero, suc, _+_, _-_, _/_, _≤_, _<_}
+use Prim.Native.Nat.{ℕ, _+_, _-_, _≤_}
 use native.Mathlib.Omega.{arith}
-use mathlib.Core.Path.{_≡_, refl, sym, ap, ap₂, _∙_, subst}
-use mathlib.Core.Bool.{Bool, true, false, cond}
+use mathlib.Core.Path.{_≡_, refl, sym, ap, _∙_, subst}
 use mathlib.Core.List.{List, [], _∷_, _++_, map}
-use mathlib.Core.Logic.{_≢_}
 use lib.Dec.{T, leb, eqb}
 use lib.IntN.{ℤ, natAbs}
 use lib.ListN.{length, take, drop, length-append, length-take}
 use lib.Seq.{take-at, drop-at}
-use lib.Signed.{leZ, ltZ}
-use borrow.Author.Tests.{ltb-true, ltb-false, lt-leb, le-leb}
-use denote.Enum.Declared.{tagOf}
-use types.Run.{OneOf}
 use mir.Facts.{toZ-ofZ}
 use mir.Syntax.{w64}
 use mir.Val.{toZ, ofZ, SFits}
-use Rattle.plpb.specs.Lists.{_and_, all, isEmpty}
-use Rattle.plpb.specs.Plan.{absent, present, Clause, Plan, Assignment, satisfies, cost, floorCost}
-use Rattle.plpb.specs.Walk.{Walk, Outcome, ends, short, run}
-use Rattle.plpb.specs.Search.{Settings, Reached, failed, reached, call, tightened, lbsBound, linearBound, Ending, floor, ended, short-found, atFloor, gap, linearSearch, lbsSearch, lastFind, costOf, Answer, answerOf as answered, conclude}
-use Rattle.plpb.proofs.Lists.{and-right}
+use Rattle.plpb.specs.Lists.{all}
+use Rattle.plpb.specs.Plan.{absent, present, Clause, Plan, Assignment, satisfies, cost}
+use Rattle.plpb.specs.Walk.{ends, run}
+use Rattle.plpb.specs.Search.{Settings, Reached, reached, call, tightened}
 use Rattle.plpb.proofs.Walks.{at}
-use Rattle.plpb.proofs.Costs.{floor-below, gap-zero, above-floor, bound-falls, linear-less, lbs-less, satisfies-tightened}
 use Rattle.words.specs.Words.{wordBytes, wordAt}
 use Rattle.words.proofs.Words.{length-wordBytes}
-use Rattle.format.specs.Limits.{lawful, roomy, maxBound}
-use Rattle.format.specs.Tables.{Holds, planOfTables, tableWords, tableSize}
+use Rattle.format.specs.Limits.{lawful, roomy}
+use Rattle.format.specs.Tables.{planOfTables, tableWords, tableSize}
 use Rattle.format.proofs.Lawful.{lawful-roomy, roomy-parts}
 use Rattle.format.proofs.ReadBack.{read-back}
 use Rattle.format.proofs.Sections.{length-tableWords}
 use Rattle.counting.proofs.Signed.{small-fits}
 use Rattle.objective.specs.Added.{rebound}
 use Rattle.objective.specs.Sums.{Summable, costIn, bits}
-use Rattle.objective.proofs.Costs.{table-room, variables-in, summable, cost-in, cost-size, floor-size, linear-within, lbs-within}
+use Rattle.objective.proofs.Costs.{table-room, variables-in, summable, cost-in, cost-size}
 use Rattle.objective.proofs.TightenedTables.{roomy-tightened, rebound-rules, rebound-bytes, rebound-holds, rebound-back}
 use Rattle.tallies.specs.Layout.{bitsOf, areBits}
 use Rattle.tallies.specs.Core.{Laid}
 use Rattle.tallies.proofs.Callers.{held-laid}
 use Rattle.numbers.specs.Numbers.{numbersOf}
-use Rattle.numbers.proofs.Runs.{linear-none, linear-floor, linear-ended, linear-found, linear-short, lbs-none, lbs-floor, lbs-linear, lbs-found, lbs-short}
 use Rattle.walk.specs.declared.tries.Tried.{Tried}
 use Rattle.walk.specs.declared.tries.Tried.the-variants as tried
 use Rattle.walk.specs.declared.tightening.Stand.{Stand}
-use Rattle.walk.specs.declared.tightening.Called.{Called}
 use Rattle.walk.specs.declared.tightening.Called.the-variants as called
-use Rattle.walk.specs.declared.tightening.Ending.{Ending as EndingOf}
-use Rattle.walk.specs.declared.tightening.Ending.the-variants as code
-use Rattle.walk.specs.declared.tightening.Searched.{Searched}
-use Rattle.walk.proofs.tightening.Called.{the-type}
 use Rattle.walk.specs.Steps.{Work, Startable, Beyond, triedOf, usedBy, flipsBy, IfReached, Finds, Tries}
-use Rattle.walk.specs.Bounds.{untightened, basis, Bounded, Stands, Room, Leaves, calledOf, standIn, FindOr, CallsUnder, answerOf, endingOf, Concludes, LbsComes, StoppedAt}
+use Rattle.walk.specs.Bounds.{untightened, basis, Bounded, Stands, Room, Leaves, calledOf, standIn, FindOr, CallsUnder}
 
 -- ---- a plan with an added clause, and without it
 
@@ -124,7 +110,7 @@ module _ {p : Plan} {tables terms : List ℕ} (b : Bounded p tables terms) where
 
 -- The cost of a find is small.
 module _ {p : Plan} {tables terms : List ℕ} (b : Bounded p tables terms) where
-  cost-small : {numbers assignment : List ℕ} {t : Stand} → Stands p numbers assignment t → natAbs (t .cost) ≤ 512_000_000
+  pub cost-small : {numbers assignment : List ℕ} {t : Stand} → Stands p numbers assignment t → natAbs (t .cost) ≤ 512_000_000
   cost-small {assignment = assignment} st = rw (st .costs) (cost-size p (lawful-roomy p (b .lawful)) (bitsOf (p .variables) assignment))
 
   pub cost-fits : {numbers assignment : List ℕ} {t : Stand} → Stands p numbers assignment t → SFits w64 (t .cost)
