@@ -1,2 +1,4 @@
 pub mod Moving
 pub mod Trying
+pub mod Bounds
+pub mod Concluding
