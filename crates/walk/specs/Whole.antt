@@ -2,10 +2,12 @@
 -- Assumes nothing.
 use Prim.Native.Nat.{ℕ, _/_, _≤_}
 use mathlib.Core.Path.{_≡_}
+use mathlib.Core.Bool.{Bool}
 use mathlib.Core.List.{List, [], _∷_}
-use lib.Dec.{T}
+use lib.Dec.{T, ltb}
 use lib.IntN.{pos}
 use lib.ListN.{length}
+use Rattle.plpb.specs.Lists.{_or_}
 use Rattle.plpb.specs.Plan.{Plan, Assignment, satisfies}
 use Rattle.plpb.specs.Walk.{run}
 use Rattle.plpb.specs.Search.{Settings, Reached, failed, reached, gap, tighten, Answer, conclude, search}
@@ -20,6 +22,15 @@ use Rattle.walk.specs.declared.tightening.Searched.{Searched}
 use Rattle.walk.specs.Calls.{markSize, withFind}
 use Rattle.walk.specs.Steps.{Work, Beyond, bitsIn}
 use Rattle.walk.specs.Bounds.{answerOf}
+
+-- Whether three tables have less room than the full limits need, and whether the work tables do.
+unfoldable pub tablesSmall : List ℕ → List ℕ → List ℕ → Bool
+tablesSmall tables terms assignment =
+    ltb (length tables) tableSize or ltb (length terms) termSize or ltb (length assignment) assignmentSize
+
+unfoldable pub workSmall : List ℕ → List ℕ → Work → Bool
+workSmall tables terms w =
+    tablesSmall tables terms (w .assignment) or ltb (length (w .tallies)) tallySize or ltb (length (w .marks)) markSize
 
 -- Nothing was found.
 pub record Empty (e : EndingOf) (used flips : ℕ) (r : Searched) : Type 0 where
