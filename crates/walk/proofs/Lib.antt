@@ -1,1 +1,4 @@
+pub mod Moving
+pub mod Trying
 pub mod Refusing
+pub mod Whole

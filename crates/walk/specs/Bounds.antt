@@ -36,6 +36,7 @@ pub record Bounded (p : Plan) (tables terms : List ℕ) : Type 0 where
   pub lawful : T (lawful p)
   pub some : 0 < length (p .objective)
   pub bound : ℤ
+  pub within : natAbs bound ≤ maxBound
   pub holds : Holds (tightened p bound) tables terms
 
 -- Where a search stands after a find: its cost, and numbers enough were used for what is counted.

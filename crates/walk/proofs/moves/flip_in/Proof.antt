@@ -1,67 +1,45 @@
+-- `flip_in` meets its contract, by whether a variable is chosen.
+-- Assumes nothing.
 use borrow.Author.Needs.{needs}
+use mathlib.Core.Path.{refl}
+use Rattle.walk.proofs.Moving.{chosen-among, flippable, turned-in, gone-in}
 use Rattle.walk.proofs.moves.flip_in.Statement.{statement}
 use Rattle.walk.proofs.moves.flip_in.Tie as tie
-use Rattle.walk.proofs.moves.flip_in.Reads as reads
-use Rattle.walk.proofs.moves.flip_in.Lts as lts
-use Rattle.choice.proofs.choose.choose.Reads as choose-reads
-use Rattle.tallies.proofs.flip.flip_core.Reads as flip-core-reads
 
--- src/moves.rt:42:9
-choose-requires : tie.Need-choose-requires
-choose-requires c κs = search needs
-
--- src/moves.rt:44:20
-enum-known-v : tie.Need-enum-known-v
-enum-known-v c = search needs
-
--- src/moves.rt:45:13
 flip-core-requires : tie.Need-flip-core-requires
-flip-core-requires c κs = ?
+flip-core-requires c κs =
+    let m = c .before .before .before in
+    let h = m .before .before .before .before in
+    let at = h .before .before .before .before .before .before .before .before .before in
+    flippable (at .pre .0) (chosen-among (h .choose .ensures .0) (m .v .given .1))
 
--- src/moves.rt:51:23
-enum-known-v-2 : tie.Need-enum-known-v-2
-enum-known-v-2 c = search needs
-
--- src/moves.rt:28:1
-same-length : tie.Need-same-length
-same-length c = search needs
-
--- src/moves.rt:28:1
-same-length-2 : tie.Need-same-length-2
-same-length-2 c = search needs
-
--- src/moves.rt:28:1
-same-length-3 : tie.Need-same-length-3
-same-length-3 c = search needs
-
--- src/moves.rt:28:1
 returns : tie.Need-returns
-returns c = ?
+returns c =
+    let l = c .before .before .before .before in
+    let m = l .before .before .before .before in
+    let h = m .before .before .before .before in
+    let at = h .before .before .before .before .before .before .before .before .before in
+    turned-in _ (at .pre .0) (h .choose .ensures .0) (m .v .given .1) (l .flip-core .ensures .0) (l .flip-core .ensures .1) (h .choose .ensures .1) (m .before .before .before .marks .given)
 
--- src/moves.rt:28:1
-same-length-4 : tie.Need-same-length-4
-same-length-4 c = search needs
-
--- src/moves.rt:28:1
-same-length-5 : tie.Need-same-length-5
-same-length-5 c = search needs
-
--- src/moves.rt:28:1
 returns-2 : tie.Need-returns-2
-returns-2 c = ?
+returns-2 c =
+    let m = c .before in
+    let h = m .before .before .before .before in
+    let at = h .before .before .before .before .before .before .before .before .before in
+    gone-in _ (at .pre .0) (h .choose .ensures .0) (m .v2 .given .1) refl refl (h .choose .ensures .1)
 
 pub flip-in-spec : {M : Type 1} → statement M
 flip-in-spec =
     tie.close
     (tie.spec
-    choose-requires
-    enum-known-v
+    (λ c κs. search needs)
+    (λ c. search needs)
     flip-core-requires
-    enum-known-v-2
-    same-length
-    same-length-2
-    same-length-3
+    (λ c. search needs)
+    (λ c. search needs)
+    (λ c. search needs)
+    (λ c. search needs)
     returns
-    same-length-4
-    same-length-5
+    (λ c. search needs)
+    (λ c. search needs)
     returns-2)

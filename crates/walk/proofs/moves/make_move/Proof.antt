@@ -1,64 +1,64 @@
+-- `make_move` meets its contract, by whether a number is left for the clause.
+-- Assumes nothing.
 use borrow.Author.Needs.{needs}
+use Prim.Native.Nat.{_<_}
+use native.Mathlib.Omega.{arith}
+use mathlib.Core.Path.{refl}
+use Rattle.tallies.proofs.Laid.{tables-long, clauses-few}
+use Rattle.walk.proofs.Moving.{tally-room, picked-within, picked-uses, picked-moves, gone-moves}
 use Rattle.walk.proofs.moves.make_move.Statement.{statement}
 use Rattle.walk.proofs.moves.make_move.Tie as tie
-use Rattle.walk.proofs.moves.make_move.Reads as reads
-use Rattle.walk.proofs.moves.make_move.Lts as lts
-use Rattle.numbers.proofs.nth_zero.Reads as nth-zero-reads
-use Rattle.numbers.proofs.pick.Reads as pick-reads
-use Rattle.walk.proofs.moves.flip_in.Reads as flip-in-reads
-use Rattle.words.proofs.index.Reads as index-reads
 
--- src/moves.rt:72:9
 index-requires : tie.Need-index-requires
-index-requires c κs = ?
+index-requires c κs = let at = c .before .before .before .before .before .before .before in tally-room (at .pre .0)
 
--- src/moves.rt:73:9
 pick-requires : tie.Need-pick-requires
-pick-requires c κs = search needs
+pick-requires c κs =
+    let at = c .before .before .before .before .before .before .before .before in (omega (arith, at .pre .1, c .index .ensures), at .pre .2)
 
--- src/moves.rt:75:20
-enum-known-p : tie.Need-enum-known-p
-enum-known-p c = search needs
-
--- src/moves.rt:76:45
 index-requires-2 : tie.Need-index-requires-2
-index-requires-2 c κs = ?
+index-requires-2 c κs =
+    let i = c .before .before .before .before .before in
+    let at = i .before .before .before .before .before .before .before .before in
+    omega (arith, tables-long _ _ (at .pre .0 .ready .laid))
 
--- src/moves.rt:76:17
 nth-zero-requires : tie.Need-nth-zero-requires
-nth-zero-requires c κs = ?
+nth-zero-requires c κs =
+    let i = c .before .before .before .before .before .before in
+    let at = i .before .before .before .before .before .before .before .before in
+    omega (arith, tally-room (at .pre .0), clauses-few _ _ (at .pre .0 .ready .laid), c .index2 .ensures)
 
--- src/moves.rt:77:13
 flip-in-requires : tie.Need-flip-in-requires
-flip-in-requires c κs = ?
+flip-in-requires c κs =
+    let z = c .before .before .before in
+    let b = z .before .before .before .before in
+    let k = b .before .before in
+    let i = k .before in
+    let at = i .before .before .before .before .before .before .before .before in
+    let some : 0 < i .index .result = omega (arith, at .pre .1, i .index .ensures) in (
+      at .pre .0,
+      picked-within (at .pre .0) _ _ _ (i .index .ensures) (k .pick .ensures) some (b .p .given .1) (z .before .index2 .ensures) (z .nth-zero .ensures),
+      picked-uses (at .pre .0) _ _ _ (i .index .ensures) (k .pick .ensures) some (b .p .given .1) (z .before .index2 .ensures) (z .nth-zero .ensures) .1,
+    )
 
--- src/moves.rt:89:23
-enum-known-p-2 : tie.Need-enum-known-p-2
-enum-known-p-2 c = search needs
-
--- src/moves.rt:59:1
-same-length : tie.Need-same-length
-same-length c = search needs
-
--- src/moves.rt:59:1
-same-length-2 : tie.Need-same-length-2
-same-length-2 c = search needs
-
--- src/moves.rt:59:1
-same-length-3 : tie.Need-same-length-3
-same-length-3 c = search needs
-
--- src/moves.rt:59:1
 returns : tie.Need-returns
-returns c = ?
+returns c =
+    let h = c .before .before .before .before .before .before in
+    let z = h .before .before .before .before in
+    let b = z .before .before .before .before in
+    let k = b .before .before in
+    let i = k .before in
+    let at = i .before .before .before .before .before .before .before .before in
+    picked-moves (at .pre .0) _ _ _ (i .index .ensures) (k .pick .ensures) (omega (arith, at .pre .1, i .index .ensures)) (b .p .given .1) (z .before .index2 .ensures) (z .nth-zero .ensures) _
+    (h .flip-in .ensures)
 
--- src/moves.rt:59:1
-same-length-4 : tie.Need-same-length-4
-same-length-4 c = search needs
-
--- src/moves.rt:59:1
 returns-2 : tie.Need-returns-2
-returns-2 c = ?
+returns-2 c =
+    let b = c .before in
+    let k = b .before .before in
+    let i = k .before in
+    let at = i .before .before .before .before .before .before .before .before in
+    gone-moves (at .pre .0) _ _ _ (i .index .ensures) (k .pick .ensures) _ (at .pre .2) (b .p2 .given .1) refl refl refl
 
 pub make-move-spec : {M : Type 1} → statement M
 make-move-spec =
@@ -66,14 +66,14 @@ make-move-spec =
     (tie.spec
     index-requires
     pick-requires
-    enum-known-p
+    (λ c. search needs)
     index-requires-2
     nth-zero-requires
     flip-in-requires
-    enum-known-p-2
-    same-length
-    same-length-2
-    same-length-3
+    (λ c. search needs)
+    (λ c. search needs)
+    (λ c. search needs)
+    (λ c. search needs)
     returns
-    same-length-4
+    (λ c. search needs)
     returns-2)

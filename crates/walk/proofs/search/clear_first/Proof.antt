@@ -15,7 +15,7 @@ returns : tie.Need-returns
 returns c =
     let k = c .before .before in
     let at = k .before .before .before in
-    ap (λ u. u ++ drop (at .args .n .now) (at .args .s .now)) (k .clear .ensures ∙ ap (λ m. replicate m 0) (length-take-le _ (at .args .s .now) (at .pre)))
+    ap (λ u. u ++ drop (at .args .n) (at .args .s .now)) (k .clear .ensures ∙ ap (λ m. replicate m 0) (length-take-le _ (at .args .s .now) (at .pre)))
 
 pub clear-first-spec : {M : Type 1} → statement M
 clear-first-spec = tie.close (tie.spec (λ c. search needs) slice-aggregate-clear (λ c κs. search needs) (λ c. search needs) returns)

@@ -1,93 +1,83 @@
+-- `make_flips` meets its contract. The invariant: as many flips are left, from the present assignment and place in the list. The measure is their number.
+-- Assumes nothing.
+use borrow.Author.Needs.{needs}
+use native.Mathlib.Omega.{arith}
+use mathlib.Core.Path.{sym, _∙_}
+use Rattle.walk.specs.Steps.{settingsOf}
+use Rattle.walk.proofs.Moving.{tally-room}
+use Rattle.walk.proofs.Trying.{Flipping, flips-begin, flips-found, flips-more, flips-short, flips-end, sized-on}
 use Rattle.walk.proofs.tries.make_flips.Statement.{statement}
 use Rattle.walk.proofs.tries.make_flips.Tie as tie
-use Rattle.walk.proofs.tries.make_flips.Reads as reads
-use Rattle.walk.proofs.tries.make_flips.Lts as lts
-use Rattle.walk.proofs.moves.make_move.Reads as make-move-reads
-use Rattle.words.proofs.word.Reads as word-reads
 
 abbrev Inv-loop : tie.InvT-loop
 Inv-loop tables terms numbers begun before s assignment₀ tallies₀ marks₀ used₀ made₀ left₀ assignment tallies marks used made left =
-    ?
+    Flipping (settingsOf s) tables terms numbers begun before (record { assignment = assignment₀; tallies = tallies₀; marks = marks₀ }) used made left
+    (record { assignment = assignment; tallies = tallies; marks = marks })
 
 abbrev μ-loop : tie.MeasureT-loop
-μ-loop tables terms numbers begun before s assignment₀ tallies₀ marks₀ used₀ made₀ left₀ assignment tallies marks used made left =
-    ?
+μ-loop tables terms numbers begun before s assignment₀ tallies₀ marks₀ used₀ made₀ left₀ assignment tallies marks used made left = left
 
--- src/tries.rt:48:5
 loop-holds : tie.Need-loop-holds Inv-loop μ-loop
-loop-holds c = ?
+loop-holds c = let at = c .before .before .before .before .before .before in flips-begin _ (at .pre .0) (at .pre .1) (at .pre .2)
 
--- src/tries.rt:49:12
 word-requires : tie.Need-word-requires Inv-loop μ-loop
-word-requires c κs = ?
+word-requires c κs = tally-room (c .before .before .loop .inv .walking)
 
--- src/tries.rt:50:13
-same-length : tie.Need-same-length Inv-loop μ-loop
-same-length c = ?
-
--- src/tries.rt:50:13
-same-length-2 : tie.Need-same-length-2 Inv-loop μ-loop
-same-length-2 c = ?
-
--- src/tries.rt:50:13
-same-length-3 : tie.Need-same-length-3 Inv-loop μ-loop
-same-length-3 c = ?
-
--- src/tries.rt:50:13
 returns : tie.Need-returns Inv-loop μ-loop
-returns c = ?
+returns c =
+    let l = c .before .before .before .before in
+    flips-found (l .loop .inv) (omega (arith, c .before .before .before .loop-test .taken)) (rw (← c .before .word .ensures) (c .if1 .taken))
 
--- src/tries.rt:52:13
+same-length : tie.Need-same-length Inv-loop μ-loop
+same-length c = c .before .before .before .before .loop .inv .sized .assignment
+
+same-length-2 : tie.Need-same-length-2 Inv-loop μ-loop
+same-length-2 c = c .before .before .before .before .loop .inv .sized .tallies
+
+same-length-3 : tie.Need-same-length-3 Inv-loop μ-loop
+same-length-3 c = c .before .before .before .before .loop .inv .sized .marks
+
 make-move-requires : tie.Need-make-move-requires Inv-loop μ-loop
-make-move-requires c κs = ?
+make-move-requires c κs =
+    let t = c .before .before .before in
+    let l = t .before .before .before .before in
+    (l .loop .inv .walking, omega (arith, t .if1 .left, t .before .word .ensures), l .loop .inv .within)
 
--- src/tries.rt:55:13
-same-length-4 : tie.Need-same-length-4 Inv-loop μ-loop
-same-length-4 c = ?
-
--- src/tries.rt:55:13
-same-length-5 : tie.Need-same-length-5 Inv-loop μ-loop
-same-length-5 c = ?
-
--- src/tries.rt:55:13
-same-length-6 : tie.Need-same-length-6 Inv-loop μ-loop
-same-length-6 c = ?
-
--- src/tries.rt:55:13
 returns-2 : tie.Need-returns-2 Inv-loop μ-loop
-returns-2 c = ?
+returns-2 c =
+    let m = c .before .before .before .before .before .before .before .before in
+    let t = m .before .before .before .before in
+    let l = t .before .before .before .before in
+    flips-short (l .loop .inv) (omega (arith, t .before .before .before .loop-test .taken)) (λ e. t .if1 .left (t .before .word .ensures ∙ e)) (m .make-move .ensures) (c .if2 .taken)
 
--- src/tries.rt:57:9
 add-made : tie.Need-add-made Inv-loop μ-loop
-add-made c = ?
+add-made c =
+    let m = c .before .before .before .before .before .before .before .before in
+    let l = m .before .before .before .before .before .before .before .before in
+    let at = l .before .before .before .before .before .before .before in
+    omega (arith, l .loop .inv .flipped, l .loop .inv .within, at .good .1 .1 .0 .1)
 
--- src/tries.rt:58:9
 sub-left : tie.Need-sub-left Inv-loop μ-loop
-sub-left c = ?
+sub-left c =
+    let m = c .before .before .before .before .before .before .before .before in
+    omega (arith, m .before .before .before .before .before .before .before .loop-test .taken)
 
--- src/tries.rt:48:5
 loop-less : tie.Need-loop-less Inv-loop μ-loop
-loop-less c = ?
+loop-less c =
+    let m = c .before .before .before .before .before .before .before .before in
+    omega (arith, m .before .before .before .before .before .before .before .loop-test .taken)
 
--- src/tries.rt:48:5
 loop-again : tie.Need-loop-again Inv-loop μ-loop
-loop-again c = ?
+loop-again c =
+    let a = c .before .before .before .before .before .before .before in
+    let m = a .before in
+    let t = m .before .before .before .before in
+    let l = t .before .before .before .before in
+    flips-more (l .loop .inv) (omega (arith, t .before .before .before .loop-test .taken)) (λ e. t .if1 .left (t .before .word .ensures ∙ e)) (m .make-move .ensures) (c .if2 .left)
+    (sized-on (l .loop .inv .sized) (a .assignment .given) (c .before .before .before .before .before .tallies .given) (c .before .before .before .marks .given))
 
--- src/tries.rt:31:1
-same-length-7 : tie.Need-same-length-7 Inv-loop μ-loop
-same-length-7 c = ?
-
--- src/tries.rt:31:1
-same-length-8 : tie.Need-same-length-8 Inv-loop μ-loop
-same-length-8 c = ?
-
--- src/tries.rt:31:1
-same-length-9 : tie.Need-same-length-9 Inv-loop μ-loop
-same-length-9 c = ?
-
--- src/tries.rt:31:1
 returns-3 : tie.Need-returns-3 Inv-loop μ-loop
-returns-3 c = ?
+returns-3 c = flips-end (c .before .loop .inv) (omega (arith, c .loop-test .left))
 
 pub make-flips-spec : {M : Type 1} → statement M
 make-flips-spec =
@@ -102,15 +92,15 @@ make-flips-spec =
     same-length-3
     returns
     make-move-requires
-    same-length-4
-    same-length-5
-    same-length-6
+    (λ c. search needs)
+    (λ c. search needs)
+    (λ c. search needs)
     returns-2
     add-made
     sub-left
     loop-less
     loop-again
-    same-length-7
-    same-length-8
-    same-length-9
+    (λ c. search needs)
+    (λ c. search needs)
+    (λ c. search needs)
     returns-3)
