@@ -260,9 +260,12 @@ module _ {tables terms numbers : List ℕ} {used flips : ℕ} {assignment : List
 
 -- ---- the first call, with the plan alone
 
-unreached : Assignment → Reached → Assignment
+unfoldable unreached : Assignment → Reached → Assignment
 unreached d failed = d
 unreached d (reached a) = a
+
+nowhere : (a : Assignment) → failed ≡ reached a → ⊥
+nowhere a e = let z : _≡_ {A = ℕ} 0 1 = cc in omega arith
 
 -- What a search answers where it found nothing.
 module _ (s : Settings) (p : Plan) (numbers : List ℕ) (r : Searched) where
@@ -302,14 +305,14 @@ module _ (s : Settings) (p : Plan) (numbers : List ℕ) (r : Searched) where
       let f : search s p (numbersOf numbers) .assignment ≡ failed = ap (λ x. x .assignment) e in
       record {
         answers = e ∙ ap (answerOf (r .ending) (r .stand)) (sym f);
-        last = λ a g. absurd (let z : failed ≡ reached a = sym f ∙ g in cc);
+        last = λ a g. absurd (nowhere a (sym f ∙ g));
         find = rw f refl;
         beyond = b;
       }
 
   found-whole : {entry exit : List ℕ} {w v : Work} → search s p (numbersOf numbers) ≡ answerOf (r .ending) (r .stand) (reached (bitsOf (p .variables) exit))
       → exit ≡ withFind (reached (bitsOf (p .variables) exit)) (p .variables) entry → Beyond (p .variables) w v → Whole s p numbers r entry exit w v
-  unfolding answerOf
+  unfolding answerOf unreached
   found-whole {entry} {exit} {w} {v} e x b =
       let f : search s p (numbersOf numbers) .assignment ≡ reached (bitsOf (p .variables) exit) = ap (λ y. y .assignment) e in
       record {
@@ -348,11 +351,11 @@ module _ {plan planTerms assignment tables terms : List ℕ} {w : Work} (h : Sea
     small : copy .variables ≤ 512
     small = rw back (plan-parts lent plan-lawful .high)
 
-    beyond-table′ : drop tableSize tables′ ≡ drop tableSize tables
-    beyond-table′ = ap (drop tableSize) e ∙ drop-at (take tableSize plan) (drop tableSize tables) tableSize (length-take-le tableSize plan (h .long))
+    pub copied-table : drop tableSize tables′ ≡ drop tableSize tables
+    copied-table = ap (drop tableSize) e ∙ drop-at (take tableSize plan) (drop tableSize tables) tableSize (length-take-le tableSize plan (h .long))
 
-    beyond-terms′ : drop termSize terms′ ≡ drop termSize terms
-    beyond-terms′ = ap (drop termSize) f ∙ drop-at (take termSize planTerms) (drop termSize terms) termSize (length-take-le termSize planTerms (h .long-terms))
+    pub copied-terms : drop termSize terms′ ≡ drop termSize terms
+    copied-terms = ap (drop termSize) f ∙ drop-at (take termSize planTerms) (drop termSize terms) termSize (length-take-le termSize planTerms (h .long-terms))
 
     pub core-startable : Startable tables′ terms′ w
     core-startable =
@@ -362,60 +365,50 @@ module _ {plan planTerms assignment tables terms : List ℕ} {w : Work} (h : Sea
           marks = record { laid = laid; bytes = omega (arith, small, h .work .marks) };
         }
 
-    module _ (s : Settings) {numbers : List ℕ} {t : Tried} {v : Work} (k : Tries (call s (planOfTables tables′ terms′)) tables′ terms′ numbers 0 0 1 t w v) {used flips : ℕ} where
-      abbrev Made : Tried → Type 0
-      Made x = Tries (call s copy) tables′ terms′ numbers 0 0 1 x w v
+    -- By what the call came to.
+    module _ (s : Settings) (numbers : List ℕ) {t : Tried} {v : Work} (made : Tries (call s (planOfTables tables′ terms′)) tables′ terms′ numbers 0 0 1 t w v) where
+      made-as : (x : Tried) → t ≡ x → Tries (call s (planOfTables tables′ terms′)) tables′ terms′ numbers 0 0 1 x w v
+      made-as x e = subst (λ y. Tries (call s copy) tables′ terms′ numbers 0 0 1 y w v) e made
 
-      pub core-first : t ≡ tried.Reached used flips → Roomy v → FirstFind tables′ terms′ numbers used flips assignment v
+      pub core-first : {used flips : ℕ} → t ≡ tried.Reached used flips → Roomy v → FirstFind tables′ terms′ numbers used flips assignment v
       unfolding IfReached usedBy flipsBy
-      core-first m y =
-          let x : Made (tried.Reached used flips) = subst Made m k in
+      core-first {used} {flips} e y =
+          let k = made-as (tried.Reached used flips) e in
           record {
             lawful = rw back plan-lawful;
             holds = laid .holds;
             room = h .room;
             work = y;
-            bits = x .finds .bits;
-            some = x .finds .uses;
-            few = x .flipped;
-            within = x .within;
+            bits = k .finds .bits;
+            some = k .finds .uses;
+            few = k .flipped;
+            within = k .within;
           }
 
-      pub core-found : t ≡ tried.Reached used flips → {r : Searched} {exit out more : List ℕ} {u : Work}
-          → FromFind s tables′ terms′ numbers used flips r assignment exit v u × (drop tableSize out ≡ drop tableSize tables′) × (drop termSize more ≡ drop termSize terms′)
-          → Whole s (planOfTables plan planTerms) numbers r assignment exit w u × (drop tableSize out ≡ drop tableSize tables) × (drop termSize more ≡ drop termSize terms)
+      pub core-found : {used flips : ℕ} {r : Searched} {exit : List ℕ} {u : Work} → t ≡ tried.Reached used flips
+          → FromFind s tables′ terms′ numbers used flips r assignment exit v u → Whole s (planOfTables plan planTerms) numbers r assignment exit w u
       unfolding triedOf search begin
-      core-found m {r} {exit} {out} {more} {u} z =
-          let x : Made (tried.Reached used flips) = subst Made m k in
-          let a = bitsIn tables′ terms′ v in
+      core-found {used} {flips} {r} {exit} {u} e z =
+          let k = made-as (tried.Reached used flips) e in
           let found : search s copy (numbersOf numbers) ≡ answerOf (r .ending) (r .stand) (reached (bitsOf (copy .variables) exit)) =
-              ap (conclude copy) (search-found s copy (numbersOf numbers) begin (x .outcome [])) ∙ z .0 .answers in (
-            subst (λ p. Whole s p numbers r assignment exit w u) back (found-whole s copy numbers r found (z .0 .find) (beyond-both (k .beyond) (z .0 .beyond))),
-            z .1 ∙ beyond-table′,
-            z .2 ∙ beyond-terms′,
-          )
+              ap (conclude copy) (search-found s copy (numbersOf numbers) begin (k .outcome [])) ∙ z .answers in
+          subst (λ p. Whole s p numbers r assignment exit w u) back (found-whole s copy numbers r found (z .find) (beyond-both (k .beyond) (z .beyond)))
 
-      pub core-none : t ≡ tried.Failed used flips → {r : Searched} → Empty code.None used flips r
-          → Whole s (planOfTables plan planTerms) numbers r assignment assignment w v × (drop tableSize tables′ ≡ drop tableSize tables) × (drop termSize terms′ ≡ drop termSize terms)
+      pub core-none : {used flips : ℕ} {r : Searched} → t ≡ tried.Failed used flips → Empty code.None used flips r
+          → Whole s (planOfTables plan planTerms) numbers r assignment assignment w v
       unfolding triedOf begin
-      core-none m {r} z =
-          let x : Made (tried.Failed used flips) = subst Made m k in (
-            subst (λ p. Whole s p numbers r assignment assignment w v) back
-            (empty-whole s copy numbers r (none-answer s copy numbers r (search-none s copy (numbersOf numbers) begin (x .outcome [])) z) (k .beyond)),
-            beyond-table′,
-            beyond-terms′,
-          )
+      core-none {used} {flips} {r} e z =
+          let k = made-as (tried.Failed used flips) e in
+          subst (λ p. Whole s p numbers r assignment assignment w v) back
+          (empty-whole s copy numbers r (none-answer s copy numbers r (search-none s copy (numbersOf numbers) begin (k .outcome [])) z) (k .beyond))
 
-      pub core-short : t ≡ tried.Short used flips → {r : Searched} → Empty code.ShortNone used flips r
-          → Whole s (planOfTables plan planTerms) numbers r assignment assignment w v × (drop tableSize tables′ ≡ drop tableSize tables) × (drop termSize terms′ ≡ drop termSize terms)
+      pub core-short : {used flips : ℕ} {r : Searched} → t ≡ tried.Short used flips → Empty code.ShortNone used flips r
+          → Whole s (planOfTables plan planTerms) numbers r assignment assignment w v
       unfolding triedOf begin
-      core-short m {r} z =
-          let x : Made (tried.Short used flips) = subst Made m k in (
-            subst (λ p. Whole s p numbers r assignment assignment w v) back
-            (empty-whole s copy numbers r (short-answer s copy numbers r (search-short s copy (numbersOf numbers) begin (x .outcome [])) z) (k .beyond)),
-            beyond-table′,
-            beyond-terms′,
-          )
+      core-short {used} {flips} {r} e z =
+          let k = made-as (tried.Short used flips) e in
+          subst (λ p. Whole s p numbers r assignment assignment w v) back
+          (empty-whole s copy numbers r (short-answer s copy numbers r (search-short s copy (numbersOf numbers) begin (k .outcome [])) z) (k .beyond))
 
 -- ---- what is handed out
 
@@ -430,7 +423,7 @@ plan-told short-none t = absurd t
 last-satisfies : (p : Plan) (fs : List Assignment) → isEmpty fs ≡ false → T (all (λ a. satisfies a p) fs)
     → (a : Assignment) × (lastFind fs ≡ reached a) × T (satisfies a p)
 unfolding isEmpty all lastFind
-last-satisfies p [] e t = absurd (let z : true ≡ false = e in cc)
+last-satisfies p [] e t = absurd (let z : _≡_ {A = ℕ} 0 1 = cc in omega arith)
 last-satisfies p (a ∷ fs) e t = (a, refl, and-left _ _ t)
 
 -- "A plan handed out satisfies every clause", and the cost is its cost.
