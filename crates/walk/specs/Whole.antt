@@ -2,24 +2,34 @@
 -- Assumes nothing.
 use Prim.Native.Nat.{ℕ, _/_, _≤_}
 use mathlib.Core.Path.{_≡_}
+use mathlib.Core.Bool.{Bool}
 use mathlib.Core.List.{List, [], _∷_}
-use lib.Dec.{T}
+use lib.Dec.{T, ltb}
 use lib.IntN.{pos}
 use lib.ListN.{length}
+use Rattle.plpb.specs.Lists.{_or_}
 use Rattle.plpb.specs.Plan.{Plan, Assignment, satisfies}
 use Rattle.plpb.specs.Walk.{run}
-use Rattle.plpb.specs.Search.{Settings, Reached, failed, reached, gap, tighten, Answer, conclude, search}
+use Rattle.plpb.specs.Search.{Settings, reached, gap, tighten, Answer, conclude, search}
 use Rattle.plpb.proofs.Walks.{at}
 use Rattle.format.specs.Limits.{lawful}
 use Rattle.format.specs.Tables.{Holds, planOfTables, tableSize, termSize, isLoaded}
 use Rattle.tallies.specs.Layout.{assignmentSize, tallySize, bitsOf, areBits}
 use Rattle.numbers.specs.Numbers.{numbersOf}
 use Rattle.walk.specs.declared.tightening.Ending.{Ending as EndingOf}
-use Rattle.walk.specs.declared.tightening.Ending.the-variants as code
 use Rattle.walk.specs.declared.tightening.Searched.{Searched}
 use Rattle.walk.specs.Calls.{markSize, withFind}
 use Rattle.walk.specs.Steps.{Work, Beyond, bitsIn}
 use Rattle.walk.specs.Bounds.{answerOf}
+
+-- Whether three tables have less room than the full limits need, and whether the work tables do.
+unfoldable pub tablesSmall : List ℕ → List ℕ → List ℕ → Bool
+tablesSmall tables terms assignment =
+    ltb (length tables) tableSize or ltb (length terms) termSize or ltb (length assignment) assignmentSize
+
+unfoldable pub workSmall : List ℕ → List ℕ → Work → Bool
+workSmall tables terms w =
+    tablesSmall tables terms (w .assignment) or ltb (length (w .tallies)) tallySize or ltb (length (w .marks)) markSize
 
 -- Nothing was found.
 pub record Empty (e : EndingOf) (used flips : ℕ) (r : Searched) : Type 0 where
@@ -66,16 +76,9 @@ pub record Searchable (tables terms assignment workTables workTerms : List ℕ) 
   pub work-long-terms : termSize ≤ length workTerms
   pub work : Roomy w
 
--- The last find, if there is one.
-unfoldable pub lastOf : EndingOf → Assignment → Reached
-lastOf code.Floor a = reached a
-lastOf code.Ended a = reached a
-lastOf code.None a = failed
-lastOf code.ShortFound a = reached a
-lastOf code.ShortNone a = failed
-
--- The search of a plan, whole.
+-- The search of a plan, whole: the assignment is the last find, if there is one.
 pub record Whole (s : Settings) (p : Plan) (numbers : List ℕ) (r : Searched) (entry exit : List ℕ) (w v : Work) : Type 0 where
-  pub answers : search s p (numbersOf numbers) ≡ answerOf (r .ending) (r .stand) (lastOf (r .ending) (bitsOf (p .variables) exit))
+  pub answers : search s p (numbersOf numbers) ≡ answerOf (r .ending) (r .stand) (search s p (numbersOf numbers) .assignment)
+  pub last : (a : Assignment) → search s p (numbersOf numbers) .assignment ≡ reached a → bitsOf (p .variables) exit ≡ a
   pub find : exit ≡ withFind (search s p (numbersOf numbers) .assignment) (p .variables) entry
   pub beyond : Beyond (p .variables) w v

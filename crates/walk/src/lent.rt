@@ -1,17 +1,13 @@
 // What a search tests of what it is lent and set, in the order of document 01: 21, 22, 11, 12, 13, 14.
 ghost use mathlib.Core.Path.{_≡_};
-ghost use lib.Dec.{ltb};
-ghost use lib.ListN.{length};
-ghost use Rattle.plpb.specs.Lists.{_or_};
-ghost use Rattle.format.specs.Tables.{tableSize, termSize};
-ghost use Rattle.tallies.specs.Layout.{assignmentSize, tallySize};
-ghost use Rattle.walk.specs.Calls.{markSize, searchRefusal, settingsRefusal};
+ghost use Rattle.walk.specs.Calls.{searchRefusal, settingsRefusal};
+ghost use Rattle.walk.specs.Whole.{tablesSmall, workSmall};
 use crate::tries::Settings;
 use loaded::good;
 
 // Whether tables, terms or assignment have less room than the full limits need.
 fn tables_small(tables: &[u8], terms: &[u8], assignment: &[u8]) -> bool
-    ensures { λ r. ⌜ r ≡ (ltb (length (now (tables .entry))) tableSize or ltb (length (now (terms .entry))) termSize or ltb (length (now (assignment .entry))) assignmentSize) ⌝ }
+    ensures { λ r. ⌜ r ≡ tablesSmall (now (tables .entry)) (now (terms .entry)) (now (assignment .entry)) ⌝ }
 {
     if tables.len() < 26668 {
         return true;
@@ -47,7 +43,7 @@ pub fn settings_refusal(s: Settings) -> u32
 }
 
 fn work_small(tables: &[u8], terms: &[u8], assignment: &[u8], tallies: &[u8], marks: &[u8]) -> bool
-    ensures { λ r. ⌜ r ≡ (ltb (length (now (tables .entry))) tableSize or ltb (length (now (terms .entry))) termSize or ltb (length (now (assignment .entry))) assignmentSize or ltb (length (now (tallies .entry))) tallySize or ltb (length (now (marks .entry))) markSize) ⌝ }
+    ensures { λ r. ⌜ r ≡ workSmall (now (tables .entry)) (now (terms .entry)) (record { assignment = now (assignment .entry); tallies = now (tallies .entry); marks = now (marks .entry) }) ⌝ }
 {
     if tables_small(tables, terms, assignment) {
         return true;

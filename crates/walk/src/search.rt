@@ -135,6 +135,14 @@ fn search_core(
     }
 }
 
+// Fills the first n bytes with 0.
+fn clear_first(s: &mut [u8], n: usize)
+    requires { ⌜ n ≤ length (now s) ⌝ }
+    ensures { λ _. ⌜ now (s .exit) ≡ replicate n 0 ++ drop n (now (s .entry)) ⌝ }
+{
+    clear(&mut s[..n]);
+}
+
 // "The work tables end filled with 0."
 fn clear_work(
     tables: &mut [u8],
@@ -150,11 +158,11 @@ fn clear_work(
     ensures { λ _. ⌜ now (tallies .exit) ≡ replicate tallySize 0 ++ drop tallySize (now (tallies .entry)) ⌝ }
     ensures { λ _. ⌜ now (marks .exit) ≡ replicate markSize 0 ++ drop markSize (now (marks .entry)) ⌝ }
 {
-    clear(&mut tables[..26668]);
-    clear(&mut terms[..52096]);
-    clear(&mut tried[..512]);
-    clear(&mut tallies[..6156]);
-    clear(&mut marks[..512]);
+    clear_first(tables, 26668);
+    clear_first(terms, 52096);
+    clear_first(tried, 512);
+    clear_first(tallies, 6156);
+    clear_first(marks, 512);
 }
 
 fn number_of(ending: Ending) -> u32

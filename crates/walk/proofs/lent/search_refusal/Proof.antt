@@ -1,54 +1,36 @@
+-- `search_refusal` meets its contract: each test answers what the definition asks next.
+-- Assumes nothing.
 use borrow.Author.Needs.{needs}
+use borrow.Author.Tests.{not-true, not-false}
+use mathlib.Core.Path.{sym, _∙_}
+use Rattle.walk.proofs.Refusing.{tables-21, work-21, tables-22, settings-last}
 use Rattle.walk.proofs.lent.search_refusal.Statement.{statement}
 use Rattle.walk.proofs.lent.search_refusal.Tie as tie
-use Rattle.walk.proofs.lent.search_refusal.Reads as reads
-use Rattle.walk.proofs.lent.search_refusal.Lts as lts
-use Rattle.loaded.proofs.good.Reads as good-reads
-use Rattle.walk.proofs.lent.settings_refusal.Reads as settings-refusal-reads
-use Rattle.walk.proofs.lent.tables_small.Reads as tables-small-reads
-use Rattle.walk.proofs.lent.work_small.Reads as work-small-reads
 
--- src/lent.rt:75:8
-tables-small-requires : tie.Need-tables-small-requires
-tables-small-requires c κs = search needs
-
--- src/lent.rt:76:9
 returns : tie.Need-returns
-returns c = ?
+returns c = tables-21 _ _ (c .before .tables-small .ensures) (c .if1 .taken)
 
--- src/lent.rt:78:8
-work-small-requires : tie.Need-work-small-requires
-work-small-requires c κs = search needs
-
--- src/lent.rt:85:9
 returns-2 : tie.Need-returns-2
-returns-2 c = ?
+returns-2 c = work-21 _ _ (c .before .before .before .tables-small .ensures) (c .before .before .if1 .left) (c .before .work-small .ensures) (c .if2 .taken)
 
--- src/lent.rt:87:9
-good-requires : tie.Need-good-requires
-good-requires c κs = search needs
-
--- src/lent.rt:88:9
 returns-3 : tie.Need-returns-3
-returns-3 c = ?
+returns-3 c =
+    tables-22 _ _ (c .before .before .before .before .before .tables-small .ensures) (c .before .before .before .before .if1 .left) (c .before .before .before .work-small .ensures) (c .before .before .if2 .left) (sym (c .before .good2 .ensures) ∙ not-true _ (c .if3 .taken))
 
--- src/lent.rt:90:5
-settings-refusal-requires : tie.Need-settings-refusal-requires
-settings-refusal-requires c κs = search needs
-
--- src/lent.rt:61:1
 returns-4 : tie.Need-returns-4
-returns-4 c = ?
+returns-4 c =
+    c .settings-refusal .ensures
+    ∙ settings-last _ _ (c .before .before .before .before .before .before .tables-small .ensures) (c .before .before .before .before .before .if1 .left) (c .before .before .before .before .work-small .ensures) (c .before .before .before .if2 .left) (sym (c .before .before .good2 .ensures) ∙ not-false _ (c .before .if3 .left))
 
 pub search-refusal-spec : {M : Type 1} → statement M
 search-refusal-spec =
     tie.close
     (tie.spec
-    tables-small-requires
+    (λ c κs. search needs)
     returns
-    work-small-requires
+    (λ c κs. search needs)
     returns-2
-    good-requires
+    (λ c κs. search needs)
     returns-3
-    settings-refusal-requires
+    (λ c κs. search needs)
     returns-4)

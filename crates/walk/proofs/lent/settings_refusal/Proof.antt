@@ -1,35 +1,30 @@
+-- `settings_refusal` meets its contract: each test answers what the definition asks next.
+-- Assumes nothing.
+use native.Mathlib.Omega.{arith}
+use Rattle.walk.proofs.Refusing.{noise-11, few-12, many-12, few-13, many-13, mode-14, settings-0}
 use Rattle.walk.proofs.lent.settings_refusal.Statement.{statement}
 use Rattle.walk.proofs.lent.settings_refusal.Tie as tie
-use Rattle.walk.proofs.lent.settings_refusal.Reads as reads
-use Rattle.walk.proofs.lent.settings_refusal.Lts as lts
 
--- src/lent.rt:29:9
 returns : tie.Need-returns
-returns c = ?
+returns c = noise-11 _ (omega arith)
 
--- src/lent.rt:32:9
 returns-2 : tie.Need-returns-2
-returns-2 c = ?
+returns-2 c = few-12 _ (omega arith) (omega arith)
 
--- src/lent.rt:35:9
 returns-3 : tie.Need-returns-3
-returns-3 c = ?
+returns-3 c = many-12 _ (omega arith) (omega arith) (omega arith)
 
--- src/lent.rt:38:9
 returns-4 : tie.Need-returns-4
-returns-4 c = ?
+returns-4 c = few-13 _ (omega arith) (omega arith) (omega arith) (omega arith)
 
--- src/lent.rt:41:9
 returns-5 : tie.Need-returns-5
-returns-5 c = ?
+returns-5 c = many-13 _ (omega arith) (omega arith) (omega arith) (omega arith) (omega arith)
 
--- src/lent.rt:44:9
 returns-6 : tie.Need-returns-6
-returns-6 c = ?
+returns-6 c = mode-14 _ (omega arith) (omega arith) (omega arith) (omega arith) (omega arith) (omega arith)
 
--- src/lent.rt:25:1
 returns-7 : tie.Need-returns-7
-returns-7 c = ?
+returns-7 c = settings-0 _ (omega arith) (omega arith) (omega arith) (omega arith) (omega arith) (omega arith)
 
 pub settings-refusal-spec : {M : Type 1} → statement M
 settings-refusal-spec =

@@ -1,19 +1,18 @@
+-- `tables_small` meets its contract: the tables are tested one after another.
+-- Assumes nothing.
+use native.Mathlib.Omega.{arith}
+use Rattle.walk.proofs.Refusing.{small-tables, small-terms, small-assignment}
 use Rattle.walk.proofs.lent.tables_small.Statement.{statement}
 use Rattle.walk.proofs.lent.tables_small.Tie as tie
-use Rattle.walk.proofs.lent.tables_small.Reads as reads
-use Rattle.walk.proofs.lent.tables_small.Lts as lts
 
--- src/lent.rt:17:9
 returns : tie.Need-returns
-returns c = ?
+returns c = small-tables _ _ _ (omega arith)
 
--- src/lent.rt:20:9
 returns-2 : tie.Need-returns-2
-returns-2 c = ?
+returns-2 c = small-terms _ _ _ (omega arith) (omega arith)
 
--- src/lent.rt:13:1
 returns-3 : tie.Need-returns-3
-returns-3 c = ?
+returns-3 c = small-assignment _ _ _ (omega arith) (omega arith)
 
 pub tables-small-spec : {M : Type 1} → statement M
 tables-small-spec = tie.close (tie.spec returns returns-2 returns-3)

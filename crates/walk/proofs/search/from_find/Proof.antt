@@ -1,72 +1,43 @@
+-- `from_find` meets its contract: a find that costs l(O) ends the search, and else the tightening goes on in tables with the added clause.
+-- Assumes nothing.
 use borrow.Author.Needs.{needs}
+use native.Mathlib.Omega.{arith}
+use mathlib.Core.Path.{refl}
+use lib.IntN.{pos}
+use Rattle.walk.specs.Steps.{settingsOf}
+use Rattle.walk.proofs.Whole.{find-summable, find-keepable, from-floor, tighten-ready, from-tightened}
 use Rattle.walk.proofs.search.from_find.Statement.{statement}
 use Rattle.walk.proofs.search.from_find.Tie as tie
-use Rattle.walk.proofs.search.from_find.Reads as reads
-use Rattle.walk.proofs.search.from_find.Lts as lts
-use Rattle.objective.proofs.added.add_bound.Reads as add-bound-reads
-use Rattle.objective.proofs.sums.floor_cost.Reads as floor-cost-reads
-use Rattle.walk.proofs.tightening.keep_find.Reads as keep-find-reads
-use Rattle.walk.proofs.tightening.tighten.Reads as tighten-reads
 
--- src/search.rt:70:9
 keep-find-requires : tie.Need-keep-find-requires
-keep-find-requires c κs = ?
+keep-find-requires c κs = find-keepable (c .before .before .before .before .before .before .before .before .before .before .pre)
 
--- src/search.rt:71:9
 floor-cost-requires : tie.Need-floor-cost-requires
-floor-cost-requires c κs = ?
+floor-cost-requires c κs = find-summable (c .before .before .before .before .before .before .before .before .before .before .before .before .before .before .pre)
 
--- src/search.rt:79:9
-same-length : tie.Need-same-length
-same-length c = search needs
-
--- src/search.rt:79:9
-same-length-2 : tie.Need-same-length-2
-same-length-2 c = search needs
-
--- src/search.rt:79:9
-same-length-3 : tie.Need-same-length-3
-same-length-3 c = search needs
-
--- src/search.rt:79:9
 returns : tie.Need-returns
-returns c = ?
+returns c =
+    let at = c .before .before .before .before .before .before .before .before .before .before .before .before .before .before .before .before in
+    let k = c .before .before .before .before .before .keep-find in
+    let f = c .before .floor-cost in
+    (from-floor (at .pre) (k .ensures) (f .ensures) (record { sfits = k .ok }) (record { sfits = f .ok }) (settingsOf (at .args .s)) (c .if1 .taken), refl, refl)
 
--- src/search.rt:84:5
-add-bound-requires : tie.Need-add-bound-requires
-add-bound-requires c κs = search needs
-
--- src/search.rt:85:5
 tighten-requires : tie.Need-tighten-requires
-tighten-requires c κs = ?
+tighten-requires c κs =
+    let a = c .before .before .before .before .before .before .before .before .before .before in
+    let f = a .before .before .before .before in
+    let k = f .before .before .before .before in
+    let at = k .before .before .before .before .before .before .before .before .before .before .before in
+    tighten-ready (at .pre) (k .keep-find .ensures) (f .floor-cost .ensures) (record { sfits = k .keep-find .ok }) (record { sfits = f .floor-cost .ok }) (a .before .before .before .if1 .left) (pos 0) (omega arith) (a .add-bound .ensures .0) (a .add-bound .ensures .1)
 
--- src/search.rt:55:1
-same-length-4 : tie.Need-same-length-4
-same-length-4 c = search needs
-
--- src/search.rt:55:1
-same-length-5 : tie.Need-same-length-5
-same-length-5 c = search needs
-
--- src/search.rt:55:1
-same-length-6 : tie.Need-same-length-6
-same-length-6 c = search needs
-
--- src/search.rt:55:1
-same-length-7 : tie.Need-same-length-7
-same-length-7 c = search needs
-
--- src/search.rt:55:1
-same-length-8 : tie.Need-same-length-8
-same-length-8 c = search needs
-
--- src/search.rt:55:1
-same-length-9 : tie.Need-same-length-9
-same-length-9 c = search needs
-
--- src/search.rt:55:1
 returns-2 : tie.Need-returns-2
-returns-2 c = ?
+returns-2 c =
+    let t = c .before .before .before .before .before .before .before .before .before .before in
+    let a = t .before .before .before .before .before .before .before .before .before .before .before in
+    let f = a .before .before .before .before in
+    let k = f .before .before .before .before in
+    let at = k .before .before .before .before .before .before .before .before .before .before .before in
+    from-tightened (at .pre) (k .keep-find .ensures) (f .floor-cost .ensures) (record { sfits = k .keep-find .ok }) (record { sfits = f .floor-cost .ok }) (a .before .before .before .if1 .left) (pos 0) (omega arith) (a .add-bound .ensures .0) (a .add-bound .ensures .1) (settingsOf (at .args .s)) (t .tighten .ensures)
 
 pub from-find-spec : {M : Type 1} → statement M
 from-find-spec =
@@ -74,16 +45,16 @@ from-find-spec =
     (tie.spec
     keep-find-requires
     floor-cost-requires
-    same-length
-    same-length-2
-    same-length-3
+    (λ c. search needs)
+    (λ c. search needs)
+    (λ c. search needs)
     returns
-    add-bound-requires
+    (λ c κs. search needs)
     tighten-requires
-    same-length-4
-    same-length-5
-    same-length-6
-    same-length-7
-    same-length-8
-    same-length-9
+    (λ c. search needs)
+    (λ c. search needs)
+    (λ c. search needs)
+    (λ c. search needs)
+    (λ c. search needs)
+    (λ c. search needs)
     returns-2)

@@ -1,0 +1,444 @@
+-- Laws of the whole search: the copied tables hold the plan, the first call decides, and from a first find the tightening goes on; what is handed out satisfies the plan.
+-- Assumes nothing.
+use Prim.Native.Nat.{ℕ, zero, suc, _+_, _-_, _/_, _≤_, _<_}
+use native.Mathlib.Omega.{arith}
+use mathlib.Core.Path.{_≡_, refl, sym, ap, ap₂, _∙_, subst}
+use mathlib.Core.Bool.{Bool, true, false, cond}
+use mathlib.Core.List.{List, [], _∷_, _++_, map}
+use lib.Dec.{T, leb, eqb}
+use lib.IntN.{ℤ, pos, natAbs}
+use lib.ListN.{length, take, drop, length-append, replicate}
+use lib.Seq.{length-take-le, take-at, drop-at, drop-drop}
+use lib.Signed.{leZ}
+use mir.Facts.{toZ-ofZ}
+use mir.Syntax.{w64}
+use mir.Val.{toZ, ofZ, SFits}
+use Rattle.plpb.specs.Lists.{_and_, _or_, all, isEmpty}
+use Rattle.plpb.specs.Plan.{absent, present, Clause, Plan, Assignment, satisfies, cost, floorCost}
+use Rattle.plpb.specs.Walk.{Mark, ends, short, run}
+use Rattle.plpb.specs.Search.{Mode, linear, lbs, Settings, Reached, failed, reached, call, tightened, Ending, floor, ended, none, short-found, short-none, atFloor, gap, tighten, searchWalk, lastFind, costOf, Answer, answerOf as answered, conclude, begin, search}
+use Rattle.plpb.specs.Sound.{findsOf, noPlan, Sound}
+use Rattle.plpb.proofs.Lists.{and-left}
+use Rattle.plpb.proofs.Walks.{at}
+use Rattle.plpb.proofs.Costs.{floor-below}
+use Rattle.plpb.proofs.Soundness.{search-sound}
+use Rattle.words.specs.Words.{wordBytes, wordAt}
+use Rattle.words.proofs.Words.{length-wordBytes}
+use Rattle.format.specs.Limits.{lawful, roomy}
+use Rattle.format.specs.Tables.{Holds, planOfTables, tableWords, termWords, tableSize, termSize}
+use Rattle.format.proofs.Bools.{T-true}
+use Rattle.format.proofs.Lawful.{plan-parts, roomy-parts, lawful-roomy}
+use Rattle.format.proofs.IsLoaded.{isLoaded-lawful, isLoaded-holds}
+use Rattle.format.proofs.ReadBack.{read-back}
+use Rattle.format.proofs.Sections.{length-tableWords, length-termWords}
+use Rattle.objective.specs.Sums.{Summable, costIn, floorIn, bits}
+use Rattle.objective.proofs.Costs.{summable, variables-in, cost-in, floor-in, some-objective}
+use Rattle.objective.proofs.TightenedTables.{copied-hold, roomy-tightened, bound-holds, bound-back}
+use Rattle.tallies.specs.Layout.{bitsOf, bitBytes, areBits}
+use Rattle.tallies.specs.Core.{Laid, Ready}
+use Rattle.tallies.proofs.Bits.{whole-bytes}
+use Rattle.tallies.proofs.Callers.{held-laid}
+use Rattle.numbers.specs.Numbers.{numbersOf}
+use Rattle.numbers.proofs.Runs.{linear-none, linear-floor, lbs-none, lbs-floor, tighten-linear, tighten-lbs, search-none, search-found, search-short}
+use Rattle.walk.specs.declared.tries.Tried.{Tried}
+use Rattle.walk.specs.declared.tries.Tried.the-variants as tried
+use Rattle.walk.specs.declared.tightening.Stand.{Stand}
+use Rattle.walk.specs.declared.tightening.Ending.{Ending as EndingOf}
+use Rattle.walk.specs.declared.tightening.Ending.the-variants as code
+use Rattle.walk.specs.declared.tightening.Searched.{Searched}
+use Rattle.walk.specs.declared.search.Answer.{Answer as Answered}
+use Rattle.walk.specs.Calls.{withFind, endingNumber, hasPlan}
+use Rattle.walk.specs.Steps.{Work, Startable, Beyond, bitsIn, triedOf, usedBy, flipsBy, IfReached, Finds, Tries}
+use Rattle.walk.specs.Bounds.{untightened, basis, Bounded, Stands, Room, Leaves, answerOf, endingOf, Concludes}
+use Rattle.walk.specs.Whole.{Empty, Roomy, FirstFind, FromFind, Searchable, Whole}
+
+-- ---- a find copied out
+
+module _ (n : ℕ) (found entry : List ℕ) (room : n ≤ length found) {exit : List ℕ} (e : exit ≡ take n found ++ drop n entry) where
+  copied-front : take n exit ≡ take n found
+  copied-front = ap (take n) e ∙ take-at (take n found) (drop n entry) n (length-take-le n found room)
+
+  copied-bits : bitsOf n exit ≡ bitsOf n found
+  unfolding bitsOf
+  copied-bits = ap (map (λ b. eqb b 1)) copied-front
+
+  copied-areBits : T (areBits n found) → T (areBits n exit)
+  unfolding areBits
+  copied-areBits t = rw copied-front t
+
+  copied-beyond : drop n exit ≡ drop n entry
+  copied-beyond = ap (drop n) e ∙ drop-at (take n found) (drop n entry) n (length-take-le n found room)
+
+-- The bytes of a find are those of its bits, and what stood behind them.
+find-bytes : (n : ℕ) (entry exit : List ℕ) → T (areBits n exit) → drop n exit ≡ drop n entry → exit ≡ withFind (reached (bitsOf n exit)) n entry
+unfolding withFind
+find-bytes n entry exit t e = whole-bytes n exit t ∙ ap (λ d. bitBytes (bitsOf n exit) ++ d) e
+
+-- ---- a find that costs l(O)
+
+module _ (s : Settings) (p : Plan) (ns : List ℕ) (a : Assignment) (m : Mark) (e : atFloor p a ≡ true) where
+  floor-ends : (mode : Mode) (left : ℕ) → run (tighten mode s p left a) ns m ≡ ends floor m
+  floor-ends linear zero = tighten-linear s p ns a m 0 ∙ linear-none s p ns a m
+  floor-ends linear (suc left) = tighten-linear s p ns a m (suc left) ∙ linear-floor s p ns a m left e
+  floor-ends lbs zero = tighten-lbs s p ns a m 0 ∙ lbs-none s p ns a m
+  floor-ends lbs (suc left) = tighten-lbs s p ns a m (suc left) ∙ lbs-floor s p ns a m left e
+
+first-answer : (p : Plan) (a : Assignment) (used flips : ℕ) (v : ℤ) → v ≡ cost p a
+    → conclude p (ends floor (at used flips (a ∷ [])))
+    ≡ answerOf code.Floor (record { cost = v; finds = 1; flips = flips; used = used }) (reached a)
+unfolding conclude answered lastFind costOf answerOf endingOf
+first-answer p a used flips v e = λ j. record { ending = floor; cost = (sym e) j; finds = 1; flips = flips; used = used; assignment = reached a }
+
+-- ---- from the first find on
+
+without-added : (p : Plan) (m : ℤ) → untightened (tightened p m) ≡ p
+unfolding untightened tightened
+without-added p m =
+    let c : List Clause = (record { lower = absent; upper = present m; terms = p .objective } ∷ []) ∷ [] in
+    let e : take (length (p .clauses ++ c) - 1) (p .clauses ++ c) ≡ p .clauses = take-at (p .clauses) c (length (p .clauses ++ c) - 1) (omega (arith, length-append (p .clauses) c)) in
+    λ j. record { variables = p .variables; objective = p .objective; clauses = e j }
+
+module _ {tables terms numbers : List ℕ} {used flips : ℕ} {assignment : List ℕ} {w : Work} (h : FirstFind tables terms numbers used flips assignment w) where
+  abbrev here : Plan
+  here = planOfTables tables terms
+
+  abbrev find : Assignment
+  find = bitsOf (planOfTables tables terms .variables) (w .assignment)
+
+  room : T (roomy (planOfTables tables terms))
+  room = lawful-roomy here (h .lawful)
+
+  few : here .variables ≤ 512
+  few = plan-parts here (h .lawful) .high
+
+  count : wordAt tables 0 ≡ here .variables
+  count = variables-in here tables terms room (h .holds)
+
+  pub find-summable : Summable tables
+  find-summable = summable here tables terms room (h .holds)
+
+  pub find-keepable : Summable tables × (wordAt tables 0 ≤ length (w .assignment)) × (wordAt tables 0 ≤ length assignment)
+  find-keepable = (find-summable, omega (arith, few, count, h .work .assignment), omega (arith, few, count, h .room))
+
+  module _ {v least : ℤ} {kept : List ℕ}
+      (k : (v ≡ costIn tables (bits (wordAt tables 0) (w .assignment))) × (kept ≡ take (wordAt tables 0) (w .assignment) ++ drop (wordAt tables 0) assignment))
+      (f : least ≡ floorIn tables) (vf : SFits w64 v) (lf : SFits w64 least)
+    where
+      bytes : here .variables ≤ length (w .assignment)
+      bytes = omega (arith, few, h .work .assignment)
+
+      costs : toZ w64 (ofZ w64 v) ≡ cost here find
+      unfolding bitsOf
+      costs =
+          toZ-ofZ vf ∙ k .0 ∙ cost-in here tables terms room (h .holds) _ ∙ ap (λ n. cost here (bits n (w .assignment))) count
+
+      floored : toZ w64 (ofZ w64 least) ≡ floorCost here
+      floored = toZ-ofZ lf ∙ f ∙ floor-in here tables terms room (h .holds)
+
+      copied : kept ≡ take (here .variables) (w .assignment) ++ drop (here .variables) assignment
+      copied = k .1 ∙ ap (λ n. take n (w .assignment) ++ drop n assignment) count
+
+      kept-bits : bitsOf (here .variables) kept ≡ find
+      kept-bits = copied-bits (here .variables) (w .assignment) assignment bytes copied
+
+      kept-areBits : T (areBits (here .variables) kept)
+      kept-areBits = copied-areBits (here .variables) (w .assignment) assignment bytes copied (h .bits)
+
+      kept-beyond : drop (here .variables) kept ≡ drop (here .variables) assignment
+      kept-beyond = copied-beyond (here .variables) (w .assignment) assignment bytes copied
+
+      abbrev stand : Stand
+      stand = record { cost = toZ w64 (ofZ w64 v); finds = 1; flips = flips; used = used }
+
+      -- "A found assignment of cost v with v = l(O) ends the search."
+      pub from-floor : (s : Settings) → leZ (toZ w64 (ofZ w64 v)) (toZ w64 (ofZ w64 least)) ≡ true
+          → FromFind s tables terms numbers used flips
+              (record { ending = code.Floor; stand = record { cost = toZ w64 (ofZ w64 v); finds = 1; flips = flips; used = used } })
+              assignment kept w w
+      unfolding atFloor _and_
+      from-floor s t =
+          let low : leZ (cost here find) (floorCost here) ≡ true = sym (ap₂ leZ costs floored) ∙ t in
+          let ground : atFloor here find ≡ true = rw (low, T-true (leZ (floorCost here) (cost here find)) (floor-below here find)) in
+          record {
+            answers =
+                ap (conclude here) (floor-ends s here (numbersOf numbers) find (at used flips (find ∷ [])) ground (s .mode) (gap here find))
+                ∙ first-answer here find used flips _ costs
+                ∙ ap (λ b. answerOf code.Floor stand (reached b)) (sym kept-bits);
+            find = find-bytes (here .variables) assignment kept kept-areBits kept-beyond;
+            beyond = record { assignment = refl; tallies = refl; marks = refl };
+          }
+
+      -- Else the clause is added, and the tightening goes on with it.
+      module _ (t : leZ (toZ w64 (ofZ w64 v)) (toZ w64 (ofZ w64 least)) ≡ false) (m : ℤ) (within : natAbs m ≤ 1_000_000_000) {tables′ terms′ : List ℕ}
+          (e : tables′ ≡ wordBytes (tableWords (tightened (planOfTables tables terms) m)) ++ drop tableSize tables)
+          (g : terms′ ≡ wordBytes (termWords (tightened (planOfTables tables terms) m)) ++ drop termSize terms)
+        where
+          above : atFloor here find ≡ false
+          unfolding atFloor _and_
+          above = let high : leZ (cost here find) (floorCost here) ≡ false = sym (ap₂ leZ costs floored) ∙ t in rw high
+
+          some : 0 < length (here .objective)
+          some = some-objective here find above
+
+          bounded : Bounded here tables′ terms′
+          bounded =
+              record {
+                lawful = h .lawful;
+                some = some;
+                bound = m;
+                within = within;
+                holds = bound-holds here (h .lawful) tables terms (h .holds) some m within tables′ terms′ e g;
+              }
+
+          same : basis tables′ terms′ ≡ here
+          unfolding basis
+          same = ap untightened (bound-back here (h .lawful) tables terms (h .holds) some m within tables′ terms′ e g) ∙ without-added here m
+
+          long : here .variables ≤ length kept
+          long =
+              omega
+              (arith, ap length copied, length-append (take (here .variables) (w .assignment)) (drop (here .variables) assignment), length-take-le (here .variables) (w .assignment) bytes)
+
+          pub tighten-ready :
+              Room (basis tables′ terms′) tables′ terms′ kept w
+              × Stands (basis tables′ terms′) numbers kept (record { cost = toZ w64 (ofZ w64 v); finds = 1; flips = flips; used = used })
+              × (toZ w64 (ofZ w64 least) ≡ floorCost (basis tables′ terms′))
+          tighten-ready =
+              subst (λ q. Room q tables′ terms′ kept w × Stands q numbers kept stand × (toZ w64 (ofZ w64 least) ≡ floorCost q)) (sym same) (
+                record {
+                  bounded = bounded;
+                  find = long;
+                  tried = bytes;
+                  tallies = h .work .tallies;
+                  marks = omega (arith, few, h .work .marks);
+                },
+                record {
+                  bits = kept-areBits;
+                  costs = costs ∙ ap (cost here) (sym kept-bits);
+                  finds = h .some;
+                  flips = h .few;
+                  within = h .within;
+                },
+                floored,
+              )
+
+          beyond-terms : drop termSize terms′ ≡ drop termSize terms
+          beyond-terms =
+              let l = roomy-parts (tightened here m) (roomy-tightened here (h .lawful) some m within) in
+              let n = length-wordBytes (termWords (tightened here m)) in
+              ap (drop termSize) g
+              ∙ drop-at (wordBytes (termWords (tightened here m))) (drop termSize terms) termSize (omega (arith, n, length-termWords (tightened here m) l))
+
+          beyond-table : drop tableSize tables′ ≡ drop tableSize tables
+          beyond-table =
+              let l = roomy-parts (tightened here m) (roomy-tightened here (h .lawful) some m within) in
+              let n = length-wordBytes (tableWords (tightened here m)) in
+              ap (drop tableSize) e
+              ∙ drop-at (wordBytes (tableWords (tightened here m))) (drop tableSize tables) tableSize (omega (arith, n, length-tableWords (tightened here m) l))
+
+          pub from-tightened : (s : Settings) {r : Searched} {out exit : List ℕ} {u : Work}
+              → Concludes (tighten (s .mode) s) (basis tables′ terms′) numbers (record { cost = toZ w64 (ofZ w64 v); finds = 1; flips = flips; used = used })
+                  (bitsOf ((basis tables′ terms′) .variables) kept) (answerOf (r .ending) (r .stand) (reached (bitsOf ((basis tables′ terms′) .variables) exit)))
+              × Stands (basis tables′ terms′) numbers exit (r .stand)
+              × Leaves (basis tables′ terms′) tables′ terms′ out kept exit w u
+              → FromFind s tables terms numbers used flips r assignment exit w u
+              × (drop tableSize out ≡ drop tableSize tables)
+              × (drop termSize terms′ ≡ drop termSize terms)
+          from-tightened s {r} {out} {exit} {u} k =
+              let c = subst (λ q. Concludes (tighten (s .mode) s) q numbers stand (bitsOf (q .variables) kept) (answerOf (r .ending) (r .stand) (reached (bitsOf (q .variables) exit)))) same (k .0) in
+              let b = subst (λ q. Stands q numbers exit (r .stand)) same (k .1) in
+              let l = subst (λ q. Leaves q tables′ terms′ out kept exit w u) same (k .2) in (
+                record {
+                  answers =
+                      rw kept-bits at (c (gap here find) [] (subst (λ a. gap here a ≤ gap here find) (sym kept-bits) (omega arith)) refl);
+                  find = find-bytes (here .variables) assignment exit (b .bits) (l .find ∙ kept-beyond);
+                  beyond = l .beyond;
+                },
+                l .table ∙ beyond-table,
+                beyond-terms,
+              )
+
+-- ---- the first call, with the plan alone
+
+unfoldable unreached : Assignment → Reached → Assignment
+unreached d failed = d
+unreached d (reached a) = a
+
+nowhere : (a : Assignment) → failed ≡ reached a → ⊥
+nowhere a e = let z : _≡_ {A = ℕ} 0 1 = cc in omega arith
+
+-- What a search answers where it found nothing.
+module _ (s : Settings) (p : Plan) (numbers : List ℕ) (r : Searched) where
+  none-answer : {used flips : ℕ} → run (searchWalk s p) (numbersOf numbers) begin ≡ ends none (at used flips []) → Empty code.None used flips r
+      → search s p (numbersOf numbers) ≡ answerOf (r .ending) (r .stand) failed
+  unfolding search conclude answered lastFind costOf answerOf endingOf
+  none-answer e k =
+      ap (conclude p) e
+      ∙ (λ j. record {
+        ending = endingOf (sym (k .ending) j);
+        cost = sym (k .cost) j;
+        finds = sym (k .finds) j;
+        flips = sym (k .flips-made) j;
+        used = sym (k .numbers-used) j;
+        assignment = failed;
+      })
+
+  short-answer : {used flips : ℕ} → run (searchWalk s p) (numbersOf numbers) begin ≡ short (at used flips []) → Empty code.ShortNone used flips r
+      → search s p (numbersOf numbers) ≡ answerOf (r .ending) (r .stand) failed
+  unfolding search conclude answered lastFind costOf answerOf endingOf isEmpty
+  short-answer e k =
+      ap (conclude p) e
+      ∙ (λ j. record {
+        ending = endingOf (sym (k .ending) j);
+        cost = sym (k .cost) j;
+        finds = sym (k .finds) j;
+        flips = sym (k .flips-made) j;
+        used = sym (k .numbers-used) j;
+        assignment = failed;
+      })
+
+  -- .. and what it leaves.
+  empty-whole : {entry : List ℕ} {w v : Work} → search s p (numbersOf numbers) ≡ answerOf (r .ending) (r .stand) failed → Beyond (p .variables) w v
+      → Whole s p numbers r entry entry w v
+  unfolding answerOf withFind
+  empty-whole {entry} {w} {v} e b =
+      let f : search s p (numbersOf numbers) .assignment ≡ failed = ap (λ x. x .assignment) e in
+      record {
+        answers = e ∙ ap (answerOf (r .ending) (r .stand)) (sym f);
+        last = λ a g. absurd (nowhere a (sym f ∙ g));
+        find = rw f refl;
+        beyond = b;
+      }
+
+  found-whole : {entry exit : List ℕ} {w v : Work} → search s p (numbersOf numbers) ≡ answerOf (r .ending) (r .stand) (reached (bitsOf (p .variables) exit))
+      → exit ≡ withFind (reached (bitsOf (p .variables) exit)) (p .variables) entry → Beyond (p .variables) w v → Whole s p numbers r entry exit w v
+  unfolding answerOf unreached
+  found-whole {entry} {exit} {w} {v} e x b =
+      let f : search s p (numbersOf numbers) .assignment ≡ reached (bitsOf (p .variables) exit) = ap (λ y. y .assignment) e in
+      record {
+        answers = e ∙ ap (answerOf (r .ending) (r .stand)) (sym f);
+        last = λ a g. ap (unreached a) (sym f ∙ g);
+        find = rw f x;
+        beyond = b;
+      }
+
+beyond-both : {n : ℕ} {w v u : Work} → Beyond n w v → Beyond n v u → Beyond n w u
+beyond-both a b =
+    record { assignment = b .assignment ∙ a .assignment; tallies = b .tallies ∙ a .tallies; marks = b .marks ∙ a .marks }
+
+-- The work tables hold the plan once it is copied.
+module _ {plan planTerms assignment tables terms : List ℕ} {w : Work} (h : Searchable plan planTerms assignment tables terms w) {tables′ terms′ : List ℕ}
+    (e : tables′ ≡ take tableSize plan ++ drop tableSize tables) (f : terms′ ≡ take termSize planTerms ++ drop termSize terms)
+  where
+    abbrev lent : Plan
+    lent = planOfTables plan planTerms
+
+    abbrev copy : Plan
+    copy = planOfTables tables′ terms′
+
+    plan-lawful : T (lawful lent)
+    plan-lawful = isLoaded-lawful plan planTerms (h .loaded)
+
+    held : Holds lent tables′ terms′
+    held = rw (e, f) (copied-hold lent (lawful-roomy lent plan-lawful) plan planTerms tables terms (isLoaded-holds plan planTerms (h .loaded)))
+
+    back : copy ≡ lent
+    back = read-back lent tables′ terms′ (lawful-roomy lent plan-lawful) held
+
+    laid : Laid tables′ terms′
+    laid = held-laid lent tables′ terms′ (lawful-roomy lent plan-lawful) held
+
+    small : copy .variables ≤ 512
+    small = rw back (plan-parts lent plan-lawful .high)
+
+    pub copied-table : drop tableSize tables′ ≡ drop tableSize tables
+    copied-table = ap (drop tableSize) e ∙ drop-at (take tableSize plan) (drop tableSize tables) tableSize (length-take-le tableSize plan (h .long))
+
+    pub copied-terms : drop termSize terms′ ≡ drop termSize terms
+    copied-terms = ap (drop termSize) f ∙ drop-at (take termSize planTerms) (drop termSize terms) termSize (length-take-le termSize planTerms (h .long-terms))
+
+    pub core-startable : Startable tables′ terms′ w
+    core-startable =
+        record {
+          ready = record { laid = laid; bytes = omega (arith, small, h .work .assignment) };
+          room = h .work .tallies;
+          marks = record { laid = laid; bytes = omega (arith, small, h .work .marks) };
+        }
+
+    -- By what the call came to.
+    module _ (s : Settings) (numbers : List ℕ) {t : Tried} {v : Work} (made : Tries (call s (planOfTables tables′ terms′)) tables′ terms′ numbers 0 0 1 t w v) where
+      made-as : (x : Tried) → t ≡ x → Tries (call s (planOfTables tables′ terms′)) tables′ terms′ numbers 0 0 1 x w v
+      made-as x e = subst (λ y. Tries (call s copy) tables′ terms′ numbers 0 0 1 y w v) e made
+
+      pub core-first : {used flips : ℕ} → t ≡ tried.Reached used flips → Roomy v → FirstFind tables′ terms′ numbers used flips assignment v
+      unfolding IfReached usedBy flipsBy
+      core-first {used} {flips} e y =
+          let k = made-as (tried.Reached used flips) e in
+          record {
+            lawful = rw back plan-lawful;
+            holds = laid .holds;
+            room = h .room;
+            work = y;
+            bits = k .finds .bits;
+            some = k .finds .uses;
+            few = k .flipped;
+            within = k .within;
+          }
+
+      pub core-found : {used flips : ℕ} {r : Searched} {exit : List ℕ} {u : Work} → t ≡ tried.Reached used flips
+          → FromFind s tables′ terms′ numbers used flips r assignment exit v u → Whole s (planOfTables plan planTerms) numbers r assignment exit w u
+      unfolding triedOf search begin
+      core-found {used} {flips} {r} {exit} {u} e z =
+          let k = made-as (tried.Reached used flips) e in
+          let found : search s copy (numbersOf numbers) ≡ answerOf (r .ending) (r .stand) (reached (bitsOf (copy .variables) exit)) =
+              ap (conclude copy) (search-found s copy (numbersOf numbers) begin (k .outcome [])) ∙ z .answers in
+          subst (λ p. Whole s p numbers r assignment exit w u) back (found-whole s copy numbers r found (z .find) (beyond-both (k .beyond) (z .beyond)))
+
+      pub core-none : {used flips : ℕ} {r : Searched} → t ≡ tried.Failed used flips → Empty code.None used flips r
+          → Whole s (planOfTables plan planTerms) numbers r assignment assignment w v
+      unfolding triedOf begin
+      core-none {used} {flips} {r} e z =
+          let k = made-as (tried.Failed used flips) e in
+          subst (λ p. Whole s p numbers r assignment assignment w v) back
+          (empty-whole s copy numbers r (none-answer s copy numbers r (search-none s copy (numbersOf numbers) begin (k .outcome [])) z) (k .beyond))
+
+      pub core-short : {used flips : ℕ} {r : Searched} → t ≡ tried.Short used flips → Empty code.ShortNone used flips r
+          → Whole s (planOfTables plan planTerms) numbers r assignment assignment w v
+      unfolding triedOf begin
+      core-short {used} {flips} {r} e z =
+          let k = made-as (tried.Short used flips) e in
+          subst (λ p. Whole s p numbers r assignment assignment w v) back
+          (empty-whole s copy numbers r (short-answer s copy numbers r (search-short s copy (numbersOf numbers) begin (k .outcome [])) z) (k .beyond))
+
+-- ---- what is handed out
+
+plan-told : (e : Ending) → T (hasPlan (endingNumber e)) → noPlan e ≡ false
+unfolding hasPlan endingNumber noPlan _or_
+plan-told floor t = refl
+plan-told ended t = refl
+plan-told none t = absurd t
+plan-told short-found t = refl
+plan-told short-none t = absurd t
+
+last-satisfies : (p : Plan) (fs : List Assignment) → isEmpty fs ≡ false → T (all (λ a. satisfies a p) fs)
+    → (a : Assignment) × (lastFind fs ≡ reached a) × T (satisfies a p)
+unfolding isEmpty all lastFind
+last-satisfies p [] e t = absurd (let z : _≡_ {A = ℕ} 0 1 = cc in omega arith)
+last-satisfies p (a ∷ fs) e t = (a, refl, and-left _ _ t)
+
+-- "A plan handed out satisfies every clause", and the cost is its cost.
+pub handed-out : {s : Settings} {p : Plan} {numbers : List ℕ} {r : Searched} {entry exit : List ℕ} {w v : Work} → Whole s p numbers r entry exit w v
+    → T (hasPlan (endingNumber (endingOf (r .ending))))
+    → T (satisfies (bitsOf (p .variables) exit) p) × (r .stand .cost ≡ cost p (bitsOf (p .variables) exit))
+unfolding answerOf costOf
+handed-out {s} {p} {numbers} {r} {entry} {exit} {w} {v} h t =
+    let ns = numbersOf numbers in
+    let o = search-sound s p ns in
+    let same : search s p ns .ending ≡ endingOf (r .ending) = ap (λ x. x .ending) (h .answers) in
+    let some : isEmpty (findsOf s p ns) ≡ false = sym (o .none-found) ∙ ap noPlan same ∙ plan-told _ t in
+    let l = last-satisfies p (findsOf s p ns) some (o .each-satisfies) in
+    let is : search s p ns .assignment ≡ reached (l .0) = o .handed-out ∙ l .1 in
+    let bits = h .last (l .0) is in (
+      subst (λ a. T (satisfies a p)) (sym bits) (l .2),
+      sym (ap (λ x. x .cost) (h .answers)) ∙ o .cost-stated ∙ ap (costOf p) is ∙ ap (cost p) (sym bits),
+    )
