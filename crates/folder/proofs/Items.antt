@@ -14,7 +14,8 @@ use borrow.Author.Tests.{ne-eqb}
 use Rattle.plpb.specs.Search.{Ending, floor, ended, none, short-found, short-none}
 use Rattle.words.specs.Writes.{front, put}
 use Rattle.words.proofs.Writes.{front-put, put-put}
-use Rattle.folder.specs.Text.{text, decimal, signedDecimal, line, endingNumber, endingOf, endingWord, resultLine, assignmentLine, refusalLine}
+use Rattle.walk.specs.Calls.{endingNumber}
+use Rattle.folder.specs.Text.{text, decimal, signedDecimal, line, endingOf, endingWord, resultLine, assignmentLine, refusalLine}
 use Rattle.folder.proofs.Decimal.{twenty}
 use Rattle.folder.proofs.Signs.{read, Negative, Natural}
 use Rattle.folder.proofs.Writing.{stored, front-more, put-more, characters, length-characters}

@@ -41,15 +41,7 @@ line [] = text "\n"
 line (item ∷ []) = item ++ text "\n"
 line (item ∷ next ∷ rest) = item ++ (text " " ++ line (next ∷ rest))
 
--- "Endings: floor (v = l(O)), ended, none (first call failed), short-found, short-none (numbers gone)." They are numbered in this order, from 1 on.
-unfoldable pub endingNumber : Ending → ℕ
-endingNumber floor = 1
-endingNumber ended = 2
-endingNumber none = 3
-endingNumber short-found = 4
-endingNumber short-none = 5
-
--- The ending of a number; one that is not among them counts as the last.
+-- The ending of a number (`endingNumber` of the search's contract); one that is not among them counts as the last.
 unfoldable pub endingOf : ℕ → Ending
 endingOf n = cond (eqb n 1) floor (cond (eqb n 2) ended (cond (eqb n 3) none (cond (eqb n 4) short-found short-none)))
 

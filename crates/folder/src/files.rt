@@ -1,7 +1,8 @@
 // walk.bin and numbers.bin judged.
 ghost use mathlib.Core.Path.{_≡_};
-ghost use Rattle.walk.specs.Calls.{settingsRefusal};
 ghost use Rattle.folder.specs.Files.{walkFault, judged, readWalk, walked, numbersRefusal};
+use walk::lent::settings_refusal;
+use walk::tries::Settings;
 
 // The settings, or the refusal's number and offset.
 pub enum Walked {
@@ -33,35 +34,15 @@ fn head_fault(file: &[u8]) -> u32
     0
 }
 
-// "11: noise outside 0 to 1,000. 12: tries outside 1 to 1,000. 13: flips outside 1 to 1,000,000. 14: mode other than 0 (linear) or 1 (LBS)."
-fn settings_fault(noise: u32, tries: u32, flips: u32, mode: u32) -> u32
-    ensures { λ r. ⌜ r ≡ settingsRefusal (record { noise = noise; tries = tries; flips = flips; mode = mode }) ⌝ }
-{
-    if 1000 < noise {
-        return 11;
-    }
-    if tries < 1 {
-        return 12;
-    }
-    if 1000 < tries {
-        return 12;
-    }
-    if flips < 1 {
-        return 13;
-    }
-    if 1000000 < flips {
-        return 13;
-    }
-    if 1 < mode {
-        return 14;
-    }
-    0
-}
-
 fn judge_settings(noise: u32, tries: u32, flips: u32, mode: u32) -> Walked
     ensures { λ r. ⌜ r ≡ walked (judged (record { noise = noise; tries = tries; flips = flips; mode = mode })) ⌝ }
 {
-    let fault = settings_fault(noise, tries, flips, mode);
+    let fault = settings_refusal(Settings {
+        noise,
+        tries,
+        flips,
+        mode,
+    });
     if fault != 0 {
         return Walked::Refused(fault, 0);
     }

@@ -153,8 +153,8 @@ module _ {tables terms numbers : List ℕ} {used flips : ℕ} {assignment : List
       -- "A found assignment of cost v with v = l(O) ends the search."
       pub from-floor : (s : Settings) → leZ (toZ w64 (ofZ w64 v)) (toZ w64 (ofZ w64 least)) ≡ true
           → FromFind s tables terms numbers used flips
-              (record { ending = code.Floor; stand = record { cost = toZ w64 (ofZ w64 v); finds = 1; flips = flips; used = used } })
-              assignment kept w w
+          (record { ending = code.Floor; stand = record { cost = toZ w64 (ofZ w64 v); finds = 1; flips = flips; used = used } })
+          assignment kept w w
       unfolding atFloor _and_
       from-floor s t =
           let low : leZ (cost here find) (floorCost here) ≡ true = sym (ap₂ leZ costs floored) ∙ t in
@@ -238,7 +238,7 @@ module _ {tables terms numbers : List ℕ} {used flips : ℕ} {assignment : List
 
           pub from-tightened : (s : Settings) {r : Searched} {out exit : List ℕ} {u : Work}
               → Concludes (tighten (s .mode) s) (basis tables′ terms′) numbers (record { cost = toZ w64 (ofZ w64 v); finds = 1; flips = flips; used = used })
-                  (bitsOf ((basis tables′ terms′) .variables) kept) (answerOf (r .ending) (r .stand) (reached (bitsOf ((basis tables′ terms′) .variables) exit)))
+              (bitsOf ((basis tables′ terms′) .variables) kept) (answerOf (r .ending) (r .stand) (reached (bitsOf ((basis tables′ terms′) .variables) exit)))
               × Stands (basis tables′ terms′) numbers exit (r .stand)
               × Leaves (basis tables′ terms′) tables′ terms′ out kept exit w u
               → FromFind s tables terms numbers used flips r assignment exit w u
@@ -391,7 +391,7 @@ module _ {plan planTerms assignment tables terms : List ℕ} {w : Work} (h : Sea
       core-found {used} {flips} {r} {exit} {u} e z =
           let k = made-as (tried.Reached used flips) e in
           let found : search s copy (numbersOf numbers) ≡ answerOf (r .ending) (r .stand) (reached (bitsOf (copy .variables) exit)) =
-              ap (conclude copy) (search-found s copy (numbersOf numbers) begin (k .outcome [])) ∙ z .answers in
+          ap (conclude copy) (search-found s copy (numbersOf numbers) begin (k .outcome [])) ∙ z .answers in
           subst (λ p. Whole s p numbers r assignment exit w u) back (found-whole s copy numbers r found (z .find) (beyond-both (k .beyond) (z .beyond)))
 
       pub core-none : {used flips : ℕ} {r : Searched} → t ≡ tried.Failed used flips → Empty code.None used flips r
