@@ -34,7 +34,7 @@ use Rattle.format.proofs.Sections.{length-tableWords, length-termWords}
 use Rattle.objective.specs.Sums.{Summable, costIn, floorIn, bits}
 use Rattle.objective.proofs.Costs.{summable, variables-in, cost-in, floor-in, some-objective}
 use Rattle.objective.proofs.TightenedTables.{copied-hold, roomy-tightened, bound-holds, bound-back}
-use Rattle.tallies.specs.Layout.{bitsOf, bitBytes, areBits}
+use Rattle.tallies.specs.Layout.{assignmentSize, tallySize, bitsOf, bitBytes, areBits}
 use Rattle.tallies.specs.Core.{Laid, Ready}
 use Rattle.tallies.proofs.Bits.{whole-bytes}
 use Rattle.tallies.proofs.Callers.{held-laid}
@@ -46,11 +46,11 @@ use Rattle.walk.specs.declared.tightening.Stand.{Stand}
 use Rattle.walk.specs.declared.tightening.Ending.{Ending as EndingOf}
 use Rattle.walk.specs.declared.tightening.Ending.the-variants as code
 use Rattle.walk.specs.declared.tightening.Searched.{Searched}
-use Rattle.walk.specs.declared.search.Answer.{Answer as Answered}
-use Rattle.walk.specs.Calls.{withFind, endingNumber, hasPlan}
+use Rattle.walk.specs.Calls.{Asked, Lent, markSize, searchRefusal, modeOf, settings, answer, withFind, searchAssignment, cleared, endingNumber, unless, Searches, hasPlan, HandsOut}
 use Rattle.walk.specs.Steps.{Work, Startable, Beyond, bitsIn, triedOf, usedBy, flipsBy, IfReached, Finds, Tries}
 use Rattle.walk.specs.Bounds.{untightened, basis, Bounded, Stands, Room, Leaves, answerOf, endingOf, Concludes}
 use Rattle.walk.specs.Whole.{Empty, Roomy, FirstFind, FromFind, Searchable, Whole}
+use Rattle.walk.proofs.Refusing.{accepted}
 
 -- ---- a find copied out
 
@@ -442,3 +442,61 @@ handed-out {s} {p} {numbers} {r} {entry} {exit} {w} {v} h t =
       subst (λ a. T (satisfies a p)) (sym bits) (l .2),
       sym (ap (λ x. x .cost) (h .answers)) ∙ o .cost-stated ∙ ap (costOf p) is ∙ ap (cost p) (sym bits),
     )
+
+-- ---- what a search answers and leaves
+
+drop-more : {n m : ℕ} (s t : List ℕ) → n ≤ m → drop n s ≡ drop n t → drop m s ≡ drop m t
+drop-more {n} {m} s t h e =
+    let k : n + (m - n) ≡ m = omega arith in
+    ap (λ i. drop i s) (sym k) ∙ sym (drop-drop (m - n) n s) ∙ ap (drop (m - n)) e ∙ drop-drop (m - n) n t ∙ ap (λ i. drop i t) k
+
+module _ (l : Lent) (k : Asked) (z : searchRefusal l k ≡ 0) {r : Searched} {exit : List ℕ} {v : Work}
+    (h : Whole (record { noise = k .noise; tries = k .tries; flips = k .flips; mode = modeOf (k .mode) }) (planOfTables (l .tables) (l .terms)) (l .numbers) r (l .assignment) exit
+        (record { assignment = l .workAssignment; tallies = l .workTallies; marks = l .workMarks }) v)
+    {n : ℕ} (e : n ≡ endingNumber (endingOf (r .ending))) (f : SFits w64 (r .stand .cost))
+  where
+    few-here : planOfTables (l .tables) (l .terms) .variables ≤ 512
+    few-here = plan-parts _ (isLoaded-lawful (l .tables) (l .terms) (accepted l k z .loaded)) .high
+
+    is : answer l k ≡ answerOf (r .ending) (r .stand) (answer l k .assignment)
+    unfolding answer settings
+    is = h .answers
+
+    pub searched : {a b c d m : List ℕ}
+        → a ≡ replicate tableSize 0 ++ drop tableSize (l .workTables)
+        → b ≡ replicate termSize 0 ++ drop termSize (l .workTerms)
+        → c ≡ replicate assignmentSize 0 ++ drop assignmentSize (v .assignment)
+        → d ≡ replicate tallySize 0 ++ drop tallySize (v .tallies)
+        → m ≡ replicate markSize 0 ++ drop markSize (v .marks)
+        → Searches l k (record { refusal = 0; ending = n; cost = toZ w64 (ofZ w64 (r .stand .cost)); finds = r .stand .finds; flips = r .stand .flips; used = r .stand .used })
+            (record {
+              tables = l .tables;
+              terms = l .terms;
+              numbers = l .numbers;
+              assignment = exit;
+              workTables = a;
+              workTerms = b;
+              workAssignment = c;
+              workTallies = d;
+              workMarks = m;
+            })
+    unfolding unless searchAssignment cleared answerOf
+    searched ea eb ec ed em =
+        record {
+          refusal = sym z;
+          ending = rw z (e ∙ ap (λ x. endingNumber (x .ending)) (sym is));
+          cost = rw z (toZ-ofZ f ∙ ap (λ x. x .cost) (sym is));
+          finds = rw z (ap (λ x. x .finds) (sym is));
+          flips = rw z (ap (λ x. x .flips) (sym is));
+          used = rw z (ap (λ x. x .used) (sym is));
+          assignment = rw z (unfold answer settings in h .find);
+          workTables = rw z ea;
+          workTerms = rw z eb;
+          workAssignment = rw z (ec ∙ ap (λ s. replicate assignmentSize 0 ++ s) (drop-more (v .assignment) (l .workAssignment) few-here (h .beyond .assignment)));
+          workTallies = rw z (ed ∙ ap (λ s. replicate tallySize 0 ++ s) (h .beyond .tallies));
+          workMarks = rw z (em ∙ ap (λ s. replicate markSize 0 ++ s) (drop-more (v .marks) (l .workMarks) few-here (h .beyond .marks)));
+        }
+
+    pub hands : HandsOut l (record { refusal = 0; ending = n; cost = toZ w64 (ofZ w64 (r .stand .cost)); finds = r .stand .finds; flips = r .stand .flips; used = r .stand .used }) exit
+    unfolding HandsOut
+    hands t = let o = handed-out h (subst (λ x. T (hasPlan x)) e t) in (o .0, toZ-ofZ f ∙ o .1)

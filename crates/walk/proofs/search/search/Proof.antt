@@ -1,104 +1,73 @@
+-- `search` meets its contract: it is refused as its tests say, or all that the search needs has been tested. Assumes nothing.
 use borrow.Author.Needs.{needs}
+use native.Mathlib.Omega.{arith}
+use mathlib.Core.Path.{_≡_, sym, ap, _∙_}
+use mathlib.Core.List.{_++_}
+use lib.ListN.{replicate}
+use mir.Syntax.{w64}
+use mir.Val.{SFits}
+use Rattle.format.specs.Tables.{tableSize, termSize}
+use Rattle.walk.proofs.Refusing.{accepted, refused, refused-hands}
+use Rattle.walk.proofs.Whole.{searched, hands}
 use Rattle.walk.proofs.search.search.Statement.{statement}
 use Rattle.walk.proofs.search.search.Tie as tie
-use Rattle.walk.proofs.search.search.Reads as reads
-use Rattle.walk.proofs.search.search.Lts as lts
-use Rattle.walk.proofs.lent.search_refusal.Reads as search-refusal-reads
-use Rattle.walk.proofs.search.clear_work.Reads as clear-work-reads
-use Rattle.walk.proofs.search.number_of.Reads as number-of-reads
-use Rattle.walk.proofs.search.search_core.Reads as search-core-reads
 
--- src/search.rt:196:9
-search-refusal-requires : tie.Need-search-refusal-requires
-search-refusal-requires c κs = search needs
-
--- src/search.rt:209:9
-same-length : tie.Need-same-length
-same-length c = search needs
-
--- src/search.rt:209:9
-same-length-2 : tie.Need-same-length-2
-same-length-2 c = search needs
-
--- src/search.rt:209:9
-same-length-3 : tie.Need-same-length-3
-same-length-3 c = search needs
-
--- src/search.rt:209:9
-same-length-4 : tie.Need-same-length-4
-same-length-4 c = search needs
-
--- src/search.rt:209:9
-same-length-5 : tie.Need-same-length-5
-same-length-5 c = search needs
-
--- src/search.rt:209:9
-same-length-6 : tie.Need-same-length-6
-same-length-6 c = search needs
-
--- src/search.rt:209:9
 returns : tie.Need-returns
-returns c = ?
+returns c = (refused _ _ _ (c .before .search-refusal .ensures) (c .if1 .taken), refused-hands _ _ _)
 
--- src/search.rt:218:9
 search-core-requires : tie.Need-search-core-requires
-search-core-requires c κs = ?
+search-core-requires c κs = accepted _ _ (sym (c .before .before .before .before .before .before .before .search-refusal .ensures) ∙ c .before .before .before .before .before .before .if1 .left)
 
--- src/search.rt:230:5
 clear-work-requires : tie.Need-clear-work-requires
-clear-work-requires c κs = ?
+clear-work-requires c κs =
+    let s = accepted _ _ (sym (c .before .before .before .before .before .before .before .before .before .before .before .before .before .before .before .before .before .before .before .before .before .before .before .before .before .search-refusal .ensures) ∙ c .before .before .before .before .before .before .before .before .before .before .before .before .before .before .before .before .before .before .before .before .before .before .before .before .if1 .left) in
+    (
+      omega (arith, s .work-long, c .before .before .before .before .before .before .before .before .before .before .before .before .before .before .work-tables .given),
+      omega (arith, s .work-long-terms, c .before .before .before .before .before .before .before .before .before .before .before .before .work-terms .given),
+      omega (arith, s .work .assignment, c .before .before .before .before .before .before .before .before .before .before .work-assignment .given),
+      omega (arith, s .work .tallies, c .before .before .before .before .before .before .before .before .work-tallies .given),
+      omega (arith, s .work .marks, c .before .before .before .before .before .before .work-marks .given),
+    )
 
--- src/search.rt:240:17
-number-of-requires : tie.Need-number-of-requires
-number-of-requires c κs = search needs
-
--- src/search.rt:172:1
-same-length-7 : tie.Need-same-length-7
-same-length-7 c = search needs
-
--- src/search.rt:172:1
-same-length-8 : tie.Need-same-length-8
-same-length-8 c = search needs
-
--- src/search.rt:172:1
-same-length-9 : tie.Need-same-length-9
-same-length-9 c = search needs
-
--- src/search.rt:172:1
-same-length-10 : tie.Need-same-length-10
-same-length-10 c = search needs
-
--- src/search.rt:172:1
-same-length-11 : tie.Need-same-length-11
-same-length-11 c = search needs
-
--- src/search.rt:172:1
-same-length-12 : tie.Need-same-length-12
-same-length-12 c = search needs
-
--- src/search.rt:172:1
 returns-2 : tie.Need-returns-2
-returns-2 c = ?
+returns-2 c =
+    let n = c .before in
+    let w = n .before .before .before .before .before .before .before .before .before .before .before in
+    let k = w .before .before .before .before .before .before .before .before .before .before .before .before .before .before .before .before .before .before in
+    let f = k .before .before .before .before .before .before .before in
+    let z = sym (f .before .search-refusal .ensures) ∙ f .if1 .left in
+    let q = w .clear-work .ensures in
+    let x = k .search-core .ensures in
+    let fits : SFits w64 (k .search-core .result .stand .cost) = record { sfits = c .struct-told .given .1 .0 .1 .1 .0 .1 } in
+    (
+      searched _ _ z (x .0) (n .number-of .ensures) fits
+      (q .0 ∙ ap (λ s. replicate tableSize 0 ++ s) (x .1))
+      (q .1 .0 ∙ ap (λ s. replicate termSize 0 ++ s) (x .2))
+      (q .1 .1 .0)
+      (q .1 .1 .1 .0)
+      (q .1 .1 .1 .1),
+      hands _ _ z (x .0) (n .number-of .ensures) fits,
+    )
 
 pub search-spec : {M : Type 1} → statement M
 search-spec =
     tie.close
     (tie.spec
-    search-refusal-requires
-    same-length
-    same-length-2
-    same-length-3
-    same-length-4
-    same-length-5
-    same-length-6
+    (λ c κs. search needs)
+    (λ c. search needs)
+    (λ c. search needs)
+    (λ c. search needs)
+    (λ c. search needs)
+    (λ c. search needs)
+    (λ c. search needs)
     returns
     search-core-requires
     clear-work-requires
-    number-of-requires
-    same-length-7
-    same-length-8
-    same-length-9
-    same-length-10
-    same-length-11
-    same-length-12
+    (λ c κs. search needs)
+    (λ c. search needs)
+    (λ c. search needs)
+    (λ c. search needs)
+    (λ c. search needs)
+    (λ c. search needs)
+    (λ c. search needs)
     returns-2)
