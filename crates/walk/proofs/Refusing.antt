@@ -141,7 +141,7 @@ refuse-none false n m h e = (refl, e)
 -- All that the search needs was tested.
 pub accepted : (l : Lent) (k : Asked) → searchRefusal l k ≡ 0
     → Searchable (l .tables) (l .terms) (l .assignment) (l .workTables) (l .workTerms)
-        (record { assignment = l .workAssignment; tallies = l .workTallies; marks = l .workMarks })
+    (record { assignment = l .workAssignment; tallies = l .workTallies; marks = l .workMarks })
 unfolding searchRefusal tooSmall
 accepted l k e =
     let a = refuse-none _ 21 _ (omega arith) e in

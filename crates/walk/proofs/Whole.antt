@@ -452,7 +452,7 @@ drop-more {n} {m} s t h e =
 
 module _ (l : Lent) (k : Asked) (z : searchRefusal l k ≡ 0) {r : Searched} {exit : List ℕ} {v : Work}
     (h : Whole (record { noise = k .noise; tries = k .tries; flips = k .flips; mode = modeOf (k .mode) }) (planOfTables (l .tables) (l .terms)) (l .numbers) r (l .assignment) exit
-        (record { assignment = l .workAssignment; tallies = l .workTallies; marks = l .workMarks }) v)
+    (record { assignment = l .workAssignment; tallies = l .workTallies; marks = l .workMarks }) v)
     {n : ℕ} (e : n ≡ endingNumber (endingOf (r .ending))) (f : SFits w64 (r .stand .cost))
   where
     few-here : planOfTables (l .tables) (l .terms) .variables ≤ 512
@@ -469,17 +469,17 @@ module _ (l : Lent) (k : Asked) (z : searchRefusal l k ≡ 0) {r : Searched} {ex
         → d ≡ replicate tallySize 0 ++ drop tallySize (v .tallies)
         → m ≡ replicate markSize 0 ++ drop markSize (v .marks)
         → Searches l k (record { refusal = 0; ending = n; cost = toZ w64 (ofZ w64 (r .stand .cost)); finds = r .stand .finds; flips = r .stand .flips; used = r .stand .used })
-            (record {
-              tables = l .tables;
-              terms = l .terms;
-              numbers = l .numbers;
-              assignment = exit;
-              workTables = a;
-              workTerms = b;
-              workAssignment = c;
-              workTallies = d;
-              workMarks = m;
-            })
+        (record {
+          tables = l .tables;
+          terms = l .terms;
+          numbers = l .numbers;
+          assignment = exit;
+          workTables = a;
+          workTerms = b;
+          workAssignment = c;
+          workTallies = d;
+          workMarks = m;
+        })
     unfolding unless searchAssignment cleared answerOf
     searched ea eb ec ed em =
         record {

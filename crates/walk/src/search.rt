@@ -27,6 +27,7 @@ use objective::writes::copy;
 use words::clear;
 
 // What a search answers: its ending by number, 0 with a refusal; then all else is 0 too.
+#[repr(C)]
 pub struct Answer {
     pub refusal: u32,
     pub ending: u32,
