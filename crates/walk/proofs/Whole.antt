@@ -1,12 +1,12 @@
 -- Laws of the whole search: the copied tables hold the plan, the first call decides, and from a first find the tightening goes on; what is handed out satisfies the plan.
 -- Assumes nothing.
-use Prim.Native.Nat.{ℕ, zero, suc, _+_, _-_, _/_, _≤_, _<_}
+use Prim.Native.Nat.{ℕ, zero, suc, _+_, _-_, _≤_, _<_}
 use native.Mathlib.Omega.{arith}
 use mathlib.Core.Path.{_≡_, refl, sym, ap, ap₂, _∙_, subst}
-use mathlib.Core.Bool.{Bool, true, false, cond}
+use mathlib.Core.Bool.{true, false}
 use mathlib.Core.List.{List, [], _∷_, _++_, map}
-use lib.Dec.{T, leb, eqb}
-use lib.IntN.{ℤ, pos, natAbs}
+use lib.Dec.{T, eqb}
+use lib.IntN.{ℤ, natAbs}
 use lib.ListN.{length, take, drop, length-append, replicate}
 use lib.Seq.{length-take-le, take-at, drop-at, drop-drop}
 use lib.Signed.{leZ}
@@ -16,8 +16,8 @@ use mir.Val.{toZ, ofZ, SFits}
 use Rattle.plpb.specs.Lists.{_and_, _or_, all, isEmpty}
 use Rattle.plpb.specs.Plan.{absent, present, Clause, Plan, Assignment, satisfies, cost, floorCost}
 use Rattle.plpb.specs.Walk.{Mark, ends, short, run}
-use Rattle.plpb.specs.Search.{Mode, linear, lbs, Settings, Reached, failed, reached, call, tightened, Ending, floor, ended, none, short-found, short-none, atFloor, gap, tighten, searchWalk, lastFind, costOf, Answer, answerOf as answered, conclude, begin, search}
-use Rattle.plpb.specs.Sound.{findsOf, noPlan, Sound}
+use Rattle.plpb.specs.Search.{Mode, linear, lbs, Settings, Reached, failed, reached, call, tightened, Ending, floor, ended, none, short-found, short-none, atFloor, gap, tighten, searchWalk, lastFind, costOf, answerOf as answered, conclude, begin, search}
+use Rattle.plpb.specs.Sound.{findsOf, noPlan}
 use Rattle.plpb.proofs.Lists.{and-left}
 use Rattle.plpb.proofs.Walks.{at}
 use Rattle.plpb.proofs.Costs.{floor-below}
@@ -35,7 +35,7 @@ use Rattle.objective.specs.Sums.{Summable, costIn, floorIn, bits}
 use Rattle.objective.proofs.Costs.{summable, variables-in, cost-in, floor-in, some-objective}
 use Rattle.objective.proofs.TightenedTables.{copied-hold, roomy-tightened, bound-holds, bound-back}
 use Rattle.tallies.specs.Layout.{assignmentSize, tallySize, bitsOf, bitBytes, areBits}
-use Rattle.tallies.specs.Core.{Laid, Ready}
+use Rattle.tallies.specs.Core.{Laid}
 use Rattle.tallies.proofs.Bits.{whole-bytes}
 use Rattle.tallies.proofs.Callers.{held-laid}
 use Rattle.numbers.specs.Numbers.{numbersOf}
@@ -43,11 +43,10 @@ use Rattle.numbers.proofs.Runs.{linear-none, linear-floor, lbs-none, lbs-floor,
 use Rattle.walk.specs.declared.tries.Tried.{Tried}
 use Rattle.walk.specs.declared.tries.Tried.the-variants as tried
 use Rattle.walk.specs.declared.tightening.Stand.{Stand}
-use Rattle.walk.specs.declared.tightening.Ending.{Ending as EndingOf}
 use Rattle.walk.specs.declared.tightening.Ending.the-variants as code
 use Rattle.walk.specs.declared.tightening.Searched.{Searched}
 use Rattle.walk.specs.Calls.{Asked, Lent, markSize, searchRefusal, modeOf, settings, answer, withFind, searchAssignment, cleared, endingNumber, unless, Searches, hasPlan, HandsOut}
-use Rattle.walk.specs.Steps.{Work, Startable, Beyond, bitsIn, triedOf, usedBy, flipsBy, IfReached, Finds, Tries}
+use Rattle.walk.specs.Steps.{Work, Startable, Beyond, triedOf, usedBy, flipsBy, IfReached, Tries}
 use Rattle.walk.specs.Bounds.{untightened, basis, Bounded, Stands, Room, Leaves, answerOf, endingOf, Concludes}
 use Rattle.walk.specs.Whole.{Empty, Roomy, FirstFind, FromFind, Searchable, Whole}
 use Rattle.walk.proofs.Refusing.{accepted}
@@ -153,8 +152,8 @@ module _ {tables terms numbers : List ℕ} {used flips : ℕ} {assignment : List
       -- "A found assignment of cost v with v = l(O) ends the search."
       pub from-floor : (s : Settings) → leZ (toZ w64 (ofZ w64 v)) (toZ w64 (ofZ w64 least)) ≡ true
           → FromFind s tables terms numbers used flips
-              (record { ending = code.Floor; stand = record { cost = toZ w64 (ofZ w64 v); finds = 1; flips = flips; used = used } })
-              assignment kept w w
+          (record { ending = code.Floor; stand = record { cost = toZ w64 (ofZ w64 v); finds = 1; flips = flips; used = used } })
+          assignment kept w w
       unfolding atFloor _and_
       from-floor s t =
           let low : leZ (cost here find) (floorCost here) ≡ true = sym (ap₂ leZ costs floored) ∙ t in
@@ -238,7 +237,7 @@ module _ {tables terms numbers : List ℕ} {used flips : ℕ} {assignment : List
 
           pub from-tightened : (s : Settings) {r : Searched} {out exit : List ℕ} {u : Work}
               → Concludes (tighten (s .mode) s) (basis tables′ terms′) numbers (record { cost = toZ w64 (ofZ w64 v); finds = 1; flips = flips; used = used })
-                  (bitsOf ((basis tables′ terms′) .variables) kept) (answerOf (r .ending) (r .stand) (reached (bitsOf ((basis tables′ terms′) .variables) exit)))
+              (bitsOf ((basis tables′ terms′) .variables) kept) (answerOf (r .ending) (r .stand) (reached (bitsOf ((basis tables′ terms′) .variables) exit)))
               × Stands (basis tables′ terms′) numbers exit (r .stand)
               × Leaves (basis tables′ terms′) tables′ terms′ out kept exit w u
               → FromFind s tables terms numbers used flips r assignment exit w u
@@ -391,7 +390,7 @@ module _ {plan planTerms assignment tables terms : List ℕ} {w : Work} (h : Sea
       core-found {used} {flips} {r} {exit} {u} e z =
           let k = made-as (tried.Reached used flips) e in
           let found : search s copy (numbersOf numbers) ≡ answerOf (r .ending) (r .stand) (reached (bitsOf (copy .variables) exit)) =
-              ap (conclude copy) (search-found s copy (numbersOf numbers) begin (k .outcome [])) ∙ z .answers in
+          ap (conclude copy) (search-found s copy (numbersOf numbers) begin (k .outcome [])) ∙ z .answers in
           subst (λ p. Whole s p numbers r assignment exit w u) back (found-whole s copy numbers r found (z .find) (beyond-both (k .beyond) (z .beyond)))
 
       pub core-none : {used flips : ℕ} {r : Searched} → t ≡ tried.Failed used flips → Empty code.None used flips r
@@ -452,7 +451,7 @@ drop-more {n} {m} s t h e =
 
 module _ (l : Lent) (k : Asked) (z : searchRefusal l k ≡ 0) {r : Searched} {exit : List ℕ} {v : Work}
     (h : Whole (record { noise = k .noise; tries = k .tries; flips = k .flips; mode = modeOf (k .mode) }) (planOfTables (l .tables) (l .terms)) (l .numbers) r (l .assignment) exit
-        (record { assignment = l .workAssignment; tallies = l .workTallies; marks = l .workMarks }) v)
+    (record { assignment = l .workAssignment; tallies = l .workTallies; marks = l .workMarks }) v)
     {n : ℕ} (e : n ≡ endingNumber (endingOf (r .ending))) (f : SFits w64 (r .stand .cost))
   where
     few-here : planOfTables (l .tables) (l .terms) .variables ≤ 512
@@ -469,17 +468,17 @@ module _ (l : Lent) (k : Asked) (z : searchRefusal l k ≡ 0) {r : Searched} {ex
         → d ≡ replicate tallySize 0 ++ drop tallySize (v .tallies)
         → m ≡ replicate markSize 0 ++ drop markSize (v .marks)
         → Searches l k (record { refusal = 0; ending = n; cost = toZ w64 (ofZ w64 (r .stand .cost)); finds = r .stand .finds; flips = r .stand .flips; used = r .stand .used })
-            (record {
-              tables = l .tables;
-              terms = l .terms;
-              numbers = l .numbers;
-              assignment = exit;
-              workTables = a;
-              workTerms = b;
-              workAssignment = c;
-              workTallies = d;
-              workMarks = m;
-            })
+        (record {
+          tables = l .tables;
+          terms = l .terms;
+          numbers = l .numbers;
+          assignment = exit;
+          workTables = a;
+          workTerms = b;
+          workAssignment = c;
+          workTallies = d;
+          workMarks = m;
+        })
     unfolding unless searchAssignment cleared answerOf
     searched ea eb ec ed em =
         record {

@@ -1,7 +1,7 @@
 -- `search` meets its contract: it is refused as its tests say, or all that the search needs has been tested. Assumes nothing.
 use borrow.Author.Needs.{needs}
 use native.Mathlib.Omega.{arith}
-use mathlib.Core.Path.{_≡_, sym, ap, _∙_}
+use mathlib.Core.Path.{sym, ap, _∙_}
 use mathlib.Core.List.{_++_}
 use lib.ListN.{replicate}
 use mir.Syntax.{w64}
@@ -20,8 +20,7 @@ search-core-requires c κs = accepted _ _ (sym (c .before .before .before .befor
 
 clear-work-requires : tie.Need-clear-work-requires
 clear-work-requires c κs =
-    let s = accepted _ _ (sym (c .before .before .before .before .before .before .before .before .before .before .before .before .before .before .before .before .before .before .before .before .before .before .before .before .before .search-refusal .ensures) ∙ c .before .before .before .before .before .before .before .before .before .before .before .before .before .before .before .before .before .before .before .before .before .before .before .before .if1 .left) in
-    (
+    let s = accepted _ _ (sym (c .before .before .before .before .before .before .before .before .before .before .before .before .before .before .before .before .before .before .before .before .before .before .before .before .before .search-refusal .ensures) ∙ c .before .before .before .before .before .before .before .before .before .before .before .before .before .before .before .before .before .before .before .before .before .before .before .before .if1 .left) in (
       omega (arith, s .work-long, c .before .before .before .before .before .before .before .before .before .before .before .before .before .before .work-tables .given),
       omega (arith, s .work-long-terms, c .before .before .before .before .before .before .before .before .before .before .before .before .work-terms .given),
       omega (arith, s .work .assignment, c .before .before .before .before .before .before .before .before .before .before .work-assignment .given),
@@ -38,14 +37,13 @@ returns-2 c =
     let z = sym (f .before .search-refusal .ensures) ∙ f .if1 .left in
     let q = w .clear-work .ensures in
     let x = k .search-core .ensures in
-    let fits : SFits w64 (k .search-core .result .stand .cost) = record { sfits = c .struct-told .given .1 .0 .1 .1 .0 .1 } in
-    (
+    let fits : SFits w64 (k .search-core .result .stand .cost) = record { sfits = c .struct-told .given .1 .0 .1 .1 .0 .1 } in (
       searched _ _ z (x .0) (n .number-of .ensures) fits
-      (q .0 ∙ ap (λ s. replicate tableSize 0 ++ s) (x .1))
-      (q .1 .0 ∙ ap (λ s. replicate termSize 0 ++ s) (x .2))
-      (q .1 .1 .0)
-      (q .1 .1 .1 .0)
-      (q .1 .1 .1 .1),
+          (q .0 ∙ ap (λ s. replicate tableSize 0 ++ s) (x .1))
+          (q .1 .0 ∙ ap (λ s. replicate termSize 0 ++ s) (x .2))
+          (q .1 .1 .0)
+          (q .1 .1 .1 .0)
+          (q .1 .1 .1 .1),
       hands _ _ z (x .0) (n .number-of .ensures) fits,
     )
 

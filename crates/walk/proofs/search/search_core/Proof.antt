@@ -41,8 +41,7 @@ returns c =
     let b = k .before .before .before .before .before .before .before .before in
     let a = b .before .before .before .before in
     let at = a .before .before .before .before .before .before .before .before .before .before .before in
-    let z = f .from-find .ensures in
-    (
+    let z = f .from-find .ensures in (
       core-found (at .pre) (a .copy .ensures) (b .copy2 .ensures) (settingsOf (at .args .s)) _ (k .call .ensures) (m .t .given .1) (z .0),
       z .1 ∙ copied-table (at .pre) (a .copy .ensures) (b .copy2 .ensures),
       z .2 ∙ copied-terms (at .pre) (a .copy .ensures) (b .copy2 .ensures),
@@ -53,8 +52,7 @@ returns-2 c =
     let k = c .before .before .before .before .before .before .before .before .before .before in
     let b = k .before .before .before .before .before .before .before .before in
     let a = b .before .before .before .before in
-    let at = a .before .before .before .before .before .before .before .before .before .before .before in
-    (
+    let at = a .before .before .before .before .before .before .before .before .before .before .before in (
       core-none (at .pre) (a .copy .ensures) (b .copy2 .ensures) (settingsOf (at .args .s)) _ (k .call .ensures) (c .before .before .t2 .given .1) (c .nothing .ensures),
       copied-table (at .pre) (a .copy .ensures) (b .copy2 .ensures),
       copied-terms (at .pre) (a .copy .ensures) (b .copy2 .ensures),
@@ -65,8 +63,7 @@ returns-3 c =
     let k = c .before .before .before .before .before .before .before .before .before .before in
     let b = k .before .before .before .before .before .before .before .before in
     let a = b .before .before .before .before in
-    let at = a .before .before .before .before .before .before .before .before .before .before .before in
-    (
+    let at = a .before .before .before .before .before .before .before .before .before .before .before in (
       core-short (at .pre) (a .copy .ensures) (b .copy2 .ensures) (settingsOf (at .args .s)) _ (k .call .ensures) (c .before .before .t3 .given .1) (c .nothing2 .ensures),
       copied-table (at .pre) (a .copy .ensures) (b .copy2 .ensures),
       copied-terms (at .pre) (a .copy .ensures) (b .copy2 .ensures),
