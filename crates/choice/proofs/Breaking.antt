@@ -1,7 +1,6 @@
 -- What a caller learns of rules and clauses in tables that hold a plan: the effect of a flip on a rule, rule by rule on a clause, clause by clause on the plan.
 -- Assumes nothing.
 use Prim.Native.Nat.{ℕ, suc, _+_, _*_, _-_, _≤_, _<_}
-use native.Mathlib.Nat.{sub-zero}
 use native.Mathlib.Omega.{arith}
 use mathlib.Core.Path.{_≡_, refl, sym, ap, ap₂, _∙_}
 use mathlib.Core.Bool.{Bool, true, false, not}
@@ -89,9 +88,9 @@ module _ (a : Assignment) (x : ℕ) where
 -- ---- clause by clause
 
 module _ {tables terms assignment : List ℕ} (y : Ready tables terms assignment) {x : ℕ} (low : 0 < x) (high : x ≤ planOfTables tables terms .variables) where
-  -- What the loop is to find out.
-  pub none-breaks : {clauses : ℕ} → clauses ≡ wordAt tables 1 → not (any (λ c. ltb 0 (clauseBreak (lentBits tables terms assignment) x c)) (map (clauseOf (wordAt tables) (wordAt terms)) (row 0 (clauses - 0)))) ≡ eqb (cappedBreak (planOfTables tables terms) (lentBits tables terms assignment) x) 0
+  -- No clause breaks exactly where the count is 0.
+  pub none-breaks : {clauses : ℕ} → clauses ≡ wordAt tables 1 → not (any (λ c. ltb 0 (clauseBreak (lentBits tables terms assignment) x c)) (map (clauseOf (wordAt tables) (wordAt terms)) (row 0 clauses))) ≡ eqb (cappedBreak (planOfTables tables terms) (lentBits tables terms assignment) x) 0
   unfolding planOfTables planIn
   none-breaks e =
       let size = length-bitsOf (planOfTables tables terms .variables) assignment (y .bytes) in
-      rw (e, sub-zero) (sym (plan-breaks (planOfTables tables terms) (lentBits tables terms assignment) x (rises tables terms (y .laid)) low (rw size high)))
+      rw e (sym (plan-breaks (planOfTables tables terms) (lentBits tables terms assignment) x (rises tables terms (y .laid)) low (rw size high)))

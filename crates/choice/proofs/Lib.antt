@@ -3,5 +3,6 @@ pub mod Thresholds
 pub mod Breaking
 pub mod Marking
 pub mod Parting
+pub mod Lowering
 pub mod Least
 pub mod Choosing

@@ -13,8 +13,6 @@ use lib.ListN.{length, getD, set, drop, length-set, length-drop}
 use lib.Seq.{getD-set-same, getD-set-other, getD-drop, ext-getD}
 use borrow.Author.Tests.{eq-eqb, ne-eqb, eqb-true, eqb-false}
 use Rattle.plpb.specs.Lists.{_and_, keep, row}
-use Rattle.plpb.specs.Plan.{Plan, Assignment}
-use Rattle.plpb.specs.Count.{cappedBreak}
 use Rattle.words.specs.Words.{wordAt}
 use Rattle.format.specs.Tables.{planOfTables}
 use Rattle.tallies.specs.Core.{Laid}
@@ -22,7 +20,7 @@ use Rattle.tallies.proofs.Laid.{variables-word}
 use Rattle.numbers.specs.Finding.{marked}
 use Rattle.numbers.proofs.Keep.{keep-keep}
 use Rattle.numbers.proofs.Finding.{marked-by}
-use Rattle.choice.specs.Marks.{Written, hasBreak, parting, Parted}
+use Rattle.choice.specs.Marks.{Written, parting, Parted}
 
 -- ---- written one after another
 
@@ -77,10 +75,6 @@ module _ (q : ℕ → Bool) (x mark : ℕ) where
   pub stays : mark ≡ 1 → q x ≡ false → 1 ≡ parting q x mark
   unfolding parting
   stays h t = rw (eq-eqb mark 1 h, t) refl
-
-pub has-told : (p : Plan) (a : Assignment) (b : ℕ) {v x : ℕ} {t o : Bool} → v ≡ x → t ≡ eqb (cappedBreak p a v) b → t ≡ o → hasBreak p a b x ≡ o
-unfolding hasBreak
-has-told p a b e h t = rw (← e) (sym h ∙ t)
 
 -- ---- parted
 

@@ -4,15 +4,13 @@ ghost use mathlib.Core.Path.{_≡_};
 ghost use mathlib.Core.Bool.{false};
 ghost use mathlib.Core.List.{map};
 ghost use Prim.Native.Nat.{_+_, _*_, _-_, _≤_, _<_};
-ghost use lib.Dec.{ltb, eqb};
-ghost use lib.ListN.{length};
+ghost use lib.Dec.{ltb};
 ghost use Rattle.plpb.specs.Lists.{_or_, row};
-ghost use Rattle.plpb.specs.Count.{cappedBreak};
 ghost use Rattle.plpb.specs.Equations.{over, clauseBreak};
 ghost use Rattle.counting.specs.Bound.{boundOf};
 ghost use Rattle.rules.specs.State.{Balanced, sharesFrom};
 ghost use Rattle.words.specs.Words.{wordAt};
-ghost use Rattle.format.specs.Tables.{ruleOf, clauseOf, planOfTables};
+ghost use Rattle.format.specs.Tables.{ruleOf, clauseOf};
 ghost use Rattle.tallies.specs.Core.{Ready};
 ghost use Rattle.choice.specs.Breaks.{lentBits, EffectOf, breaksAlong};
 use counting::bound::Bound;
@@ -21,7 +19,6 @@ use rules::state::State;
 use rules::state::read_state_from;
 use tallies::clause::clause_names;
 use tallies::clause::rules_of;
-use words::index;
 
 // Whether there are more choices of a bound's size among m + w than among m.
 fn grows(m: u32, w: u32, size: Bound) -> bool
@@ -113,7 +110,7 @@ fn breaks_along(
 }
 
 // A clause that does not name the variable is passed over: nothing of it changes.
-fn clause_breaks(tables: &[u8], terms: &[u8], assignment: &[u8], c: usize, x: u32) -> bool
+pub fn clause_breaks(tables: &[u8], terms: &[u8], assignment: &[u8], c: usize, x: u32) -> bool
     requires { ⌜ Ready (now tables) (now terms) (now assignment) × (c < wordAt (now tables) 1) ⌝ }
     ensures { λ r. ⌜ r ≡ ltb 0 (clauseBreak (lentBits (now (tables .entry)) (now (terms .entry)) (now (assignment .entry))) x (clauseOf (wordAt (now (tables .entry))) (wordAt (now (terms .entry))) c)) ⌝ }
 {
@@ -122,20 +119,4 @@ fn clause_breaks(tables: &[u8], terms: &[u8], assignment: &[u8], c: usize, x: u3
     }
     let rules = rules_of(tables, c);
     breaks_along(tables, terms, assignment, rules.first, rules.end, x)
-}
-
-// Whether a variable's break count is 0: it stops at the first clause that breaks.
-pub fn breaks_none(tables: &[u8], terms: &[u8], assignment: &[u8], x: u32) -> bool
-    requires { ⌜ Ready (now tables) (now terms) (now assignment) × (0 < x) × (x ≤ planOfTables (now tables) (now terms) .variables) ⌝ }
-    ensures { λ r. ⌜ r ≡ eqb (cappedBreak (planOfTables (now (tables .entry)) (now (terms .entry))) (lentBits (now (tables .entry)) (now (terms .entry)) (now (assignment .entry))) x) 0 ⌝ }
-{
-    let clauses = index(tables, 1);
-    let mut c = 0;
-    while c < clauses {
-        if clause_breaks(tables, terms, assignment, c, x) {
-            return false;
-        }
-        c += 1;
-    }
-    true
 }

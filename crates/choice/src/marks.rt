@@ -13,7 +13,7 @@ ghost use Rattle.tallies.specs.Core.{Laid, Ready};
 ghost use Rattle.numbers.specs.Finding.{marked};
 ghost use Rattle.choice.specs.Breaks.{lentBits};
 ghost use Rattle.choice.specs.Marks.{markTerms, markRules, clauseMarks, hasBreak, parting, lowering, Written, Parted, LeastSoFar};
-use crate::breaks::breaks_none;
+use crate::free::free_marks;
 use counting::count::Count;
 use numbers::count_marked;
 use tallies::clause::rules_of;
@@ -67,37 +67,11 @@ pub fn mark_clause(tables: &[u8], terms: &[u8], c: usize, marks: &mut [u8])
 }
 
 // The number of the variable whose mark stands at a place.
-fn variable_at(place: usize) -> u32
+pub fn variable_at(place: usize) -> u32
     requires { ⌜ place < 512 ⌝ }
     ensures { λ r. ⌜ r ≡ place + 1 ⌝ }
 {
     (place + 1) as u32
-}
-
-// The mark of a variable to choose from becomes 2 where its flip breaks nothing; any other becomes 0.
-fn free_mark(tables: &[u8], terms: &[u8], assignment: &[u8], place: usize, mark: u8) -> u8
-    requires { ⌜ Ready (now tables) (now terms) (now assignment) × (place < planOfTables (now tables) (now terms) .variables) ⌝ }
-    ensures { λ r. ⌜ r ≡ parting (hasBreak (planOfTables (now (tables .entry)) (now (terms .entry))) (lentBits (now (tables .entry)) (now (terms .entry)) (now (assignment .entry))) 0) (place + 1) mark ⌝ }
-{
-    if mark != 1 {
-        return 0;
-    }
-    if breaks_none(tables, terms, assignment, variable_at(place)) {
-        2
-    } else {
-        1
-    }
-}
-
-fn free_marks(tables: &[u8], terms: &[u8], assignment: &[u8], n: usize, marks: &mut [u8])
-    requires { ⌜ Ready (now tables) (now terms) (now assignment) × (n ≤ planOfTables (now tables) (now terms) .variables) × (n ≤ length (now marks)) ⌝ }
-    ensures { λ _. ⌜ Written (parting (hasBreak (planOfTables (now (tables .entry)) (now (terms .entry))) (lentBits (now (tables .entry)) (now (terms .entry)) (now (assignment .entry))) 0)) n (now (marks .entry)) (now (marks .exit)) ⌝ }
-{
-    let mut i = 0;
-    while i < n {
-        marks[i] = free_mark(tables, terms, assignment, i, marks[i]);
-        i += 1;
-    }
 }
 
 // Among the variables marked 1, those with break count 0 become marked 2; how many they are.

@@ -2,12 +2,15 @@
 // Each function promises what the function that it calls promises.
 ghost use mathlib.Core.Path.{_≡_};
 ghost use Rattle.tallies.specs.Calls.{openRefusal, openTallies, callRefusal, flipAssignment, flipTallies, countsBreak, countsMake};
+ghost use Rattle.walk.specs.Calls.{Searches, HandsOut};
 ghost use Rattle.tables.specs.Load.{refusalOf, offsetOf, loading, tablesAfter, termsAfter};
 use calls::counts::counts;
 use calls::flip::flip;
 use calls::open::open;
 use tables::Answer;
 use tables::load;
+use walk::search::Answer as Searched;
+use walk::search::search;
 
 #[repr(C)]
 pub struct Loaded {
@@ -93,4 +96,41 @@ pub extern "C" fn planner_counts(
         breaks: c.breaks,
         makes: c.makes,
     }
+}
+
+// What is handed out satisfies every clause and has the cost stated, whatever else is read of the contract.
+#[no_mangle]
+pub extern "C" fn planner_search(
+    tables: &[u8],
+    terms: &[u8],
+    numbers: &[u8],
+    noise: u32,
+    tries: u32,
+    flips: u32,
+    mode: u32,
+    assignment: &mut [u8],
+    work_tables: &mut [u8],
+    work_terms: &mut [u8],
+    work_assignment: &mut [u8],
+    work_tallies: &mut [u8],
+    work_marks: &mut [u8],
+) -> Searched
+    ensures { λ r. ⌜ Searches (record { tables = now (tables .entry); terms = now (terms .entry); numbers = now (numbers .entry); assignment = now (assignment .entry); workTables = now («work_tables» .entry); workTerms = now («work_terms» .entry); workAssignment = now («work_assignment» .entry); workTallies = now («work_tallies» .entry); workMarks = now («work_marks» .entry) }) (record { noise = noise; tries = tries; flips = flips; mode = mode }) r (record { tables = now (tables .entry); terms = now (terms .entry); numbers = now (numbers .entry); assignment = now (assignment .exit); workTables = now («work_tables» .exit); workTerms = now («work_terms» .exit); workAssignment = now («work_assignment» .exit); workTallies = now («work_tallies» .exit); workMarks = now («work_marks» .exit) }) ⌝ }
+    ensures { λ r. ⌜ HandsOut (record { tables = now (tables .entry); terms = now (terms .entry); numbers = now (numbers .entry); assignment = now (assignment .entry); workTables = now («work_tables» .entry); workTerms = now («work_terms» .entry); workAssignment = now («work_assignment» .entry); workTallies = now («work_tallies» .entry); workMarks = now («work_marks» .entry) }) r (now (assignment .exit)) ⌝ }
+{
+    search(
+        tables,
+        terms,
+        numbers,
+        noise,
+        tries,
+        flips,
+        mode,
+        assignment,
+        work_tables,
+        work_terms,
+        work_assignment,
+        work_tallies,
+        work_marks,
+    )
 }

@@ -61,7 +61,7 @@ impl State {
     }
 
     // The same, seen from a variable that stands so.
-    fn seen(self, stands: Stands) -> State
+    pub fn seen(self, stands: Stands) -> State
         ensures { λ r. ⌜ Seen stands self r ⌝ }
     {
         let a = self.a;

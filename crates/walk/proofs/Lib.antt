@@ -1,4 +1,7 @@
+-- The laws behind the search, in reading order.
 pub mod Moving
 pub mod Trying
+pub mod Bounds
+pub mod Concluding
 pub mod Refusing
 pub mod Whole

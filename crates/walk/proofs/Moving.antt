@@ -99,7 +99,7 @@ module _ (s : Settings) {tables terms numbers : List ℕ} {used c : ℕ} {w : Wo
       let u = chosen-uses h e in
       let fits = roomy-fits p (k .ready .laid .room) in
       let bits : bitsIn tables terms v ≡ flip (bitsIn tables terms w) x =
-          ap (bitsOf (p .variables)) a ∙ turned-bits (p .variables) (w .assignment) x (k .bits) (k .ready .bytes) (b .0) (b .1) in
+      ap (bitsOf (p .variables)) a ∙ turned-bits (p .variables) (w .assignment) x (k .bits) (k .ready .bytes) (b .0) (b .1) in
       record {
         outcome = λ f fs. bind-ends (choice p (s .noise) (bitsIn tables terms w) (getD (p .clauses) c [])) _ (numbersOf numbers) (at used f fs) (chosen-ends h e f fs)
             ∙ ap (λ d. ends d (at after (f + 1) fs)) (sym bits);

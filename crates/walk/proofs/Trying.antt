@@ -5,9 +5,11 @@ use mathlib.Core.Path.{_≡_, refl, sym, ap, _∙_, subst}
 use mathlib.Core.Bool.{Bool, true, false, not, cond, true≢false}
 use mathlib.Core.Logic.{_≢_}
 use mathlib.Core.List.{List, [], _∷_, _++_}
-use lib.Dec.{T, eqb}
-use lib.ListN.{length, drop}
+use lib.Dec.{T, leb, eqb}
+use lib.ListN.{length, take, drop}
 use borrow.Author.Tests.{eq-eqb, ne-eqb}
+use types.Run.{OneOf, miss}
+use denote.Enum.Declared.{tagOf}
 use Rattle.plpb.specs.Lists.{count}
 use Rattle.plpb.specs.Plan.{Plan, Assignment, satisfies}
 use Rattle.plpb.specs.Tallies.{unsatisfied, freshCount}
@@ -19,17 +21,19 @@ use Rattle.words.specs.Words.{wordAt}
 use Rattle.format.specs.Tables.{planOfTables}
 use Rattle.tallies.specs.Layout.{tallySize, bitsOf, bitBytes, areBits}
 use Rattle.tallies.specs.Core.{Ready, counted}
-use Rattle.tallies.proofs.Bits.{drop-bytes, bitsOf-bytes, areBits-bytes}
+use Rattle.tallies.proofs.Bits.{length-bitBytes, drop-bytes, bitsOf-bytes, areBits-bytes}
+use Rattle.tallies.proofs.Laid.{parts, variables-word}
 use Rattle.tallies.proofs.TallyBytes.{roomy-fits, take-fresh, drop-fresh}
 use Rattle.numbers.specs.declared.Started.{Started}
 use Rattle.numbers.specs.declared.Started.the-variants as started
 use Rattle.numbers.specs.Numbers.{numbersOf}
 use Rattle.numbers.specs.Taking.{Starts}
-use Rattle.numbers.proofs.Taking.{length-numbersOf, started-taken, started-short, words-use, words-gone}
+use Rattle.numbers.proofs.Taking.{length-numbersOf, length-start, started-taken, started-short, words-use, words-gone}
 use Rattle.numbers.proofs.Finding.{look-by-count}
 use Rattle.numbers.proofs.Runs.{counted as counted-down, flipping-none, flipping-found, flipping-moved, flipping-short, try-started, try-short, trying-none, trying-next, trying-found, trying-short, run-call}
 use Rattle.walk.specs.declared.moves.Moved.{Moved}
 use Rattle.walk.specs.declared.tries.Tried.{Tried}
+use Rattle.walk.proofs.tries.Tried.{the-type}
 use Rattle.walk.specs.declared.tries.Tried.the-variants as tried
 use Rattle.walk.specs.Steps.{Work, bitsIn, Startable, Walking, Beyond, movedOf, Moves, triedOf, usedBy, flipsBy, IfReached, Finds, Tries}
 use Rattle.walk.proofs.Moving.{unsatisfied-word}
@@ -156,6 +160,207 @@ module _ {s : Settings} {tables terms numbers : List ℕ} {begun before : ℕ} {
       record {
         outcome = λ fs. i .outcome fs ∙ ap (λ k. run (flipping s p k (bitsIn tables terms v)) (numbersOf numbers) (at used made fs)) e
             ∙ flipping-none s p (numbersOf numbers) (bitsIn tables terms v) (at used made fs);
+        finds = tt;
+        uses = i .uses;
+        within = i .within;
+        flipped = i .flipped;
+        beyond = i .beyond;
+      }
+
+-- ---- a try
+
+if-reached : (r : Tried) {A B : Type 0} → (A → B) → IfReached r A → IfReached r B
+unfolding IfReached
+if-reached (tried.Reached used flips) f a = f a
+if-reached (tried.Failed used flips) f a = tt
+if-reached (tried.Short used flips) f a = tt
+
+-- Where too few are left, none is taken.
+few-left : (b : Bool) (ws : List ℕ) (w : ℕ) {u v : ℕ} → cond b (taken ws w) (tooFew u) ≡ tooFew v → u ≡ v
+few-left true ws w e = let z : _≡_ {A = ℕ} 0 1 = cc in absurd (omega arith)
+few-left false ws w e = cc
+
+words-left : (k : ℕ) (ns : List ℕ) {u v : ℕ} → takeWords k ns u ≡ tooFew v → u ≡ v
+unfolding takeWords
+words-left k ns {u} e = few-left (leb (u + k) (length ns)) (take k (drop u ns)) (u + k) e
+
+module _ {tables terms : List ℕ} (numbers : List ℕ) {used made : ℕ} {w : Work} (k : Startable tables terms w) (few : made ≤ used)
+    {n : ℕ} (size : n ≡ wordAt tables 0) {r : Started} {bytes : List ℕ} (h : Starts n (takeWords (startWords n) (numbersOf numbers) used) (w .assignment) r bytes) where
+  abbrev q : Plan
+  q = planOfTables tables terms
+
+  named : n ≡ q .variables
+  named = size ∙ sym (variables-word tables terms (k .ready .laid))
+
+  module _ {after : ℕ} (e : r ≡ started.Taken after) where
+    abbrev drew : (ws : List ℕ) × (takeWords (startWords n) (numbersOf numbers) used ≡ taken ws after) × (bytes ≡ bitBytes (startOf n ws) ++ drop n (w .assignment))
+    drew = started-taken (takeWords (startWords n) (numbersOf numbers) used) h e
+
+    start-size : length (startOf n (drew .0)) ≡ n
+    start-size = sym (length-bitBytes (startOf n (drew .0))) ∙ length-start n (drew .0)
+
+    started-bits : bitsOf (q .variables) bytes ≡ startOf n (drew .0)
+    started-bits = ap (λ m. bitsOf m bytes) (sym named) ∙ ap (bitsOf n) (drew .2) ∙ bitsOf-bytes n (startOf n (drew .0)) (drop n (w .assignment)) start-size
+
+    pub started-uses : (used + 1 ≤ after) × (after ≤ length numbers / 4) × (made ≤ after)
+    unfolding startWords
+    started-uses =
+        let u = words-use (startWords n) (numbersOf numbers) used (drew .1) in
+        let low : 1 ≤ n = omega (arith, named, parts tables terms (k .ready .laid) .low) in
+        (omega (arith, u .0), omega (arith, u .1, length-numbersOf numbers), omega (arith, u .0))
+
+    pub started-ready : length bytes ≡ length (w .assignment) → Ready tables terms bytes
+    started-ready l = record { laid = k .ready .laid; bytes = omega (arith, k .ready .bytes) }
+
+    module _ {tallies : List ℕ} (l : length bytes ≡ length (w .assignment)) (y : tallies ≡ counted tables terms bytes (w .tallies)) where
+      abbrev begun : Work
+      begun = record { assignment = bytes; tallies = tallies; marks = w .marks }
+
+      pub started-walking : Walking tables terms begun
+      started-walking =
+          record {
+            ready = started-ready l;
+            bits = rw (← named, drew .2) (areBits-bytes n (startOf n (drew .0)) (drop n (w .assignment)) start-size);
+            fresh = rw y (take-fresh q (roomy-fits q (k .ready .laid .room)) _ _);
+            marks = k .marks;
+          }
+
+      pub tried-once : (s : Settings) {t : Tried} {v : Work} → Tries (flipping s q (s .flips) (bitsIn tables terms begun)) tables terms numbers after made after t begun v
+          → Tries (try s q) tables terms numbers used made (used + 1) t w v
+      tried-once s {t} {v} g =
+          let u = started-uses in
+          record {
+            outcome = λ fs. try-started s q (numbersOf numbers) (at used made fs) (ap (λ m. takeWords (startWords m) (numbersOf numbers) used) (sym named) ∙ drew .1)
+                ∙ ap (λ a. run (flipping s q (s .flips) a) (numbersOf numbers) (at after made fs)) (ap (λ m. startOf m (drew .0)) (sym named) ∙ sym started-bits)
+                ∙ g .outcome fs;
+            finds = if-reached t (λ f. record { bits = f .bits; satisfied = f .satisfied; uses = omega (arith, f .uses, u .0) }) (g .finds);
+            uses = omega (arith, g .uses, u .0);
+            within = g .within;
+            flipped = g .flipped;
+            beyond = beyond-on (record {
+              assignment = rw (← named, drew .2) (drop-bytes n (startOf n (drew .0)) (drop n (w .assignment)) start-size);
+              tallies = rw y (drop-fresh q (roomy-fits q (k .ready .laid .room)) _ _);
+              marks = refl;
+            }) (g .beyond);
+          }
+
+  pub no-start : (s : Settings) {after : ℕ} {v : Work} → used ≤ length numbers / 4 → r ≡ started.Short after
+      → v .assignment ≡ bytes → v .tallies ≡ w .tallies → v .marks ≡ w .marks
+      → Tries (try s q) tables terms numbers used made (used + 1) (tried.Short used made) w v
+  unfolding triedOf usedBy flipsBy IfReached
+  no-start s {after} {v} l e a y m =
+      let d = started-short (takeWords (startWords n) (numbersOf numbers) used) h e in
+      let same = words-left (startWords n) (numbersOf numbers) (d .0) in
+      record {
+        outcome = λ fs. try-short s q (numbersOf numbers) (at used made fs) (ap (λ m. takeWords (startWords m) (numbersOf numbers) used) (sym named) ∙ d .0) ∙ ap (λ u. short (at u made fs)) (sym same);
+        finds = tt;
+        uses = omega arith;
+        within = l;
+        flipped = few;
+        beyond = record { assignment = ap (drop (q .variables)) (a ∙ d .1); tallies = ap (drop tallySize) y; marks = ap (drop (q .variables)) m };
+      }
+
+-- ---- a call
+
+-- What the tries have come to: as many are left, from another place in the list.
+pub record Calling (s : Settings) (tables terms numbers : List ℕ) (begun before : ℕ) (w : Work) (used made left : ℕ) (v : Work) : Type 0 where
+  pub startable : Startable tables terms v
+  pub outcome :
+      (fs : List Assignment)
+      → run (call s (planOfTables tables terms)) (numbersOf numbers) (at begun before fs)
+      ≡ run (trying s (planOfTables tables terms) left) (numbersOf numbers) (at used made fs)
+  pub uses : begun ≤ used
+  pub flipped : made ≤ used
+  pub within : used ≤ length numbers / 4
+  pub beyond : Beyond (planOfTables tables terms .variables) w v
+  pub sized : Sized w v
+
+pub calls-begin : (s : Settings) {tables terms numbers : List ℕ} {begun before : ℕ} {w : Work} → Startable tables terms w → begun ≤ length numbers / 4 → before ≤ begun
+    → Calling s tables terms numbers begun before w begun before (s .tries) w
+calls-begin s k l h =
+    record {
+      startable = k;
+      outcome = λ fs. run-call s _ _ (at _ _ fs);
+      uses = omega arith;
+      flipped = h;
+      within = l;
+      beyond = beyond-same _ _;
+      sized = record { assignment = refl; tallies = refl; marks = refl };
+    }
+
+startable-on : {tables terms : List ℕ} {w v : Work} → Startable tables terms w → Sized w v → Startable tables terms v
+startable-on k z =
+    record {
+      ready = record { laid = k .ready .laid; bytes = omega (arith, k .ready .bytes, z .assignment) };
+      room = omega (arith, k .room, z .tallies);
+      marks = record { laid = k .marks .laid; bytes = omega (arith, k .marks .bytes, z .marks) };
+    }
+
+unfoldable pub isFailed : Tried → Bool
+isFailed (tried.Reached used flips) = false
+isFailed (tried.Failed used flips) = true
+isFailed (tried.Short used flips) = false
+
+-- What is left where the code has told a failure apart.
+pub not-failed : (t : Tried) → OneOf (0 ∷ 2 ∷ []) (tagOf the-type t) → isFailed t ≡ false
+unfolding isFailed
+not-failed (tried.Reached used flips) k = refl
+not-failed (tried.Failed used flips) k = absurd (miss (0 ∷ 2 ∷ []) 1 tt k)
+not-failed (tried.Short used flips) k = refl
+
+module _ {s : Settings} {tables terms numbers : List ℕ} {begun before : ℕ} {w : Work} {used made left : ℕ} {v : Work} (i : Calling s tables terms numbers begun before w used made left v) where
+  abbrev o : Plan
+  o = planOfTables tables terms
+
+  module _ (h : 0 < left) where
+    again : (fs : List Assignment) → run (call s o) (numbersOf numbers) (at begun before fs) ≡ run (trying s o (suc (left - 1))) (numbersOf numbers) (at used made fs)
+    again fs = i .outcome fs ∙ ap (λ k. run (trying s o k) (numbersOf numbers) (at used made fs)) (counted-down left h)
+
+    pub calls-more : {u : Work} {after flips : ℕ} (t : Tried) → t ≡ tried.Failed after flips → Tries (try s o) tables terms numbers used made (used + 1) t v u → Sized v u
+        → Calling s tables terms numbers begun before w after flips (left - 1) u
+    unfolding triedOf usedBy flipsBy
+    calls-more {u} {after} {flips} t e g z =
+        let ua : usedBy t ≡ after = ap usedBy e in
+        let fa : flipsBy t ≡ flips = ap flipsBy e in
+        record {
+          startable = startable-on (i .startable) z;
+          outcome = λ fs. again fs ∙ trying-next s o (numbersOf numbers) (at used made fs) (left - 1) (g .outcome fs ∙ ap (λ d. triedOf d (bitsIn tables terms u) fs) e);
+          uses = omega (arith, i .uses, g .uses);
+          flipped = omega (arith, g .flipped);
+          within = omega (arith, g .within);
+          beyond = beyond-on (i .beyond) (g .beyond);
+          sized = sized-on (i .sized) (z .assignment) (z .tallies) (z .marks);
+        }
+
+    pub calls-done : {u : Work} (t : Tried) → isFailed t ≡ false → Tries (try s o) tables terms numbers used made (used + 1) t v u
+        → Tries (call s o) tables terms numbers begun before (begun + 1) t w u
+    unfolding isFailed triedOf usedBy flipsBy IfReached
+    calls-done (tried.Reached after flips) e g =
+        record {
+          outcome = λ fs. again fs ∙ trying-found s o (numbersOf numbers) (at used made fs) (left - 1) (g .outcome fs);
+          finds = record { bits = g .finds .bits; satisfied = g .finds .satisfied; uses = omega (arith, g .finds .uses, i .uses) };
+          uses = omega (arith, i .uses, g .uses);
+          within = g .within;
+          flipped = g .flipped;
+          beyond = beyond-on (i .beyond) (g .beyond);
+        }
+    calls-done (tried.Failed after flips) e g = absurd (true≢false e)
+    calls-done (tried.Short after flips) e g =
+        record {
+          outcome = λ fs. again fs ∙ trying-short s o (numbersOf numbers) (at used made fs) (left - 1) (g .outcome fs);
+          finds = tt;
+          uses = omega (arith, i .uses, g .uses);
+          within = g .within;
+          flipped = g .flipped;
+          beyond = beyond-on (i .beyond) (g .beyond);
+        }
+
+  pub calls-end : left ≤ 0 → Tries (call s o) tables terms numbers begun before (begun + 1) (tried.Failed used made) w v
+  unfolding triedOf usedBy flipsBy IfReached
+  calls-end h =
+      let e : left ≡ 0 = omega arith in
+      record {
+        outcome = λ fs. i .outcome fs ∙ ap (λ k. run (trying s o k) (numbersOf numbers) (at used made fs)) e ∙ trying-none s o (numbersOf numbers) (at used made fs);
         finds = tt;
         uses = i .uses;
         within = i .within;

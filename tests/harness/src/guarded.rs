@@ -1,5 +1,7 @@
 //! Buffers with guard bytes before and behind, so that a write outside of what is lent is seen.
 
+use reference::random::Random;
+
 const GUARD: usize = 64;
 
 /// A buffer of some length in the middle of a larger one, filled with noise all round.
@@ -19,6 +21,17 @@ impl Guarded {
             bytes: all,
             length: bytes.len(),
         }
+    }
+
+    /// A buffer that begins with these bytes and goes on with noise up to a length, which may be less than theirs.
+    pub fn sized(random: &mut Random, bytes: &[u8], length: usize) -> Guarded {
+        let mut held = bytes[..bytes.len().min(length)].to_vec();
+        let mut noise = random.draw();
+        while held.len() < length {
+            held.push((noise >> 56) as u8);
+            noise = noise.wrapping_mul(0x9E37_79B9_7F4A_7C15).wrapping_add(1);
+        }
+        Guarded::holding(&held, random.number() as u8)
     }
 
     pub fn lend(&mut self) -> &mut [u8] {

@@ -1,6 +1,6 @@
 //! Tables, assignments and tallies in bytes, written from docs/FORMAT.md and not from the library.
 
-use reference::file::{MOST_CLAUSES, MOST_RULES, MOST_TERMS, MOST_VARIABLES};
+use reference::file::{self, MOST_CLAUSES, MOST_RULES, MOST_TERMS, MOST_VARIABLES};
 use reference::plan::{Clause, Plan, Rule, Term};
 use reference::tallies::Tallies;
 
@@ -13,6 +13,8 @@ pub const TABLES: usize = 4 * (4 + MOST_VARIABLES + 2 * CLAUSES + 5 * RULES);
 pub const TERM_TABLE: usize = 4 * (2 * TERMS);
 pub const ASSIGNMENT: usize = MOST_VARIABLES;
 pub const TALLIES: usize = 4 * (RULES + CLAUSES + 1);
+/// What a search marks: a byte for each variable.
+pub const MARKS: usize = MOST_VARIABLES;
 
 /// Words are appended, and a section is filled up with zeros.
 struct Words(Vec<u8>);
@@ -152,6 +154,14 @@ pub fn plan(tables: &[u8], terms: &[u8]) -> Option<Plan> {
         objective,
         clauses,
     })
+}
+
+/// The plan whose loading leaves these tables, if there is one: the condition of refusal 22. Places past the full limits do not matter.
+pub fn loaded(tables: &[u8], terms: &[u8]) -> Option<Plan> {
+    let (tables_now, terms_now) = (&tables[..TABLES], &terms[..TERM_TABLE]);
+    let plan = file::parse(&file::write(&plan(tables_now, terms_now)?)).ok()?;
+    let (tables, terms) = self::tables(&plan);
+    (tables == tables_now && terms == terms_now).then_some(plan)
 }
 
 #[cfg(test)]

@@ -5,3 +5,4 @@ pub mod layout;
 pub mod planner;
 pub mod probe;
 pub mod replay;
+pub mod searching;

@@ -1,5 +1,7 @@
 //! The planner's C interface as Rust sees it (include/planner.h).
 
+use reference::walk::Settings;
+
 /// What loading answers.
 #[repr(C)]
 #[derive(Clone, Copy, Debug, PartialEq, Eq)]
@@ -17,8 +19,20 @@ pub struct Counted {
     pub make_count: u32,
 }
 
+/// What a search answers; the ending by its number.
+#[repr(C)]
+#[derive(Clone, Copy, Debug, PartialEq, Eq)]
+pub struct Searched {
+    pub refusal: u32,
+    pub ending: u32,
+    pub cost: i64,
+    pub finds: usize,
+    pub flips: usize,
+    pub used: usize,
+}
+
 mod raw {
-    use super::{Counted, Loaded};
+    use super::{Counted, Loaded, Searched};
 
     extern "C" {
         pub fn planner_load(
@@ -61,6 +75,30 @@ mod raw {
             tallies_length: usize,
             variable: u32,
         ) -> Counted;
+        pub fn planner_search(
+            tables: *const u8,
+            tables_length: usize,
+            terms: *const u8,
+            terms_length: usize,
+            numbers: *const u8,
+            numbers_length: usize,
+            noise: u32,
+            tries: u32,
+            flips: u32,
+            mode: u32,
+            assignment: *mut u8,
+            assignment_length: usize,
+            work_tables: *mut u8,
+            work_tables_length: usize,
+            work_terms: *mut u8,
+            work_terms_length: usize,
+            work_assignment: *mut u8,
+            work_assignment_length: usize,
+            work_tallies: *mut u8,
+            work_tallies_length: usize,
+            work_marks: *mut u8,
+            work_marks_length: usize,
+        ) -> Searched;
     }
 }
 
@@ -132,6 +170,44 @@ pub fn counts(
             tallies.as_ptr(),
             tallies.len(),
             variable,
+        )
+    }
+}
+
+/// The work buffers are tables, terms, assignment, tallies and marks.
+pub fn search(
+    tables: &[u8],
+    terms: &[u8],
+    numbers: &[u8],
+    settings: &Settings,
+    assignment: &mut [u8],
+    work: [&mut [u8]; 5],
+) -> Searched {
+    let [work_tables, work_terms, work_assignment, work_tallies, work_marks] = work;
+    unsafe {
+        raw::planner_search(
+            tables.as_ptr(),
+            tables.len(),
+            terms.as_ptr(),
+            terms.len(),
+            numbers.as_ptr(),
+            numbers.len(),
+            settings.noise,
+            settings.tries,
+            settings.flips,
+            settings.mode,
+            assignment.as_mut_ptr(),
+            assignment.len(),
+            work_tables.as_mut_ptr(),
+            work_tables.len(),
+            work_terms.as_mut_ptr(),
+            work_terms.len(),
+            work_assignment.as_mut_ptr(),
+            work_assignment.len(),
+            work_tallies.as_mut_ptr(),
+            work_tallies.len(),
+            work_marks.as_mut_ptr(),
+            work_marks.len(),
         )
     }
 }

@@ -2,6 +2,7 @@
 -- Assumes nothing.
 use borrow.Author.Needs.{needs}
 use native.Mathlib.Omega.{arith}
+use mathlib.Core.Path.{sym, _∙_}
 use Rattle.tallies.proofs.Laid.{tables-long, variables-word}
 use Rattle.choice.proofs.Parting.{parted-here}
 use Rattle.choice.proofs.marks.mark_free.Statement.{statement}
@@ -13,9 +14,7 @@ index-requires c κs = let at = c .before .before .before .before in omega (arit
 free-marks-requires : tie.Need-free-marks-requires
 free-marks-requires c κs =
     let at = c .before .before .before .before .before .before in
-    let n = c .before .index .ensures in
-    let v = variables-word _ _ (at .pre .0 .laid) in
-    (at .pre .0, omega (arith, n, v), omega (arith, n, v, at .pre .1 .bytes))
+    (at .pre .0, at .pre .1, c .before .index .ensures ∙ sym (variables-word _ _ (at .pre .0 .laid)))
 
 count-marked-requires : tie.Need-count-marked-requires
 count-marked-requires c κs =

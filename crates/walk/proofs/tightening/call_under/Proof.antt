@@ -1,103 +1,66 @@
+-- `call_under` meets its contract: the bound is set, the call made, and its find copied out.
+-- Assumes nothing.
 use borrow.Author.Needs.{needs}
+use native.Mathlib.Omega.{arith}
+use mathlib.Core.Path.{_∙_}
+use mir.Facts.{toZ-ofZ}
+use Rattle.walk.proofs.Bounds.{bounded-long, bounded-rules, bounded-summable, bounded-word, under-bounded, under-startable, called-found, called-failed, called-short}
 use Rattle.walk.proofs.tightening.call_under.Statement.{statement}
 use Rattle.walk.proofs.tightening.call_under.Tie as tie
-use Rattle.walk.proofs.tightening.call_under.Reads as reads
-use Rattle.walk.proofs.tightening.call_under.Lts as lts
-use Rattle.objective.proofs.added.set_bound.Reads as set-bound-reads
-use Rattle.walk.proofs.tightening.keep_find.Reads as keep-find-reads
-use Rattle.walk.proofs.tries.call.Reads as call-reads
 
--- src/tightening.rt:81:5
 set-bound-requires : tie.Need-set-bound-requires
-set-bound-requires c κs = ?
+set-bound-requires c κs =
+    let a = c .before .before .before .before .before .before .before .before in
+    (bounded-long (a .pre .0 .bounded), bounded-rules (a .pre .0 .bounded), rw (toZ-ofZ (a .fits .bound)) (a .pre .2))
 
--- src/tightening.rt:82:9
 call-requires : tie.Need-call-requires
-call-requires c κs = ?
+call-requires c κs =
+    let b = c .before .before .before .before .before .before in
+    let a = b .before .before .before .before .before .before .before .before .before in (
+      under-startable (a .pre .0) (a .args .bound) (a .pre .2) (b .set-bound .ensures),
+      a .pre .1 .within,
+      a .pre .1 .flips,
+    )
 
--- src/tightening.rt:94:24
-enum-known-t : tie.Need-enum-known-t
-enum-known-t c = search needs
-
--- src/tightening.rt:95:19
 keep-find-requires : tie.Need-keep-find-requires
-keep-find-requires c κs = ?
+keep-find-requires c κs =
+    let k = c .before .before .before .before .before .before .before .before .before .before .before .before in
+    let b = k .before .before .before .before .before .before .before in
+    let a = b .before .before .before .before .before .before .before .before .before in
+    let u = under-bounded (a .pre .0) (a .args .bound) (a .pre .2) (b .set-bound .ensures) in
+    (bounded-summable u, omega (arith, bounded-word u, a .pre .0 .tried, k .call .kept .1 .1 .1 .1 .1 .1 .0), omega (arith, bounded-word u, a .pre .0 .find))
 
--- src/tightening.rt:96:20
 add-t37 : tie.Need-add-t37
-add-t37 c = ?
+add-t37 c =
+    let n = c .before .before .before .before .before .before .before .before .before .before .before .before .before .before .before .before .before .before .before .before .before .before .before .before .before .before .before .before .before in
+    let a = n .before .before .before in
+    omega (arith, a .pre .1 .finds, a .pre .1 .within, a .good .1 .1 .0)
 
--- src/tightening.rt:100:23
-enum-known-t-2 : tie.Need-enum-known-t-2
-enum-known-t-2 c = search needs
-
--- src/tightening.rt:106:22
-enum-known-t-3 : tie.Need-enum-known-t-3
-enum-known-t-3 c = search needs
-
--- src/tightening.rt:66:1
-same-length : tie.Need-same-length
-same-length c = search needs
-
--- src/tightening.rt:66:1
-same-length-2 : tie.Need-same-length-2
-same-length-2 c = search needs
-
--- src/tightening.rt:66:1
-same-length-3 : tie.Need-same-length-3
-same-length-3 c = search needs
-
--- src/tightening.rt:66:1
-same-length-4 : tie.Need-same-length-4
-same-length-4 c = search needs
-
--- src/tightening.rt:66:1
-same-length-5 : tie.Need-same-length-5
-same-length-5 c = search needs
-
--- src/tightening.rt:66:1
 returns : tie.Need-returns
-returns c = ?
+returns c =
+    let q = c .before .before .before in
+    let k = q .before .before .before .before .before .before .before .before .before .before .before .before .before in
+    let b = k .before .before .before .before .before .before .before in
+    let a = b .before .before .before .before .before .before .before .before .before in
+    called-found (a .pre .0) (a .args .bound) (a .pre .2) (b .set-bound .ensures) _ (a .pre .1)
+    (q .before .before .before .before .before .t .given .1) (k .call .ensures) (omega (arith, a .pre .0 .tried, k .call .kept .1 .1 .1 .1 .1 .1 .0))
+    (toZ-ofZ (record { sfits = q .keep-find .ok }) ∙ q .keep-find .ensures .0) (q .keep-find .ensures .1)
 
--- src/tightening.rt:66:1
-same-length-6 : tie.Need-same-length-6
-same-length-6 c = search needs
-
--- src/tightening.rt:66:1
-same-length-7 : tie.Need-same-length-7
-same-length-7 c = search needs
-
--- src/tightening.rt:66:1
-same-length-8 : tie.Need-same-length-8
-same-length-8 c = search needs
-
--- src/tightening.rt:66:1
-same-length-9 : tie.Need-same-length-9
-same-length-9 c = search needs
-
--- src/tightening.rt:66:1
 returns-2 : tie.Need-returns-2
-returns-2 c = ?
+returns-2 c =
+    let k = c .before .before .before .before .before .before .before .before .before .before in
+    let b = k .before .before .before .before .before .before .before in
+    let a = b .before .before .before .before .before .before .before .before .before in
+    called-failed (a .pre .0) (a .args .bound) (a .pre .2) (b .set-bound .ensures) _ (a .pre .1)
+    (k .call .ensures) (c .before .before .t2 .given .1)
 
--- src/tightening.rt:66:1
-same-length-10 : tie.Need-same-length-10
-same-length-10 c = search needs
-
--- src/tightening.rt:66:1
-same-length-11 : tie.Need-same-length-11
-same-length-11 c = search needs
-
--- src/tightening.rt:66:1
-same-length-12 : tie.Need-same-length-12
-same-length-12 c = search needs
-
--- src/tightening.rt:66:1
-same-length-13 : tie.Need-same-length-13
-same-length-13 c = search needs
-
--- src/tightening.rt:66:1
 returns-3 : tie.Need-returns-3
-returns-3 c = ?
+returns-3 c =
+    let k = c .before .before .before .before .before .before .before .before .before .before in
+    let b = k .before .before .before .before .before .before .before in
+    let a = b .before .before .before .before .before .before .before .before .before in
+    called-short (a .pre .0) (a .args .bound) (a .pre .2) (b .set-bound .ensures) _ (a .pre .1)
+    (k .call .ensures) (c .before .before .t3 .given .1)
 
 pub call-under-spec : {M : Type 1} → statement M
 call-under-spec =
@@ -105,24 +68,24 @@ call-under-spec =
     (tie.spec
     set-bound-requires
     call-requires
-    enum-known-t
+    (λ c. search needs)
     keep-find-requires
     add-t37
-    enum-known-t-2
-    enum-known-t-3
-    same-length
-    same-length-2
-    same-length-3
-    same-length-4
-    same-length-5
+    (λ c. search needs)
+    (λ c. search needs)
+    (λ c. search needs)
+    (λ c. search needs)
+    (λ c. search needs)
+    (λ c. search needs)
+    (λ c. search needs)
     returns
-    same-length-6
-    same-length-7
-    same-length-8
-    same-length-9
+    (λ c. search needs)
+    (λ c. search needs)
+    (λ c. search needs)
+    (λ c. search needs)
     returns-2
-    same-length-10
-    same-length-11
-    same-length-12
-    same-length-13
+    (λ c. search needs)
+    (λ c. search needs)
+    (λ c. search needs)
+    (λ c. search needs)
     returns-3)

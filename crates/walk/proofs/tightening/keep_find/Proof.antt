@@ -1,32 +1,23 @@
+-- `keep_find` meets its contract.
+-- Assumes nothing.
 use borrow.Author.Needs.{needs}
+use mathlib.Core.Path.{_∙_}
+use mir.Facts.{toZ-ofZ}
 use Rattle.walk.proofs.tightening.keep_find.Statement.{statement}
 use Rattle.walk.proofs.tightening.keep_find.Tie as tie
-use Rattle.walk.proofs.tightening.keep_find.Reads as reads
-use Rattle.walk.proofs.tightening.keep_find.Lts as lts
-use Rattle.objective.proofs.sums.cost.Reads as cost-reads
-use Rattle.objective.proofs.writes.copy.Reads as copy-reads
-use Rattle.words.proofs.index.Reads as index-reads
 
--- src/tightening.rt:60:9
-index-requires : tie.Need-index-requires
-index-requires c κs = search needs
-
--- src/tightening.rt:61:5
-copy-requires : tie.Need-copy-requires
-copy-requires c κs = search needs
-
--- src/tightening.rt:62:5
-cost-requires : tie.Need-cost-requires
-cost-requires c κs = search needs
-
--- src/tightening.rt:56:1
-same-length : tie.Need-same-length
-same-length c = search needs
-
--- src/tightening.rt:56:1
 returns : tie.Need-returns
-returns c = ?
+returns c = (
+  toZ-ofZ (record { sfits = c .cost .ok }) ∙ c .cost .ensures,
+  rw (c .before .before .before .before .before .index .ensures) at (c .before .before .before .copy .ensures),
+)
 
 pub keep-find-spec : {M : Type 1} → statement M
 keep-find-spec =
-    tie.close (tie.spec index-requires copy-requires cost-requires same-length returns)
+    tie.close
+    (tie.spec
+    (λ c κs. search needs)
+    (λ c κs. search needs)
+    (λ c κs. search needs)
+    (λ c. search needs)
+    returns)

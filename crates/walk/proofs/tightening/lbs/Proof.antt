@@ -1,89 +1,87 @@
+-- `lbs` meets its contract. The invariant: LBS from where the search stands comes to what it comes to from the first find. The
+-- measure is the gap of the last find's cost above l(O), which each find makes smaller.
+-- Assumes nothing.
+use mathlib.Core.Path.{_∙_}
+use Rattle.plpb.specs.Search.{gap, lbsSearch}
+use Rattle.tallies.specs.Layout.{bitsOf}
+use Rattle.walk.specs.Steps.{settingsOf}
+use Rattle.walk.specs.Bounds.{basis}
+use Rattle.walk.proofs.Concluding.{cost-low, floor-low, test-above, test-floor, lbs-read, lbs-small, Since, since-first, room-here, stands-here, lbs-ends, lbs-falls, lbs-again, lbs-stops}
 use Rattle.walk.proofs.tightening.lbs.Statement.{statement}
 use Rattle.walk.proofs.tightening.lbs.Tie as tie
-use Rattle.walk.proofs.tightening.lbs.Reads as reads
-use Rattle.walk.proofs.tightening.lbs.Lts as lts
-use Rattle.counting.proofs.tightening.lbs_bound.Reads as lbs-bound-reads
-use Rattle.walk.proofs.tightening.call_under.Reads as call-under-reads
 
 abbrev Inv-loop : tie.InvT-loop
 Inv-loop tables₀ terms numbers s floor assignment₀ tried₀ tallies₀ marks₀ at₀ tables assignment tried tallies marks at =
-    ?
+    Since (lbsSearch (settingsOf s)) (basis tables₀ terms) terms numbers tables₀ assignment₀ (record { assignment = tried₀; tallies = tallies₀; marks = marks₀ }) at₀ tables assignment (record { assignment = tried; tallies = tallies; marks = marks }) at
 
 abbrev μ-loop : tie.MeasureT-loop
 μ-loop tables₀ terms numbers s floor assignment₀ tried₀ tallies₀ marks₀ at₀ tables assignment tried tallies marks at =
-    ?
+    gap (basis tables₀ terms) (bitsOf (basis tables₀ terms .variables) assignment)
 
--- src/tightening.rt:193:5
 loop-holds : tie.Need-loop-holds Inv-loop μ-loop
-loop-holds c = ?
+loop-holds c = let a = c .before .before .before .before .before .before .before in since-first (a .pre .0) (a .pre .1)
 
--- src/tightening.rt:199:13
 lbs-bound-requires : tie.Need-lbs-bound-requires Inv-loop μ-loop
-lbs-bound-requires c κs = ?
+lbs-bound-requires c κs =
+    let o = c .before .before .before .before .before in
+    let i = o .loop .inv in
+    (floor-low (i .room .bounded) (i .stands) (o .before .before .before .before .before .before .before .before .pre .2), cost-low (i .room .bounded) (i .stands))
 
--- src/tightening.rt:194:13
 call-under-requires : tie.Need-call-under-requires Inv-loop μ-loop
-call-under-requires c κs = ?
+call-under-requires c κs =
+    let n = c .before .before .before .before in
+    let i = n .before .before .before .before .before .before .loop .inv in (
+      room-here (i .room .bounded) (i .room),
+      stands-here (i .room .bounded) (i .stands),
+      lbs-small (i .room .bounded) (i .stands) (n .before .before .before .before .before .before .before .before .before .before .before .before .before .before .pre .2) (record { sfits = n .lbs-bound .ok }) (n .lbs-bound .ensures),
+    )
 
--- src/tightening.rt:206:27
-enum-known-c : tie.Need-enum-known-c Inv-loop μ-loop
-enum-known-c c = ?
-
--- src/tightening.rt:207:13
-same-length : tie.Need-same-length Inv-loop μ-loop
-same-length c = ?
-
--- src/tightening.rt:207:13
-same-length-2 : tie.Need-same-length-2 Inv-loop μ-loop
-same-length-2 c = ?
-
--- src/tightening.rt:207:13
-same-length-3 : tie.Need-same-length-3 Inv-loop μ-loop
-same-length-3 c = ?
-
--- src/tightening.rt:207:13
-same-length-4 : tie.Need-same-length-4 Inv-loop μ-loop
-same-length-4 c = ?
-
--- src/tightening.rt:207:13
-same-length-5 : tie.Need-same-length-5 Inv-loop μ-loop
-same-length-5 c = ?
-
--- src/tightening.rt:207:13
 returns : tie.Need-returns Inv-loop μ-loop
-returns c = ?
+returns c =
+    let d = c .before .before .before .before .before .before .before .before .before .before .before in
+    let n = d .before .before .before .before .before in
+    let t = n .before .before .before in
+    let o = t .before .before .before in
+    let i = o .loop .inv in
+    lbs-stops _ i (d .call-under .ensures)
+    (test-above (i .room .bounded) (i .stands) (o .before .before .before .before .before .before .before .before .pre .2) (t .if1 .taken))
+    (lbs-read (i .room .bounded) (i .stands) (o .before .before .before .before .before .before .before .before .pre .2) (record { sfits = n .lbs-bound .ok }) (n .lbs-bound .ensures)) (c .match .keys2)
 
--- src/tightening.rt:193:5
 loop-less : tie.Need-loop-less Inv-loop μ-loop
-loop-less c = ?
+loop-less c =
+    let d = c .before .before .before .before .before .before .before .before .before .before .before .before .before in
+    let n = d .before .before .before .before .before in
+    let t = n .before .before .before in
+    let o = t .before .before .before in
+    let i = o .loop .inv in
+    lbs-falls _ i (d .call-under .ensures)
+    (test-above (i .room .bounded) (i .stands) (o .before .before .before .before .before .before .before .before .pre .2) (t .if1 .taken))
+    (lbs-read (i .room .bounded) (i .stands) (o .before .before .before .before .before .before .before .before .pre .2) (record { sfits = n .lbs-bound .ok }) (n .lbs-bound .ensures)) (c .before .c .given .1)
 
--- src/tightening.rt:193:5
 loop-again : tie.Need-loop-again Inv-loop μ-loop
-loop-again c = ?
+loop-again c =
+    let d = c .before .before .before .before .before .before .before .before .before .before .before .before .before in
+    let n = d .before .before .before .before .before in
+    let t = n .before .before .before in
+    let o = t .before .before .before in
+    let i = o .loop .inv in
+    let k = d .call-under .kept in
+    lbs-again _ i (d .call-under .ensures)
+    (test-above (i .room .bounded) (i .stands) (o .before .before .before .before .before .before .before .before .pre .2) (t .if1 .taken))
+    (lbs-read (i .room .bounded) (i .stands) (o .before .before .before .before .before .before .before .before .pre .2) (record { sfits = n .lbs-bound .ok }) (n .lbs-bound .ensures)) (c .before .c .given .1)
+    (record {
+      tables = k .0;
+      assignment = k .1 .1 .1 .1 .1 .1 .0;
+      tried = k .1 .1 .1 .1 .1 .1 .1 .0;
+      tallies = k .1 .1 .1 .1 .1 .1 .1 .1 .0;
+      marks = k .1 .1 .1 .1 .1 .1 .1 .1 .1 .0;
+    })
 
--- src/tightening.rt:177:1
-same-length-6 : tie.Need-same-length-6 Inv-loop μ-loop
-same-length-6 c = ?
-
--- src/tightening.rt:177:1
-same-length-7 : tie.Need-same-length-7 Inv-loop μ-loop
-same-length-7 c = ?
-
--- src/tightening.rt:177:1
-same-length-8 : tie.Need-same-length-8 Inv-loop μ-loop
-same-length-8 c = ?
-
--- src/tightening.rt:177:1
-same-length-9 : tie.Need-same-length-9 Inv-loop μ-loop
-same-length-9 c = ?
-
--- src/tightening.rt:177:1
-same-length-10 : tie.Need-same-length-10 Inv-loop μ-loop
-same-length-10 c = ?
-
--- src/tightening.rt:177:1
 returns-2 : tie.Need-returns-2 Inv-loop μ-loop
-returns-2 c = ?
+returns-2 c =
+    let o = c .before .before .before in
+    let i = o .loop .inv in
+    lbs-ends _ i (test-floor (i .room .bounded) (i .stands) (o .before .before .before .before .before .before .before .before .pre .2) (c .if1 .left))
 
 pub lbs-spec : {M : Type 1} → statement M
 lbs-spec =
@@ -94,18 +92,18 @@ lbs-spec =
     loop-holds
     lbs-bound-requires
     call-under-requires
-    enum-known-c
-    same-length
-    same-length-2
-    same-length-3
-    same-length-4
-    same-length-5
+    (λ c. c .match .keys1)
+    (λ c. c .before .before .before .before .before .before .before .before .before .before .before .call-under .kept .0 ∙ c .before .before .before .before .before .before .before .before .before .before .before .before .before .before .before .before .before .before .before .before .before .before .loop .inv .long .tables)
+    (λ c. c .before .before .before .before .before .before .before .before .before .before .before .call-under .kept .1 .1 .1 .1 .1 .1 .0 ∙ c .before .before .before .before .before .before .before .before .before .before .before .before .before .before .before .before .before .before .before .before .before .before .loop .inv .long .assignment)
+    (λ c. c .before .before .before .before .before .before .before .before .before .before .before .call-under .kept .1 .1 .1 .1 .1 .1 .1 .0 ∙ c .before .before .before .before .before .before .before .before .before .before .before .before .before .before .before .before .before .before .before .before .before .before .loop .inv .long .tried)
+    (λ c. c .before .before .before .before .before .before .before .before .before .before .before .call-under .kept .1 .1 .1 .1 .1 .1 .1 .1 .0 ∙ c .before .before .before .before .before .before .before .before .before .before .before .before .before .before .before .before .before .before .before .before .before .before .loop .inv .long .tallies)
+    (λ c. c .before .before .before .before .before .before .before .before .before .before .before .call-under .kept .1 .1 .1 .1 .1 .1 .1 .1 .1 .0 ∙ c .before .before .before .before .before .before .before .before .before .before .before .before .before .before .before .before .before .before .before .before .before .before .loop .inv .long .marks)
     returns
     loop-less
     loop-again
-    same-length-6
-    same-length-7
-    same-length-8
-    same-length-9
-    same-length-10
+    (λ c. c .before .before .before .loop .inv .long .tables)
+    (λ c. c .before .before .before .loop .inv .long .assignment)
+    (λ c. c .before .before .before .loop .inv .long .tried)
+    (λ c. c .before .before .before .loop .inv .long .tallies)
+    (λ c. c .before .before .before .loop .inv .long .marks)
     returns-2)

@@ -1,33 +1,30 @@
+-- `stopped` meets its contract.
+-- Assumes nothing.
 use borrow.Author.Needs.{needs}
+use mathlib.Core.Path.{refl}
+use Rattle.walk.specs.Bounds.{StoppedAt}
 use Rattle.walk.proofs.tightening.stopped.Statement.{statement}
 use Rattle.walk.proofs.tightening.stopped.Tie as tie
-use Rattle.walk.proofs.tightening.stopped.Reads as reads
-use Rattle.walk.proofs.tightening.stopped.Lts as lts
 
--- src/tightening.rt:120:23
-enum-known-c : tie.Need-enum-known-c
-enum-known-c c = search needs
-
--- src/tightening.rt:124:24
-enum-known-c-2 : tie.Need-enum-known-c-2
-enum-known-c-2 c = search needs
-
--- src/tightening.rt:128:23
-enum-known-c-3 : tie.Need-enum-known-c-3
-enum-known-c-3 c = search needs
-
--- src/tightening.rt:116:1
 returns : tie.Need-returns
-returns c = ?
+unfolding StoppedAt
+returns c = rw (c .before .c .given .1) (refl, refl)
 
--- src/tightening.rt:116:1
 returns-2 : tie.Need-returns-2
-returns-2 c = ?
+unfolding StoppedAt
+returns-2 c = rw (c .before .c2 .given .1) (refl, refl)
 
--- src/tightening.rt:116:1
 returns-3 : tie.Need-returns-3
-returns-3 c = ?
+unfolding StoppedAt
+returns-3 c = rw (c .before .c3 .given .1) (refl, refl)
 
 pub stopped-spec : {M : Type 1} → statement M
 stopped-spec =
-    tie.close (tie.spec enum-known-c enum-known-c-2 enum-known-c-3 returns returns-2 returns-3)
+    tie.close
+    (tie.spec
+    (λ c. search needs)
+    (λ c. search needs)
+    (λ c. search needs)
+    returns
+    returns-2
+    returns-3)

@@ -1,128 +1,76 @@
+-- `tighten` meets its contract: linear alone, or LBS and, where that fails, linear from there.
+-- Assumes nothing.
 use borrow.Author.Needs.{needs}
+use mathlib.Core.Path.{_∙_, sym, ap}
+use mir.Facts.{toZ-ofZ}
+use Rattle.plpb.specs.Plan.{floorCost}
+use Rattle.walk.proofs.Bounds.{bounded-basis}
+use Rattle.walk.proofs.Concluding.{room-here, room-after, tightens-linear, tightens-lbs, lbs-answers, stopped-stands, failed-stands, lbs-then-linear}
 use Rattle.walk.proofs.tightening.tighten.Statement.{statement}
 use Rattle.walk.proofs.tightening.tighten.Tie as tie
-use Rattle.walk.proofs.tightening.tighten.Reads as reads
-use Rattle.walk.proofs.tightening.tighten.Lts as lts
-use Rattle.walk.proofs.tightening.lbs.Reads as lbs-reads
-use Rattle.walk.proofs.tightening.linear.Reads as linear-reads
-use Rattle.walk.proofs.tightening.stopped.Reads as stopped-reads
 
--- src/tightening.rt:231:9
-linear-requires : tie.Need-linear-requires
-linear-requires c κs = search needs
-
--- src/tightening.rt:231:9
-same-length : tie.Need-same-length
-same-length c = search needs
-
--- src/tightening.rt:231:9
-same-length-2 : tie.Need-same-length-2
-same-length-2 c = search needs
-
--- src/tightening.rt:231:9
-same-length-3 : tie.Need-same-length-3
-same-length-3 c = search needs
-
--- src/tightening.rt:231:9
-same-length-4 : tie.Need-same-length-4
-same-length-4 c = search needs
-
--- src/tightening.rt:231:9
-same-length-5 : tie.Need-same-length-5
-same-length-5 c = search needs
-
--- src/tightening.rt:231:9
 returns : tie.Need-returns
-returns c = ?
+returns c =
+    let d = c .before .before .before .before .before .before .before .before .before .before in
+    let t = d .before .before .before .before .before .before in
+    let e = d .linear .ensures in
+    (tightens-linear _ _ _ (t .before .before .before .before .before .before .before .before .before .args .from) _ _ _ (t .if1 .taken) (e .0), e .1, e .2)
 
--- src/tightening.rt:244:9
-lbs-requires : tie.Need-lbs-requires
-lbs-requires c κs = search needs
-
--- src/tightening.rt:256:24
-enum-known-c : tie.Need-enum-known-c
-enum-known-c c = search needs
-
--- src/tightening.rt:257:9
-stopped-requires : tie.Need-stopped-requires
-stopped-requires c κs = search needs
-
--- src/tightening.rt:257:9
-same-length-6 : tie.Need-same-length-6
-same-length-6 c = search needs
-
--- src/tightening.rt:257:9
-same-length-7 : tie.Need-same-length-7
-same-length-7 c = search needs
-
--- src/tightening.rt:257:9
-same-length-8 : tie.Need-same-length-8
-same-length-8 c = search needs
-
--- src/tightening.rt:257:9
-same-length-9 : tie.Need-same-length-9
-same-length-9 c = search needs
-
--- src/tightening.rt:257:9
-same-length-10 : tie.Need-same-length-10
-same-length-10 c = search needs
-
--- src/tightening.rt:257:9
 returns-2 : tie.Need-returns-2
-returns-2 c = ?
+returns-2 c =
+    let d = c .before .before .before .before .before .before .before .before .before .before .before .before in
+    let t = d .before .before .before .before .before .before in
+    let e = d .lbs .ensures in (
+      tightens-lbs _ _ _ (t .before .before .before .before .before .before .before .before .before .args .from) _ _ _ (t .if1 .left) (lbs-answers _ _ _ (t .before .before .before .before .before .before .before .before .before .args .from) _ _ _ (c .before .match .keys2) (e .0) _ (c .stopped .ensures)),
+      stopped-stands _ _ (c .stopped .ensures) (e .1),
+      e .2,
+    )
 
--- src/tightening.rt:259:5
 linear-requires-2 : tie.Need-linear-requires-2
-linear-requires-2 c κs = ?
+linear-requires-2 c κs =
+    let d = c .before .before .before .before .before .before .before .before .before .before .before .before .before .before .before .before .before .before in
+    let a = d .before .before .before .before .before .before .before .before .before .before .before .before .before .before .before in
+    let e = d .lbs .ensures in
+    let k = d .lbs .kept in (
+      room-here (e .2 .bounded) (room-after (a .pre .0) (e .2 .bounded) (record { tables = k .0; assignment = k .1 .1 .1 .1 .1 .1 .0; tried = k .1 .1 .1 .1 .1 .1 .1 .0; tallies = k .1 .1 .1 .1 .1 .1 .1 .1 .0; marks = k .1 .1 .1 .1 .1 .1 .1 .1 .1 .0 })),
+      failed-stands (c .before .before .before .before .before .before .c .given .1) (e .2) (e .1),
+      toZ-ofZ (a .fits .floor) ∙ a .pre .2 ∙ ap floorCost (sym (bounded-basis (e .2 .bounded))),
+    )
 
--- src/tightening.rt:215:1
-same-length-11 : tie.Need-same-length-11
-same-length-11 c = ?
-
--- src/tightening.rt:215:1
-same-length-12 : tie.Need-same-length-12
-same-length-12 c = ?
-
--- src/tightening.rt:215:1
-same-length-13 : tie.Need-same-length-13
-same-length-13 c = search needs
-
--- src/tightening.rt:215:1
-same-length-14 : tie.Need-same-length-14
-same-length-14 c = search needs
-
--- src/tightening.rt:215:1
-same-length-15 : tie.Need-same-length-15
-same-length-15 c = search needs
-
--- src/tightening.rt:215:1
 returns-3 : tie.Need-returns-3
-returns-3 c = ?
+returns-3 c =
+    let n = c .before .before .before .before .before .before .before .before .before .before in
+    let m = n .before .before .before .before .before .before .before in
+    let d = m .before .before .before .before .before .before .before .before .before .before .before .before in
+    let t = d .before .before .before .before .before .before in
+    let e = d .lbs .ensures in
+    let z = lbs-then-linear (m .c .given .1) (e .2) _ _ (e .0) _ (n .linear2 .ensures) in
+    (tightens-lbs _ _ _ (t .before .before .before .before .before .before .before .before .before .args .from) _ _ _ (t .if1 .left) (z .0), z .1, z .2)
 
 pub tighten-spec : {M : Type 1} → statement M
 tighten-spec =
     tie.close
     (tie.spec
-    linear-requires
-    same-length
-    same-length-2
-    same-length-3
-    same-length-4
-    same-length-5
+    (λ c κs. search needs)
+    (λ c. search needs)
+    (λ c. search needs)
+    (λ c. search needs)
+    (λ c. search needs)
+    (λ c. search needs)
     returns
-    lbs-requires
-    enum-known-c
-    stopped-requires
-    same-length-6
-    same-length-7
-    same-length-8
-    same-length-9
-    same-length-10
+    (λ c κs. search needs)
+    (λ c. search needs)
+    (λ c κs. search needs)
+    (λ c. search needs)
+    (λ c. search needs)
+    (λ c. search needs)
+    (λ c. search needs)
+    (λ c. search needs)
     returns-2
     linear-requires-2
-    same-length-11
-    same-length-12
-    same-length-13
-    same-length-14
-    same-length-15
+    (λ c. c .before .before .before .before .before .before .before .before .before .before .linear2 .kept .0 ∙ c .before .before .before .before .before .before .before .before .before .before .before .before .before .before .before .before .before .before .before .before .before .before .before .before .before .before .before .before .before .lbs .kept .0)
+    (λ c. c .before .before .before .before .before .before .before .before .before .before .linear2 .kept .1 .1 .1 .1 .1 .1 .0 ∙ c .before .before .before .before .before .before .before .before .before .before .before .before .before .before .before .before .before .before .before .before .before .before .before .before .before .before .before .before .before .lbs .kept .1 .1 .1 .1 .1 .1 .0)
+    (λ c. c .before .before .before .before .before .before .before .before .before .before .linear2 .kept .1 .1 .1 .1 .1 .1 .1 .0 ∙ c .before .before .before .before .before .before .before .before .before .before .before .before .before .before .before .before .before .before .before .before .before .before .before .before .before .before .before .before .before .lbs .kept .1 .1 .1 .1 .1 .1 .1 .0)
+    (λ c. c .before .before .before .before .before .before .before .before .before .before .linear2 .kept .1 .1 .1 .1 .1 .1 .1 .1 .0 ∙ c .before .before .before .before .before .before .before .before .before .before .before .before .before .before .before .before .before .before .before .before .before .before .before .before .before .before .before .before .before .lbs .kept .1 .1 .1 .1 .1 .1 .1 .1 .0)
+    (λ c. c .before .before .before .before .before .before .before .before .before .before .linear2 .kept .1 .1 .1 .1 .1 .1 .1 .1 .1 .0 ∙ c .before .before .before .before .before .before .before .before .before .before .before .before .before .before .before .before .before .before .before .before .before .before .before .before .before .before .before .before .before .lbs .kept .1 .1 .1 .1 .1 .1 .1 .1 .1 .0)
     returns-3)

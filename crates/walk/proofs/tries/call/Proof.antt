@@ -1,72 +1,57 @@
+-- `call` meets its contract. The invariant: as many tries are left, from the present place in the list. The measure is their number.
+-- Assumes nothing.
+use borrow.Author.Needs.{needs}
+use native.Mathlib.Omega.{arith}
+use mathlib.Core.Path.{_∙_}
+use Rattle.walk.specs.Steps.{settingsOf}
+use Rattle.walk.proofs.Trying.{Calling, sized-on, calls-begin, calls-more, calls-done, calls-end, not-failed}
 use Rattle.walk.proofs.tries.call.Statement.{statement}
 use Rattle.walk.proofs.tries.call.Tie as tie
-use Rattle.walk.proofs.tries.call.Reads as reads
-use Rattle.walk.proofs.tries.call.Lts as lts
-use Rattle.walk.proofs.tries.try_once.Reads as try-once-reads
 
 abbrev Inv-loop : tie.InvT-loop
 Inv-loop tables terms numbers begun before s assignment₀ tallies₀ marks₀ used₀ made₀ left₀ assignment tallies marks used made left =
-    ?
+    Calling (settingsOf s) tables terms numbers begun before (record { assignment = assignment₀; tallies = tallies₀; marks = marks₀ }) used made left
+    (record { assignment = assignment; tallies = tallies; marks = marks })
 
 abbrev μ-loop : tie.MeasureT-loop
-μ-loop tables terms numbers begun before s assignment₀ tallies₀ marks₀ used₀ made₀ left₀ assignment tallies marks used made left =
-    ?
+μ-loop tables terms numbers begun before s assignment₀ tallies₀ marks₀ used₀ made₀ left₀ assignment tallies marks used made left = left
 
--- src/tries.rt:114:5
 loop-holds : tie.Need-loop-holds Inv-loop μ-loop
-loop-holds c = ?
+loop-holds c = let at = c .before .before .before .before .before .before in calls-begin _ (at .pre .0) (at .pre .1) (at .pre .2)
 
--- src/tries.rt:115:13
 try-once-requires : tie.Need-try-once-requires Inv-loop μ-loop
-try-once-requires c κs = ?
+try-once-requires c κs =
+    let l = c .before .before .before .before in (l .loop .inv .startable, l .loop .inv .within, l .loop .inv .flipped)
 
--- src/tries.rt:126:27
-enum-known-t : tie.Need-enum-known-t Inv-loop μ-loop
-enum-known-t c = ?
-
--- src/tries.rt:127:13
-same-length : tie.Need-same-length Inv-loop μ-loop
-same-length c = ?
-
--- src/tries.rt:127:13
-same-length-2 : tie.Need-same-length-2 Inv-loop μ-loop
-same-length-2 c = ?
-
--- src/tries.rt:127:13
-same-length-3 : tie.Need-same-length-3 Inv-loop μ-loop
-same-length-3 c = ?
-
--- src/tries.rt:127:13
 returns : tie.Need-returns Inv-loop μ-loop
-returns c = ?
+returns c =
+    let t = c .before .before .before .before .before .before .before in
+    let l = t .before .before .before .before .before in
+    calls-done (l .loop .inv) (omega (arith, t .before .before .before .before .loop-test .taken)) _ (not-failed _ (c .match .keys2)) (t .try-once .ensures)
 
--- src/tries.rt:131:9
 sub-left : tie.Need-sub-left Inv-loop μ-loop
-sub-left c = ?
+sub-left c =
+    let t = c .before .before .before .before .before .before .before .before .before in
+    omega (arith, t .before .before .before .before .loop-test .taken)
 
--- src/tries.rt:114:5
 loop-less : tie.Need-loop-less Inv-loop μ-loop
-loop-less c = ?
+loop-less c =
+    let t = c .before .before .before .before .before .before .before .before .before in
+    omega (arith, t .before .before .before .before .loop-test .taken)
 
--- src/tries.rt:114:5
 loop-again : tie.Need-loop-again Inv-loop μ-loop
-loop-again c = ?
+loop-again c =
+    let a = c .before .before .before .before .before .before .before .before in
+    let t = a .before in
+    let l = t .before .before .before .before .before in
+    calls-more (l .loop .inv) (omega (arith, t .before .before .before .before .loop-test .taken)) _ (c .before .t .given .1) (t .try-once .ensures)
+    (record { assignment = a .assignment .given; tallies = c .before .before .before .before .before .before .tallies .given; marks = c .before .before .before .before .marks .given })
 
--- src/tries.rt:97:1
-same-length-4 : tie.Need-same-length-4 Inv-loop μ-loop
-same-length-4 c = ?
+same-length : tie.Need-same-length Inv-loop μ-loop
+same-length c = c .before .before .before .before .before .before .assignment .given ∙ c .before .before .before .before .before .before .before .before .before .before .before .before .loop .inv .sized .assignment
 
--- src/tries.rt:97:1
-same-length-5 : tie.Need-same-length-5 Inv-loop μ-loop
-same-length-5 c = ?
-
--- src/tries.rt:97:1
-same-length-6 : tie.Need-same-length-6 Inv-loop μ-loop
-same-length-6 c = ?
-
--- src/tries.rt:97:1
 returns-2 : tie.Need-returns-2 Inv-loop μ-loop
-returns-2 c = ?
+returns-2 c = calls-end (c .before .loop .inv) (omega (arith, c .loop-test .left))
 
 pub call-spec : {M : Type 1} → statement M
 call-spec =
@@ -76,15 +61,15 @@ call-spec =
     μ-loop
     loop-holds
     try-once-requires
-    enum-known-t
+    (λ c. search needs)
     same-length
-    same-length-2
-    same-length-3
+    (λ c. search needs)
+    (λ c. search needs)
     returns
     sub-left
     loop-less
     loop-again
-    same-length-4
-    same-length-5
-    same-length-6
+    (λ c. search needs)
+    (λ c. search needs)
+    (λ c. search needs)
     returns-2)

@@ -1,60 +1,59 @@
+-- `try_once` meets its contract, by whether numbers enough are left for the start.
+-- Assumes nothing.
 use borrow.Author.Needs.{needs}
+use native.Mathlib.Omega.{arith}
+use mathlib.Core.Path.{refl}
+use Rattle.tallies.proofs.Laid.{tables-long, variables-word}
+use Rattle.walk.proofs.Trying.{started-uses, started-ready, started-walking, tried-once, no-start}
 use Rattle.walk.proofs.tries.try_once.Statement.{statement}
 use Rattle.walk.proofs.tries.try_once.Tie as tie
-use Rattle.walk.proofs.tries.try_once.Reads as reads
-use Rattle.walk.proofs.tries.try_once.Lts as lts
-use Rattle.numbers.proofs.start.Reads as start-reads
-use Rattle.tallies.proofs.open.open_core.Reads as open-core-reads
-use Rattle.walk.proofs.tries.make_flips.Reads as make-flips-reads
-use Rattle.words.proofs.index.Reads as index-reads
 
--- src/tries.rt:78:9
 index-requires : tie.Need-index-requires
-index-requires c κs = ?
+index-requires c κs =
+    let at = c .before .before .before .before .before .before in omega (arith, tables-long _ _ (at .pre .0 .ready .laid))
 
--- src/tries.rt:79:33
 start-requires : tie.Need-start-requires
-start-requires c κs = ?
+start-requires c κs =
+    let at = c .before .before .before .before .before .before .before .before in
+    (at .pre .1, omega (arith, c .before .index .ensures, variables-word _ _ (at .pre .0 .ready .laid), at .pre .0 .ready .bytes))
 
--- src/tries.rt:79:24
-enum-known-after : tie.Need-enum-known-after
-enum-known-after c = search needs
-
--- src/tries.rt:80:9
-enum-told : tie.Need-enum-told
-enum-told c = search needs
-
--- src/tries.rt:80:9
-same-length : tie.Need-same-length
-same-length c = search needs
-
--- src/tries.rt:80:9
 returns : tie.Need-returns
-returns c = ?
+returns c =
+    let b = c .before .before .before .before in
+    let i = b .before .before in
+    let at = i .before .before .before .before .before .before .before in
+    no-start _ (at .pre .0) (at .pre .2) (i .index .ensures) (b .start .ensures) _ (at .pre .1) (c .enum-told .given .1) refl refl refl
 
--- src/tries.rt:82:5
 open-core-requires : tie.Need-open-core-requires
-open-core-requires c κs = search needs
+open-core-requires c κs =
+    let t = c .before .before .before in
+    let b = t .before .before .before .before in
+    let i = b .before .before in
+    let at = i .before .before .before .before .before .before .before in
+    (started-ready _ (at .pre .0) (at .pre .2) (i .index .ensures) (b .start .ensures) (t .after .given .1) (t .before .before .before .assignment .given), at .pre .0 .room)
 
--- src/tries.rt:83:5
 make-flips-requires : tie.Need-make-flips-requires
-make-flips-requires c κs = ?
+make-flips-requires c κs =
+    let o = c .before .before .before .before .before in
+    let t = o .before .before .before .before in
+    let b = t .before .before .before .before in
+    let i = b .before .before in
+    let at = i .before .before .before .before .before .before .before in
+    let u = started-uses _ (at .pre .0) (at .pre .2) (i .index .ensures) (b .start .ensures) (t .after .given .1) in (
+      started-walking _ (at .pre .0) (at .pre .2) (i .index .ensures) (b .start .ensures) (t .after .given .1) (t .before .before .before .assignment .given) (o .open-core .ensures),
+      u .1,
+      u .2,
+    )
 
--- src/tries.rt:64:1
-same-length-2 : tie.Need-same-length-2
-same-length-2 c = search needs
-
--- src/tries.rt:64:1
-same-length-3 : tie.Need-same-length-3
-same-length-3 c = search needs
-
--- src/tries.rt:64:1
-same-length-4 : tie.Need-same-length-4
-same-length-4 c = search needs
-
--- src/tries.rt:64:1
 returns-2 : tie.Need-returns-2
-returns-2 c = ?
+returns-2 c =
+    let g = c .before .before .before .before .before .before in
+    let o = g .before .before .before .before .before .before in
+    let t = o .before .before .before .before in
+    let b = t .before .before .before .before in
+    let i = b .before .before in
+    let at = i .before .before .before .before .before .before .before in
+    tried-once _ (at .pre .0) (at .pre .2) (i .index .ensures) (b .start .ensures) (t .after .given .1) (t .before .before .before .assignment .given) (o .open-core .ensures) _ (g .make-flips .ensures)
 
 pub try-once-spec : {M : Type 1} → statement M
 try-once-spec =
@@ -62,13 +61,13 @@ try-once-spec =
     (tie.spec
     index-requires
     start-requires
-    enum-known-after
-    enum-told
-    same-length
+    (λ c. search needs)
+    (λ c. search needs)
+    (λ c. search needs)
     returns
     open-core-requires
     make-flips-requires
-    same-length-2
-    same-length-3
-    same-length-4
+    (λ c. search needs)
+    (λ c. search needs)
+    (λ c. search needs)
     returns-2)

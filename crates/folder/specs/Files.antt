@@ -1,0 +1,44 @@
+-- walk.bin and numbers.bin as definitions: from any list of bytes to the settings, or the refusal's number with its offset
+-- (document 01, "The program and its two lines").
+-- Assumes nothing.
+use Prim.Native.Nat.{ℕ, _+_, _%_}
+use mathlib.Core.Bool.{not, cond}
+use mathlib.Core.List.{List}
+use lib.Dec.{ltb, eqb}
+use lib.ListN.{length}
+use Rattle.words.specs.Words.{numAt}
+use Rattle.format.specs.File.{Reading, refused, accepted, refuse, tagAt, lengthAt}
+use Rattle.walk.specs.Calls.{Asked, settingsRefusal}
+use Rattle.folder.specs.declared.files.Walked.{Walked}
+use Rattle.folder.specs.declared.files.Walked.the-variants.{Settings, Refused}
+
+-- "one field, tag 16, length 9: noise 2 bytes, tries 2, flips 4, mode 1"
+unfoldable pub askedIn : List ℕ → Asked
+askedIn s = record { noise = numAt 2 s 3; tries = numAt 2 s 5; flips = numAt 4 s 7; mode = numAt 1 s 11 }
+
+-- "In a field: 1 for the head, 2, 3, 1 for the body": the number of the first condition met, 0 for none.
+unfoldable pub walkFault : List ℕ → ℕ
+walkFault s =
+    refuse (ltb (length s) 3) 1
+    (refuse (not (eqb (tagAt s 0) 16)) 2
+    (refuse (not (eqb (lengthAt s 0) 9)) 3
+    (refuse (ltb (length s) (3 + lengthAt s 0)) 1 0)))
+
+-- ".. then 11 to 14." "Offset is 0 for 8, 9 and 11 to 14."
+unfoldable pub judged : Asked → Reading Asked
+judged k = cond (ltb 0 (settingsRefusal k)) (refused (settingsRefusal k) 0) (accepted k)
+
+-- "walk.bin meets 1, 2, 3 and 7 with offsets as a plan does": 7 has the offset of the first byte after the field.
+unfoldable pub readWalk : List ℕ → Reading Asked
+readWalk s =
+    cond (ltb 0 (walkFault s)) (refused (walkFault s) 0)
+    (cond (ltb 12 (length s)) (refused 7 12) (judged (askedIn s)))
+
+-- What a reading comes to.
+unfoldable pub walked : Reading Asked → Walked
+walked (refused number offset) = Refused number offset
+walked (accepted k) = Settings (k .noise) (k .tries) (k .flips) (k .mode)
+
+-- "Numbers.bin: 8 when its length is no multiple of 4."
+unfoldable pub numbersRefusal : List ℕ → ℕ
+numbersRefusal s = refuse (not (eqb (length s % 4) 0)) 8 0

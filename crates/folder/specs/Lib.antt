@@ -1,0 +1,3 @@
+-- What the program reads from its folder, and what it prints.
+pub mod Files
+pub mod Text

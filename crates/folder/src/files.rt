@@ -1,0 +1,87 @@
+// walk.bin and numbers.bin judged.
+ghost use mathlib.Core.Path.{_≡_};
+ghost use Rattle.folder.specs.Files.{walkFault, judged, readWalk, walked, numbersRefusal};
+use walk::lent::settings_refusal;
+use walk::tries::Settings;
+
+// The settings, or the refusal's number and offset.
+pub enum Walked {
+    Settings {
+        noise: u32,
+        tries: u32,
+        flips: u32,
+        mode: u32,
+    },
+    Refused(u32, usize),
+}
+
+// "In a field: 1 for the head, 2, 3, 1 for the body"
+fn head_fault(file: &[u8]) -> u32
+    ensures { λ r. ⌜ r ≡ walkFault (now (file .entry)) ⌝ }
+{
+    if file.len() < 3 {
+        return 1;
+    }
+    if file[0] != 16 {
+        return 2;
+    }
+    if words::read_size(file, 1) != 9 {
+        return 3;
+    }
+    if file.len() < 12 {
+        return 1;
+    }
+    0
+}
+
+fn judge_settings(noise: u32, tries: u32, flips: u32, mode: u32) -> Walked
+    ensures { λ r. ⌜ r ≡ walked (judged (record { noise = noise; tries = tries; flips = flips; mode = mode })) ⌝ }
+{
+    let fault = settings_refusal(Settings {
+        noise,
+        tries,
+        flips,
+        mode,
+    });
+    if fault != 0 {
+        return Walked::Refused(fault, 0);
+    }
+    Walked::Settings {
+        noise,
+        tries,
+        flips,
+        mode,
+    }
+}
+
+fn byte_word(b: u8) -> u32
+    ensures { λ r. ⌜ r ≡ b ⌝ }
+{
+    b as u32
+}
+
+// What walk.bin comes to.
+pub fn judge_walk(file: &[u8]) -> Walked
+    ensures { λ r. ⌜ r ≡ walked (readWalk (now (file .entry))) ⌝ }
+{
+    let head = head_fault(file);
+    if head != 0 {
+        return Walked::Refused(head, 0);
+    }
+    if 12 < file.len() {
+        return Walked::Refused(7, 12);
+    }
+    judge_settings(
+        words::read_u16(file, 3),
+        words::read_u16(file, 5),
+        words::read_u32(file, 7),
+        byte_word(file[11]),
+    )
+}
+
+// "Numbers.bin: 8 when its length is no multiple of 4." 0 where nothing is refused.
+pub fn judge_numbers(file: &[u8]) -> u32
+    ensures { λ r. ⌜ r ≡ numbersRefusal (now (file .entry)) ⌝ }
+{
+    if file.len() % 4 == 0 { 0 } else { 8 }
+}

@@ -1,0 +1,278 @@
+-- Laws of the tightening: tables with the added clause, what a call under its bound comes to, and what tightening from a find comes to, step by step.
+-- Assumes nothing.
+use Prim.Native.Nat.{ℕ, _+_, _-_, _≤_}
+use native.Mathlib.Omega.{arith}
+use mathlib.Core.Path.{_≡_, refl, sym, ap, _∙_, subst}
+use mathlib.Core.List.{List, [], _∷_, _++_, map}
+use lib.Dec.{T, leb, eqb}
+use lib.IntN.{ℤ, natAbs}
+use lib.ListN.{length, take, drop, length-append, length-take}
+use lib.Seq.{take-at, drop-at}
+use mir.Facts.{toZ-ofZ}
+use mir.Syntax.{w64}
+use mir.Val.{toZ, ofZ, SFits}
+use Rattle.plpb.specs.Lists.{all}
+use Rattle.plpb.specs.Plan.{absent, present, Clause, Plan, Assignment, satisfies, cost}
+use Rattle.plpb.specs.Walk.{ends, run}
+use Rattle.plpb.specs.Search.{Settings, Reached, reached, call, tightened}
+use Rattle.plpb.proofs.Walks.{at}
+use Rattle.words.specs.Words.{wordBytes, wordAt}
+use Rattle.words.proofs.Words.{length-wordBytes}
+use Rattle.format.specs.Limits.{lawful, roomy}
+use Rattle.format.specs.Tables.{planOfTables, tableWords, tableSize}
+use Rattle.format.proofs.Lawful.{lawful-roomy, roomy-parts}
+use Rattle.format.proofs.ReadBack.{read-back}
+use Rattle.format.proofs.Sections.{length-tableWords}
+use Rattle.counting.proofs.Signed.{small-fits}
+use Rattle.objective.specs.Added.{rebound}
+use Rattle.objective.specs.Sums.{Summable, costIn, bits}
+use Rattle.objective.proofs.Costs.{table-room, variables-in, summable, cost-in, cost-size}
+use Rattle.objective.proofs.TightenedTables.{roomy-tightened, rebound-rules, rebound-bytes, rebound-holds, rebound-back}
+use Rattle.tallies.specs.Layout.{bitsOf, areBits}
+use Rattle.tallies.specs.Core.{Laid}
+use Rattle.tallies.proofs.Callers.{held-laid}
+use Rattle.numbers.specs.Numbers.{numbersOf}
+use Rattle.walk.specs.declared.tries.Tried.{Tried}
+use Rattle.walk.specs.declared.tries.Tried.the-variants as tried
+use Rattle.walk.specs.declared.tightening.Stand.{Stand}
+use Rattle.walk.specs.declared.tightening.Called.the-variants as called
+use Rattle.walk.specs.Steps.{Work, Startable, Beyond, triedOf, usedBy, flipsBy, IfReached, Finds, Tries}
+use Rattle.walk.specs.Bounds.{untightened, basis, Bounded, Stands, Room, Leaves, calledOf, standIn, FindOr, CallsUnder}
+
+-- ---- a plan with an added clause, and without it
+
+pub without-added : (p : Plan) (m : ℤ) → untightened (tightened p m) ≡ p
+unfolding untightened tightened
+without-added p m =
+    let c : List Clause = (record { lower = absent; upper = present m; terms = p .objective } ∷ []) ∷ [] in
+    let e : take (length (p .clauses ++ c) - 1) (p .clauses ++ c) ≡ p .clauses = take-at (p .clauses) c (length (p .clauses ++ c) - 1) (omega (arith, length-append (p .clauses) c)) in
+    λ j. record { variables = p .variables; objective = p .objective; clauses = e j }
+
+same-variables : (p : Plan) (m : ℤ) → tightened p m .variables ≡ p .variables
+unfolding tightened
+same-variables p m = refl
+
+same-cost : (p : Plan) (m : ℤ) (a : Assignment) → cost (tightened p m) a ≡ cost p a
+unfolding tightened cost
+same-cost p m a = refl
+
+-- ---- the tables that hold it
+
+module _ {p : Plan} {tables terms : List ℕ} (b : Bounded p tables terms) where
+  bounded-room : T (roomy (tightened p (b .bound)))
+  bounded-room = roomy-tightened p (b .lawful) (b .some) (b .bound) (b .within)
+
+  bounded-back : planOfTables tables terms ≡ tightened p (b .bound)
+  bounded-back = read-back (tightened p (b .bound)) tables terms bounded-room (b .holds)
+
+  pub bounded-basis : basis tables terms ≡ p
+  unfolding basis
+  bounded-basis = ap untightened bounded-back ∙ without-added p (b .bound)
+
+  pub bounded-laid : Laid tables terms
+  bounded-laid = held-laid (tightened p (b .bound)) tables terms bounded-room (b .holds)
+
+  pub bounded-variables : planOfTables tables terms .variables ≡ p .variables
+  bounded-variables = ap (λ q. q .variables) bounded-back ∙ same-variables p (b .bound)
+
+  pub bounded-word : wordAt tables 0 ≡ p .variables
+  bounded-word = variables-in (tightened p (b .bound)) tables terms bounded-room (b .holds) ∙ same-variables p (b .bound)
+
+  pub bounded-summable : Summable tables
+  bounded-summable = summable (tightened p (b .bound)) tables terms bounded-room (b .holds)
+
+  pub bounded-cost : (a : Assignment) → costIn tables a ≡ cost p a
+  bounded-cost a = cost-in (tightened p (b .bound)) tables terms bounded-room (b .holds) a ∙ same-cost p (b .bound) a
+
+  pub bounded-long : tableSize ≤ length tables
+  bounded-long = table-room (tightened p (b .bound)) tables terms bounded-room (b .holds)
+
+  pub bounded-rules : wordAt tables 2 ≤ 1_025
+  bounded-rules = rebound-rules p (b .lawful) (b .some) (b .bound) (b .bound) (b .within) (b .within) tables terms (b .holds)
+
+  module _ (m : ℤ) (within : natAbs m ≤ 1_000_000_000) where
+    pub rebounded : Bounded p (rebound m tables) terms
+    rebounded =
+        record {
+          lawful = b .lawful;
+          some = b .some;
+          bound = m;
+          within = within;
+          holds = rebound-holds p (b .lawful) (b .some) (b .bound) m (b .within) within tables terms (b .holds);
+        }
+
+    pub rebound-beyond : drop tableSize (rebound m tables) ≡ drop tableSize tables
+    rebound-beyond =
+        let l = roomy-parts (tightened p m) (roomy-tightened p (b .lawful) (b .some) m within) in
+        let n = length-wordBytes (tableWords (tightened p m)) in
+        ap (drop tableSize) (rebound-bytes p (b .lawful) (b .some) (b .bound) m (b .within) within tables terms (b .holds))
+        ∙ drop-at (wordBytes (tableWords (tightened p m))) (drop tableSize tables) tableSize (omega (arith, n, length-tableWords (tightened p m) l))
+
+-- The cost of a find is small.
+module _ {p : Plan} {tables terms : List ℕ} (b : Bounded p tables terms) where
+  pub cost-small : {numbers assignment : List ℕ} {t : Stand} → Stands p numbers assignment t → natAbs (t .cost) ≤ 512_000_000
+  cost-small {assignment = assignment} st = rw (st .costs) (cost-size p (lawful-roomy p (b .lawful)) (bitsOf (p .variables) assignment))
+
+  pub cost-fits : {numbers assignment : List ℕ} {t : Stand} → Stands p numbers assignment t → SFits w64 (t .cost)
+  cost-fits {t = t} st = small-fits (t .cost) (omega (arith, cost-small st))
+
+-- ---- a find copied over the one before
+
+module _ (n : ℕ) (x y : List ℕ) (h : n ≤ length x) where
+  front : take n (take n x ++ drop n y) ≡ take n x
+  front = take-at (take n x) (drop n y) n (omega (arith, length-take n x))
+
+  front-bits : bitsOf n (take n x ++ drop n y) ≡ bitsOf n x
+  unfolding bitsOf
+  front-bits = ap (map (λ b. eqb b 1)) front
+
+  front-areBits : areBits n (take n x ++ drop n y) ≡ areBits n x
+  unfolding areBits
+  front-areBits = ap (all (λ b. leb b 1)) front
+
+  front-beyond : drop n (take n x ++ drop n y) ≡ drop n y
+  front-beyond = drop-at (take n x) (drop n y) n (omega (arith, length-take n x))
+
+same-bits : (n : ℕ) (x : List ℕ) → bits n x ≡ bitsOf n x
+unfolding bitsOf
+same-bits n x = refl
+
+-- ---- a call under a bound
+
+abbrev pub TriesUnder : Settings → List ℕ → List ℕ → List ℕ → Stand → Work → Work → Tried → Type 0
+TriesUnder s tables terms numbers from w v r = Tries (call s (planOfTables tables terms)) tables terms numbers (from .used) (from .flips) (from .used + 1) r w v
+
+module _ {p : Plan} {tables terms assignment : List ℕ} {w : Work} (room : Room p tables terms assignment w) (m : ℤ) (within : natAbs m ≤ 1_000_000_000)
+    {after : List ℕ} (told : after ≡ rebound (toZ w64 (ofZ w64 m)) tables)
+  where
+    e : after ≡ rebound m tables
+    e = told ∙ ap (λ k. rebound k tables) (toZ-ofZ (small-fits m (omega arith)))
+
+    pub under-bounded : Bounded p after terms
+    under-bounded = rw e (rebounded (room .bounded) m within)
+
+    under-back : planOfTables after terms ≡ tightened p m
+    under-back =
+        let b = room .bounded in
+        ap (λ s. planOfTables s terms) e ∙ rebound-back p (b .lawful) (b .some) (b .bound) m (b .within) within tables terms (b .holds)
+
+    pub under-startable : Startable after terms w
+    under-startable =
+        let l = bounded-laid under-bounded in
+        let n = bounded-variables under-bounded in
+        record {
+          ready = record { laid = l; bytes = omega (arith, n, room .tried) };
+          room = room .tallies;
+          marks = record { laid = l; bytes = omega (arith, n, room .marks) };
+        }
+
+    module _ (s : Settings) {numbers : List ℕ} {from : Stand} (st : Stands p numbers assignment from) {v : Work} where
+      under-outcome : {r : Tried} → TriesUnder s after terms numbers from w v r → (fs : List Assignment)
+          → run (call s (tightened p m)) (numbersOf numbers) (at (from .used) (from .flips) fs) ≡ triedOf r (bitsOf (p .variables) (v .assignment)) fs
+      unfolding tightened
+      under-outcome {r} t fs =
+          subst (λ q. run (call s q) (numbersOf numbers) (at (from .used) (from .flips) fs) ≡ triedOf r (bitsOf (q .variables) (v .assignment)) fs) under-back (t .outcome fs)
+
+      under-beyond : {r : Tried} → TriesUnder s after terms numbers from w v r → Beyond (p .variables) w v
+      under-beyond t = rw (← bounded-variables under-bounded) (t .beyond)
+
+      still-leaves : {r : Tried} → TriesUnder s after terms numbers from w v r → Leaves p tables terms after assignment assignment w v
+      still-leaves t =
+          record { bounded = under-bounded; table = ap (drop tableSize) e ∙ rebound-beyond (room .bounded) m within; find = refl; beyond = under-beyond t }
+
+      module _ {r : Tried} {u f : ℕ} where
+        -- A find.
+        module _ (k : r ≡ tried.Reached u f) (t : TriesUnder s after terms numbers from w v r) (long : p .variables ≤ length (v .assignment)) {z : ℤ} {exit : List ℕ}
+            (c : z ≡ costIn after (bits (wordAt after 0) (v .assignment)))
+            (x : exit ≡ take (wordAt after 0) (v .assignment) ++ drop (wordAt after 0) assignment)
+          where
+            reached-by : TriesUnder s after terms numbers from w v (tried.Reached u f)
+            reached-by = subst (TriesUnder s after terms numbers from w v) k t
+
+            reached-finds : Finds after terms (from .used + 1) u v
+            unfolding IfReached usedBy
+            reached-finds = reached-by .finds
+
+            exit-is : exit ≡ take (p .variables) (v .assignment) ++ drop (p .variables) assignment
+            exit-is = x ∙ ap (λ n. take n (v .assignment) ++ drop n assignment) (bounded-word under-bounded)
+
+            exit-bits : bitsOf (p .variables) exit ≡ bitsOf (p .variables) (v .assignment)
+            exit-bits = ap (bitsOf (p .variables)) exit-is ∙ front-bits (p .variables) (v .assignment) assignment long
+
+            exit-areBits : T (areBits (p .variables) exit)
+            exit-areBits =
+                rw (exit-is, front-areBits (p .variables) (v .assignment) assignment long) (rw (bounded-variables under-bounded) at (reached-finds .bits))
+
+            exit-costs : z ≡ cost p (bitsOf (p .variables) exit)
+            exit-costs = c ∙ bounded-cost under-bounded _ ∙ ap (cost p) (bits-of ∙ sym exit-bits)
+              where
+                bits-of : bits (wordAt after 0) (v .assignment) ≡ bitsOf (p .variables) (v .assignment)
+                bits-of = ap (λ n. bits n (v .assignment)) (bounded-word under-bounded) ∙ same-bits (p .variables) (v .assignment)
+
+            exit-satisfies : T (satisfies (bitsOf (tightened p m .variables) exit) (tightened p m))
+            exit-satisfies =
+                let g : T (satisfies (bitsOf (tightened p m .variables) (v .assignment)) (tightened p m)) =
+                subst (λ q. T (satisfies (bitsOf (q .variables) (v .assignment)) q)) under-back (reached-finds .satisfied) in
+                subst (λ a. T (satisfies a (tightened p m))) (sym (rw (← same-variables p m) at exit-bits)) g
+
+            pub called-found :
+                CallsUnder s p m numbers from (called.Found (record { cost = z; finds = from .finds + 1; flips = f; used = u })) assignment exit
+                × Leaves p tables terms after assignment exit w v
+            unfolding triedOf calledOf standIn FindOr usedBy flipsBy
+            called-found = (
+              record {
+                outcome = λ fs. under-outcome reached-by fs ∙ ap (λ a. ends (reached a) (at u f fs)) (sym exit-bits);
+                find = (refl, exit-satisfies);
+                stands = record {
+                  bits = exit-areBits;
+                  costs = exit-costs;
+                  finds = omega (arith, st .finds, reached-finds .uses);
+                  flips = reached-by .flipped;
+                  within = reached-by .within;
+                };
+              },
+              record {
+                bounded = under-bounded;
+                table = ap (drop tableSize) e ∙ rebound-beyond (room .bounded) m within;
+                find = ap (drop (p .variables)) exit-is ∙ front-beyond (p .variables) (v .assignment) assignment long;
+                beyond = under-beyond t;
+              },
+            )
+
+        -- None.
+        module _ (t : TriesUnder s after terms numbers from w v r) where
+          still-stands : usedBy r ≡ u → flipsBy r ≡ f → Stands p numbers assignment (record { cost = toZ w64 (ofZ w64 (from .cost)); finds = from .finds; flips = f; used = u })
+          still-stands k l =
+              record {
+                bits = st .bits;
+                costs = toZ-ofZ (cost-fits (room .bounded) st) ∙ st .costs;
+                finds = omega (arith, st .finds, t .uses);
+                flips = omega (arith, t .flipped);
+                within = omega (arith, t .within);
+              }
+
+          pub called-failed : r ≡ tried.Failed u f →
+              CallsUnder s p m numbers from (called.Failed (record { cost = toZ w64 (ofZ w64 (from .cost)); finds = from .finds; flips = f; used = u })) assignment assignment
+              × Leaves p tables terms after assignment assignment w v
+          unfolding triedOf calledOf standIn FindOr usedBy flipsBy
+          called-failed k = (
+            record {
+              outcome = λ fs. under-outcome t fs ∙ ap (λ q. triedOf q (bitsOf (p .variables) (v .assignment)) fs) k;
+              find = (refl, refl);
+              stands = still-stands (ap usedBy k) (ap flipsBy k);
+            },
+            still-leaves t,
+          )
+
+          pub called-short : r ≡ tried.Short u f →
+              CallsUnder s p m numbers from (called.Short (record { cost = toZ w64 (ofZ w64 (from .cost)); finds = from .finds; flips = f; used = u })) assignment assignment
+              × Leaves p tables terms after assignment assignment w v
+          unfolding triedOf calledOf standIn FindOr usedBy flipsBy
+          called-short k = (
+            record {
+              outcome = λ fs. under-outcome t fs ∙ ap (λ q. triedOf q (bitsOf (p .variables) (v .assignment)) fs) k;
+              find = (refl, refl);
+              stands = still-stands (ap usedBy k) (ap flipsBy k);
+            },
+            still-leaves t,
+          )

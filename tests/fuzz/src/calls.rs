@@ -1,0 +1,134 @@
+//! Opening, flip and counts on any tables, assignment and tallies.
+
+use crate::making;
+use harness::guarded::Guarded;
+use harness::layout::{self, ASSIGNMENT, TABLES, TALLIES, TERM_TABLE};
+use harness::planner::{counts, flip, open};
+use reference::book::{Answer, Book, Call};
+use reference::plan::Plan;
+use reference::random::{self, Random};
+use reference::tallies::Tallies;
+
+const SIZES: [usize; 4] = [TABLES, TERM_TABLE, ASSIGNMENT, TALLIES];
+
+/// The plan and its bits where opening accepts them; else the first condition met in the order 21, 22, 24.
+fn opened(lent: &[Guarded; 4]) -> Result<(Plan, Vec<bool>), u32> {
+    let [tables, terms, assignment, _] = lent;
+    if lent
+        .iter()
+        .zip(SIZES)
+        .any(|(buffer, size)| buffer.bytes().len() < size)
+    {
+        return Err(21);
+    }
+    let plan = layout::loaded(tables.bytes(), terms.bytes()).ok_or(22_u32)?;
+    let bits = &assignment.bytes()[..plan.variables];
+    if bits.iter().any(|&byte| byte > 1) {
+        return Err(24);
+    }
+    let bits = bits.iter().map(|&byte| byte == 1).collect();
+    Ok((plan, bits))
+}
+
+/// What the book answers to a call where 25 is not met: refusal, break count, make count.
+fn booked(lent: &[Guarded; 4], call: Call) -> Result<(Plan, Vec<bool>, [u32; 2]), u32> {
+    let (plan, bits) = opened(lent)?;
+    if lent[3].bytes()[..TALLIES] != layout::tallies(&Tallies::fresh(&plan, &bits)) {
+        return Err(25);
+    }
+    let mut book = Book::open(&plan, &bits);
+    let counted = match book.call(call) {
+        Answer::Refused(refusal) => return Err(refusal),
+        Answer::Flipped => [0, 0],
+        Answer::Counts {
+            break_count,
+            make_count,
+        } => [break_count, make_count],
+    };
+    let bits = book.bits().to_vec();
+    Ok((plan, bits, counted))
+}
+
+/// Writes an assignment and its tallies into what is lent.
+fn write(lent: &mut [Guarded; 4], plan: &Plan, bits: &[bool]) {
+    lent[2].lend()[..bits.len()].copy_from_slice(&layout::bits(bits));
+    lent[3].lend()[..TALLIES].copy_from_slice(&layout::tallies(&Tallies::fresh(plan, bits)));
+}
+
+/// The tallies' sections begin here: sums of rules, clauses, the total.
+const TALLY_SECTIONS: [usize; 3] = [0, 4_100, 6_152];
+
+/// What is lent: the tables of a plan, an assignment and its tallies, each at times spoiled.
+fn lent(random: &mut Random, plan: &Plan) -> [Guarded; 4] {
+    let (tables, terms) = making::tables(random, plan);
+    let bits = random.assignment(plan.variables);
+    let mut assignment = layout::bits(&bits);
+    let mut tallies = layout::tallies(&Tallies::fresh(plan, &bits));
+    match random.below(12) {
+        0 => assignment[random.below(plan.variables)] = random.number() as u8,
+        1 => assignment[random.below(plan.variables)] ^= 1,
+        2 => assignment.clear(),
+        3 => making::spoil(random, &mut tallies, &TALLY_SECTIONS),
+        4 => tallies.clear(),
+        _ => {}
+    }
+    let held = [tables, terms, assignment, tallies];
+    let mut place = 0;
+    held.map(|bytes| {
+        let length = making::length(random, SIZES[place]);
+        place += 1;
+        Guarded::sized(random, &bytes, length)
+    })
+}
+
+/// One call by its name; the refusal that it gave.
+pub fn case(random: &mut Random, name: &str) -> u32 {
+    let plan = making::plan(random);
+    let mut lent = lent(random, &plan);
+    let variable = match random::call(random, plan.variables) {
+        Call::Flip(variable) | Call::Counts(variable) => variable,
+    };
+    let mut wanted = lent.clone();
+    let mut refusal = 0;
+    let mut counted = [0, 0];
+    if name == "open" {
+        match opened(&lent) {
+            Ok((plan, bits)) => write(&mut wanted, &plan, &bits),
+            Err(number) => refusal = number,
+        }
+    } else {
+        let call = match name {
+            "flip" => Call::Flip(variable),
+            _ => Call::Counts(variable),
+        };
+        match booked(&lent, call) {
+            Ok((plan, bits, both)) => {
+                write(&mut wanted, &plan, &bits);
+                counted = both;
+            }
+            Err(number) => refusal = number,
+        }
+    }
+    let [tables, terms, assignment, tallies] = &mut lent;
+    let (tables, terms) = (tables.bytes(), terms.bytes());
+    let answer = match name {
+        "open" => (
+            open(tables, terms, assignment.bytes(), tallies.lend()),
+            [0, 0],
+        ),
+        "flip" => {
+            let refusal = flip(tables, terms, assignment.lend(), tallies.lend(), variable);
+            (refusal, [0, 0])
+        }
+        _ => {
+            let answer = counts(tables, terms, assignment.bytes(), tallies.bytes(), variable);
+            (answer.refusal, [answer.break_count, answer.make_count])
+        }
+    };
+    assert_eq!(answer, (refusal, counted), "{name} of {variable}");
+    assert!(
+        lent == wanted,
+        "{name} of {variable} left other bytes: {refusal}"
+    );
+    refusal
+}

@@ -1,0 +1,76 @@
+//! How often each call gave each refusal, and each search its ending.
+
+use crate::CALLS;
+use std::collections::BTreeMap;
+use std::fmt;
+
+pub struct Figures {
+    refusals: [BTreeMap<u32, u64>; CALLS.len()],
+    endings: [u64; 6],
+}
+
+/// By the numbers of the C interface.
+const ENDINGS: [&str; 6] = [
+    "refused",
+    "floor",
+    "ended",
+    "none",
+    "short-found",
+    "short-none",
+];
+
+impl Figures {
+    pub fn new() -> Figures {
+        Figures {
+            refusals: Default::default(),
+            endings: [0; 6],
+        }
+    }
+
+    pub fn count(&mut self, call: usize, refusal: u32) {
+        *self.refusals[call].entry(refusal).or_default() += 1;
+    }
+
+    pub fn end(&mut self, ending: u32) {
+        self.endings[ending as usize] += 1;
+    }
+
+    /// How often a call gave a refusal, or 0 for none.
+    pub fn met(&self, call: &str, refusal: u32) -> u64 {
+        let call = CALLS.iter().position(|&name| name == call).unwrap();
+        self.refusals[call].get(&refusal).copied().unwrap_or(0)
+    }
+
+    /// How often a search came to an ending.
+    pub fn ended(&self, ending: &str) -> u64 {
+        let ending = ENDINGS.iter().position(|&name| name == ending).unwrap();
+        self.endings[ending]
+    }
+}
+
+impl Default for Figures {
+    fn default() -> Figures {
+        Figures::new()
+    }
+}
+
+impl fmt::Display for Figures {
+    fn fmt(&self, f: &mut fmt::Formatter) -> fmt::Result {
+        for (call, refusals) in CALLS.iter().zip(&self.refusals) {
+            let total: u64 = refusals.values().sum();
+            write!(f, "{call:7}{total:9} calls:")?;
+            for (refusal, count) in refusals {
+                match refusal {
+                    0 => write!(f, " accepted: {count}")?,
+                    refusal => write!(f, " {refusal}: {count}")?,
+                }
+            }
+            writeln!(f)?;
+        }
+        write!(f, "endings of searches:")?;
+        for (name, count) in ENDINGS.iter().zip(self.endings) {
+            write!(f, " {name}: {count}")?;
+        }
+        writeln!(f)
+    }
+}

@@ -1,0 +1,23 @@
+//! A short run with a fixed seed, in which everything comes up.
+
+#[test]
+fn a_short_run() {
+    let figures = fuzz::run(2026, |number| number < 40_000);
+    let calls: [(&str, &[u32]); 5] = [
+        ("load", &[0, 1, 2, 3, 4, 5, 6, 7, 21]),
+        ("open", &[0, 21, 22, 24]),
+        ("flip", &[0, 21, 22, 23, 24, 25]),
+        ("counts", &[0, 21, 22, 23, 24, 25]),
+        ("search", &[0, 11, 12, 13, 14, 21, 22]),
+    ];
+    for (call, refusals) in calls {
+        for &refusal in refusals {
+            let met = figures.met(call, refusal);
+            assert!(met > 0, "{call} never gave {refusal}");
+        }
+    }
+    for ending in ["floor", "ended", "none", "short-found", "short-none"] {
+        let met = figures.ended(ending);
+        assert!(met > 0, "no search came to {ending}");
+    }
+}

@@ -1,0 +1,328 @@
+//! The search against the reference: answers, every byte of every buffer, refusals in their order.
+
+use harness::layout::{self, TABLES, TERM_TABLE};
+use harness::planner::Searched;
+use harness::searching::{refused, Lent, SIZES};
+use reference::file::{parse, parse_settings, write_numbers};
+use reference::plan::Plan;
+use reference::random::{self, Random};
+use reference::walk::{Settings, LBS, LINEAR};
+
+/// Searches on noisy buffers and compares all with the reference.
+fn check(random: &mut Random, plan: &Plan, settings: &Settings, numbers: &[u8]) -> Searched {
+    Lent::new(random, plan, numbers).check(settings)
+}
+
+/// Settings under which a search often ends within a hundred numbers.
+fn short_settings(random: &mut Random) -> Settings {
+    let mut settings = random::settings(random);
+    settings.tries = 1 + settings.tries % 3;
+    settings.flips = 1 + settings.flips % 12;
+    settings
+}
+
+fn list(random: &mut Random, count: usize) -> Vec<u8> {
+    write_numbers(&random.numbers(count))
+}
+
+/// "n = 2, objective 1·x1 + 2·x2, one clause x1 + x2 ≥ 1; noise 500, tries 1, flips 1, mode 1; numbers 2 1 0 5 900 3 0 5 100 0": `ended 1 2 2 10`
+/// and `10`.
+#[test]
+fn the_example_of_document_01() {
+    let mut random = Random::new(41);
+    let plan = parse(include_bytes!("../../../examples/two-sites/plan.bin")).unwrap();
+    let settings = parse_settings(include_bytes!("../../../examples/two-sites/walk.bin")).unwrap();
+    let numbers = include_bytes!("../../../examples/two-sites/numbers.bin");
+    assert_eq!(
+        numbers[..],
+        write_numbers(&[2, 1, 0, 5, 900, 3, 0, 5, 100, 0])
+    );
+    let mut lent = Lent::new(&mut random, &plan, numbers);
+    let before = lent.clone();
+    let wanted = Searched {
+        refusal: 0,
+        ending: 2,
+        cost: 1,
+        finds: 2,
+        flips: 2,
+        used: 10,
+    };
+    assert_eq!(lent.search(&settings), wanted);
+    assert_eq!(lent.assignment.bytes()[..2], [1, 0]);
+    assert_eq!(lent.assignment.bytes()[2..], before.assignment.bytes()[2..]);
+    // Each cut of the list, within a number too.
+    for length in 0..=numbers.len() {
+        check(&mut random, &plan, &settings, &numbers[..length]);
+    }
+}
+
+#[test]
+fn the_race_day_example() {
+    let mut random = Random::new(42);
+    let plan = parse(include_bytes!("../../../examples/race-day/plan.bin")).unwrap();
+    let settings = parse_settings(include_bytes!("../../../examples/race-day/walk.bin")).unwrap();
+    let numbers = include_bytes!("../../../examples/race-day/numbers.bin");
+    let expected = include_str!("../../../examples/race-day/expected.txt");
+    let answer = check(&mut random, &plan, &settings, numbers);
+    let Searched {
+        cost,
+        finds,
+        flips,
+        used,
+        ..
+    } = answer;
+    let line = format!("ended {cost} {finds} {flips} {used}");
+    assert_eq!(Some(line.as_str()), expected.lines().next());
+    for length in (0..numbers.len()).step_by(1_237) {
+        check(&mut random, &plan, &settings, &numbers[..length]);
+    }
+}
+
+/// A list on which a search ends, and every start of it: it runs short at every place there is.
+#[test]
+fn running_short_at_every_place() {
+    let mut random = Random::new(43);
+    let (mut whole, mut met) = (0, [0; 6]);
+    while whole < 150 {
+        let plan = match random.below(4) {
+            0 => random::small_plan(&mut random),
+            1 => random::race_plan(&mut random),
+            _ => random::small_met_plan(&mut random),
+        };
+        let settings = short_settings(&mut random);
+        let numbers = list(&mut random, 120);
+        let answer = Lent::new(&mut random, &plan, &numbers).wanted(&settings).0;
+        if answer.ending > 3 || answer.used < 8 {
+            continue;
+        }
+        for used in 0..=answer.used + 1 {
+            // At times some bytes of the next number.
+            let cut = 4 * used + [0, random.below(4)][random.below(2)];
+            let part = check(&mut random, &plan, &settings, &numbers[..cut]);
+            assert!(part.ending > 3 || used >= answer.used);
+            met[part.ending as usize] += 1;
+        }
+        whole += 1;
+    }
+    assert!(met[1..].iter().all(|&count| count > 20), "{met:?}");
+}
+
+#[test]
+fn random_small_plans() {
+    let mut random = Random::new(44);
+    let mut met = [0; 6];
+    for round in 0..6_000 {
+        let plan = match round % 3 {
+            0 => random::small_plan(&mut random),
+            _ => random::small_met_plan(&mut random),
+        };
+        let settings = match round % 2 {
+            0 => random::settings(&mut random),
+            _ => short_settings(&mut random),
+        };
+        let count = random.below(250);
+        let mut numbers = list(&mut random, count);
+        numbers.truncate(numbers.len().saturating_sub(random.below(4)));
+        let answer = check(&mut random, &plan, &settings, &numbers);
+        met[answer.ending as usize] += 1;
+    }
+    assert!(met[1..].iter().all(|&count| count > 100), "{met:?}");
+}
+
+/// Counts on both sides of the cap.
+#[test]
+fn heavy_plans() {
+    let mut random = Random::new(45);
+    for _ in 0..1_000 {
+        let plan = random::heavy_plan(&mut random);
+        let settings = random::settings(&mut random);
+        let numbers = list(&mut random, 100);
+        check(&mut random, &plan, &settings, &numbers);
+    }
+}
+
+#[test]
+fn race_size_plans() {
+    let mut random = Random::new(46);
+    let mut finds = 0;
+    for round in 0..24 {
+        let plan = random::race_plan(&mut random);
+        let settings = Settings {
+            noise: [500, 0, 1_000, 50][round % 4],
+            tries: 1 + random.number() % 10,
+            flips: 1 + random.number() % 1_000,
+            mode: [LINEAR, LBS][round % 2],
+        };
+        let numbers = list(&mut random, 4_000);
+        finds += check(&mut random, &plan, &settings, &numbers).finds;
+    }
+    assert!(finds > 40, "{finds}");
+}
+
+#[test]
+fn the_full_limits() {
+    let mut random = Random::new(47);
+    let mut finds = 0;
+    for mode in [LINEAR, LBS, LINEAR, LBS] {
+        let plan = random::full_plan(&mut random);
+        let numbers = list(&mut random, 2_500);
+        let settings = Settings {
+            noise: 800,
+            tries: 3,
+            flips: 1_000,
+            mode,
+        };
+        finds += check(&mut random, &plan, &settings, &numbers).finds;
+    }
+    assert!(finds > 0);
+}
+
+/// One buffer one byte short, or empty: 21, whatever else is wrong. The list of numbers may have any length.
+#[test]
+fn each_buffer_one_byte_short() {
+    let mut random = Random::new(48);
+    let plan = random::race_plan(&mut random);
+    let (tables, terms) = layout::tables(&plan);
+    let good = short_settings(&mut random);
+    let bad = Settings {
+        noise: 1_001,
+        tries: 0,
+        flips: 0,
+        mode: 2,
+    };
+    let numbers = list(&mut random, 50);
+    for place in 0..SIZES.len() {
+        for length in [SIZES[place] - 1, 0] {
+            for settings in [good, bad] {
+                for spoil in [0, 0x80] {
+                    let mut lengths = SIZES;
+                    lengths[place] = length;
+                    let mut tables = tables.clone();
+                    tables[0] ^= spoil;
+                    let lent = Lent::sized(&mut random, &tables, &terms, &numbers, lengths);
+                    assert_eq!(lent.check(&settings), refused(21), "buffer {place}");
+                }
+            }
+        }
+    }
+    for length in 0..9 {
+        let answer = check(&mut random, &plan, &good, &numbers[..length]);
+        assert_eq!(answer.refusal, 0);
+    }
+}
+
+/// A single changed bit of good tables: 22, or a search of the plan that another file leaves.
+#[test]
+fn single_bits_of_tables() {
+    let mut random = Random::new(49);
+    let mut met = [0; 2];
+    for _ in 0..3_000 {
+        let plan = random::race_plan(&mut random);
+        let (mut tables, mut terms) = layout::tables(&plan);
+        // Half of the changes are made among the words in use.
+        let (in_tables, in_terms) = (16 + 4 * plan.variables, 8 * plan.clauses.len());
+        let place = match random.below(4) {
+            0 => random.below(in_tables),
+            1 => TABLES + random.below(in_terms),
+            _ => random.below(TABLES + TERM_TABLE),
+        };
+        let change = 1 << random.below(8);
+        match place.checked_sub(TABLES) {
+            None => tables[place] ^= change,
+            Some(place) => terms[place] ^= change,
+        }
+        let settings = short_settings(&mut random);
+        let numbers = list(&mut random, 20);
+        let lent = Lent::sized(&mut random, &tables, &terms, &numbers, SIZES);
+        let refusal = lent.check(&settings).refusal;
+        met[(refusal == 22) as usize] += 1;
+    }
+    assert!(met.iter().all(|&count| count > 300), "{met:?}");
+}
+
+#[test]
+fn settings_at_their_edges() {
+    let mut random = Random::new(50);
+    let plan = random::small_met_plan(&mut random);
+    let numbers = list(&mut random, 100);
+    let good = Settings {
+        noise: 500,
+        tries: 2,
+        flips: 20,
+        mode: LBS,
+    };
+    type Set = fn(&mut Settings, u32);
+    let cases: [(u32, Set, &[u32], &[u32]); 4] = [
+        (
+            11,
+            |s, n| s.noise = n,
+            &[0, 1_000],
+            &[1_001, 65_536, u32::MAX],
+        ),
+        (
+            12,
+            |s, n| s.tries = n,
+            &[1, 1_000],
+            &[0, 1_001, 65_537, u32::MAX],
+        ),
+        (
+            13,
+            |s, n| s.flips = n,
+            &[1, 1_000_000],
+            &[0, 1_000_001, u32::MAX],
+        ),
+        (14, |s, n| s.mode = n, &[0, 1], &[2, 256, 257, u32::MAX]),
+    ];
+    for (number, set, inside, outside) in cases {
+        for &value in inside.iter().chain(outside) {
+            let mut settings = good;
+            set(&mut settings, value);
+            let refusal = check(&mut random, &plan, &settings, &numbers).refusal;
+            let wanted = if inside.contains(&value) { 0 } else { number };
+            assert_eq!(refusal, wanted, "{settings:?}");
+        }
+    }
+}
+
+/// Every set of conditions at once: the first in the order 21, 22, 11, 12, 13, 14 is answered, and no byte changes.
+#[test]
+fn refusals_in_their_order() {
+    let mut random = Random::new(51);
+    for set in 0..64_u32 {
+        let plan = random::race_plan(&mut random);
+        let (mut tables, terms) = layout::tables(&plan);
+        let mut settings = short_settings(&mut random);
+        let mut lengths = SIZES;
+        let conditions = [21, 22, 11, 12, 13, 14];
+        let met = |number| set >> conditions.iter().position(|&c| c == number).unwrap() & 1 == 1;
+        if met(21) {
+            lengths[random.below(SIZES.len())] -= 1;
+        }
+        if met(22) {
+            tables[4 + random.below(12)] ^= 0x80;
+        }
+        if met(11) {
+            settings.noise = 1_001;
+        }
+        if met(12) {
+            settings.tries = 1_001;
+        }
+        if met(13) {
+            settings.flips = 0;
+        }
+        if met(14) {
+            settings.mode = 2;
+        }
+        let numbers = list(&mut random, 30);
+        let mut lent = Lent::sized(&mut random, &tables, &terms, &numbers, lengths);
+        let before = lent.clone();
+        let answer = lent.search(&settings);
+        match conditions.into_iter().find(|&number| met(number)) {
+            Some(number) => {
+                assert_eq!(answer, refused(number));
+                assert!(lent == before, "a refused search ({number}) changed a byte");
+            }
+            None => assert_eq!(answer.refusal, 0),
+        }
+    }
+}
