@@ -3,17 +3,16 @@
 use Prim.Native.Nat.{ℕ, zero, suc, _≤_, _<_}
 use native.Mathlib.Omega.{arith}
 use mathlib.Core.Path.{_≡_, refl, sym, _∙_}
-use mathlib.Core.Bool.{Bool, true, false, not}
+use mathlib.Core.Bool.{Bool, true, false}
 use mathlib.Core.List.{List}
-use lib.Dec.{T, ltb, eqb, eqb·suc-zero}
+use lib.Dec.{ltb, eqb·suc-zero}
 use lib.IntN.{pos}
 use lib.ListN.{length}
 use borrow.Author.Tests.{ltb-false, not-false, lt-ltb, le-ltb, lt-leb, le-leb}
 use Rattle.plpb.specs.Lists.{_and_, _or_}
 use Rattle.plpb.proofs.Lists.{T-true}
 use Rattle.format.specs.File.{refuse}
-use Rattle.format.specs.Tables.{tableSize, termSize, isLoaded}
-use Rattle.tallies.specs.Layout.{assignmentSize, tallySize}
+use Rattle.format.specs.Tables.{isLoaded}
 use Rattle.walk.specs.Calls.{Asked, Lent, tooSmall, settingsRefusal, searchRefusal, searchAssignment, cleared, unless, Searches, hasPlan, HandsOut}
 use Rattle.walk.specs.Steps.{Work}
 use Rattle.walk.specs.Whole.{tablesSmall, workSmall, Searchable}

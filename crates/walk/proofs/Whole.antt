@@ -1,12 +1,12 @@
 -- Laws of the whole search: the copied tables hold the plan, the first call decides, and from a first find the tightening goes on; what is handed out satisfies the plan.
 -- Assumes nothing.
-use Prim.Native.Nat.{ℕ, zero, suc, _+_, _-_, _/_, _≤_, _<_}
+use Prim.Native.Nat.{ℕ, zero, suc, _+_, _-_, _≤_, _<_}
 use native.Mathlib.Omega.{arith}
 use mathlib.Core.Path.{_≡_, refl, sym, ap, ap₂, _∙_, subst}
-use mathlib.Core.Bool.{Bool, true, false, cond}
+use mathlib.Core.Bool.{true, false}
 use mathlib.Core.List.{List, [], _∷_, _++_, map}
-use lib.Dec.{T, leb, eqb}
-use lib.IntN.{ℤ, pos, natAbs}
+use lib.Dec.{T, eqb}
+use lib.IntN.{ℤ, natAbs}
 use lib.ListN.{length, take, drop, length-append, replicate}
 use lib.Seq.{length-take-le, take-at, drop-at, drop-drop}
 use lib.Signed.{leZ}
@@ -14,10 +14,10 @@ use mir.Facts.{toZ-ofZ}
 use mir.Syntax.{w64}
 use mir.Val.{toZ, ofZ, SFits}
 use Rattle.plpb.specs.Lists.{_and_, _or_, all, isEmpty}
-use Rattle.plpb.specs.Plan.{absent, present, Clause, Plan, Assignment, satisfies, cost, floorCost}
+use Rattle.plpb.specs.Plan.{Plan, Assignment, satisfies, cost, floorCost}
 use Rattle.plpb.specs.Walk.{Mark, ends, short, run}
-use Rattle.plpb.specs.Search.{Mode, linear, lbs, Settings, Reached, failed, reached, call, tightened, Ending, floor, ended, none, short-found, short-none, atFloor, gap, tighten, searchWalk, lastFind, costOf, Answer, answerOf as answered, conclude, begin, search}
-use Rattle.plpb.specs.Sound.{findsOf, noPlan, Sound}
+use Rattle.plpb.specs.Search.{Mode, linear, lbs, Settings, Reached, failed, reached, call, tightened, Ending, floor, ended, none, short-found, short-none, atFloor, gap, tighten, searchWalk, lastFind, costOf, answerOf as answered, conclude, begin, search}
+use Rattle.plpb.specs.Sound.{findsOf, noPlan}
 use Rattle.plpb.proofs.Lists.{and-left}
 use Rattle.plpb.proofs.Walks.{at}
 use Rattle.plpb.proofs.Costs.{floor-below}
@@ -33,9 +33,9 @@ use Rattle.format.proofs.ReadBack.{read-back}
 use Rattle.format.proofs.Sections.{length-tableWords, length-termWords}
 use Rattle.objective.specs.Sums.{Summable, costIn, floorIn, bits}
 use Rattle.objective.proofs.Costs.{summable, variables-in, cost-in, floor-in, some-objective}
-use Rattle.objective.proofs.TightenedTables.{copied-hold, roomy-tightened, bound-holds, bound-back}
+use Rattle.objective.proofs.TightenedTables.{copied-hold, roomy-tightened, bound-holds}
 use Rattle.tallies.specs.Layout.{assignmentSize, tallySize, bitsOf, bitBytes, areBits}
-use Rattle.tallies.specs.Core.{Laid, Ready}
+use Rattle.tallies.specs.Core.{Laid}
 use Rattle.tallies.proofs.Bits.{whole-bytes}
 use Rattle.tallies.proofs.Callers.{held-laid}
 use Rattle.numbers.specs.Numbers.{numbersOf}
@@ -43,13 +43,13 @@ use Rattle.numbers.proofs.Runs.{linear-none, linear-floor, lbs-none, lbs-floor,
 use Rattle.walk.specs.declared.tries.Tried.{Tried}
 use Rattle.walk.specs.declared.tries.Tried.the-variants as tried
 use Rattle.walk.specs.declared.tightening.Stand.{Stand}
-use Rattle.walk.specs.declared.tightening.Ending.{Ending as EndingOf}
 use Rattle.walk.specs.declared.tightening.Ending.the-variants as code
 use Rattle.walk.specs.declared.tightening.Searched.{Searched}
 use Rattle.walk.specs.Calls.{Asked, Lent, markSize, searchRefusal, modeOf, settings, answer, withFind, searchAssignment, cleared, endingNumber, unless, Searches, hasPlan, HandsOut}
-use Rattle.walk.specs.Steps.{Work, Startable, Beyond, bitsIn, triedOf, usedBy, flipsBy, IfReached, Finds, Tries}
-use Rattle.walk.specs.Bounds.{untightened, basis, Bounded, Stands, Room, Leaves, answerOf, endingOf, Concludes}
+use Rattle.walk.specs.Steps.{Work, Startable, Beyond, triedOf, usedBy, flipsBy, IfReached, Tries}
+use Rattle.walk.specs.Bounds.{basis, Bounded, Stands, Room, Leaves, answerOf, endingOf, Concludes}
 use Rattle.walk.specs.Whole.{Empty, Roomy, FirstFind, FromFind, Searchable, Whole}
+use Rattle.walk.proofs.Bounds.{bounded-basis}
 use Rattle.walk.proofs.Refusing.{accepted}
 
 -- ---- a find copied out
@@ -90,13 +90,6 @@ unfolding conclude answered lastFind costOf answerOf endingOf
 first-answer p a used flips v e = λ j. record { ending = floor; cost = (sym e) j; finds = 1; flips = flips; used = used; assignment = reached a }
 
 -- ---- from the first find on
-
-without-added : (p : Plan) (m : ℤ) → untightened (tightened p m) ≡ p
-unfolding untightened tightened
-without-added p m =
-    let c : List Clause = (record { lower = absent; upper = present m; terms = p .objective } ∷ []) ∷ [] in
-    let e : take (length (p .clauses ++ c) - 1) (p .clauses ++ c) ≡ p .clauses = take-at (p .clauses) c (length (p .clauses ++ c) - 1) (omega (arith, length-append (p .clauses) c)) in
-    λ j. record { variables = p .variables; objective = p .objective; clauses = e j }
 
 module _ {tables terms numbers : List ℕ} {used flips : ℕ} {assignment : List ℕ} {w : Work} (h : FirstFind tables terms numbers used flips assignment w) where
   abbrev here : Plan
@@ -191,8 +184,7 @@ module _ {tables terms numbers : List ℕ} {used flips : ℕ} {assignment : List
               }
 
           same : basis tables′ terms′ ≡ here
-          unfolding basis
-          same = ap untightened (bound-back here (h .lawful) tables terms (h .holds) some m within tables′ terms′ e g) ∙ without-added here m
+          same = bounded-basis bounded
 
           long : here .variables ≤ length kept
           long =

@@ -8,9 +8,9 @@ use lib.Dec.{T, ltb}
 use lib.IntN.{pos}
 use lib.ListN.{length}
 use Rattle.plpb.specs.Lists.{_or_}
-use Rattle.plpb.specs.Plan.{Plan, Assignment, satisfies}
+use Rattle.plpb.specs.Plan.{Plan, Assignment}
 use Rattle.plpb.specs.Walk.{run}
-use Rattle.plpb.specs.Search.{Settings, reached, gap, tighten, Answer, conclude, search}
+use Rattle.plpb.specs.Search.{Settings, reached, gap, tighten, conclude, search}
 use Rattle.plpb.proofs.Walks.{at}
 use Rattle.format.specs.Limits.{lawful}
 use Rattle.format.specs.Tables.{Holds, planOfTables, tableSize, termSize, isLoaded}

@@ -1,13 +1,10 @@
 // The search: the first call with the plan alone, then the tightening.
 ghost use mathlib.Core.Path.{_≡_};
-ghost use mathlib.Core.List.{[], _∷_, _++_};
+ghost use mathlib.Core.List.{_++_};
 ghost use Prim.Native.Nat.{_≤_, _/_};
-ghost use lib.Dec.{T};
 ghost use lib.ListN.{length, drop, replicate};
-ghost use Rattle.plpb.specs.Search.{search as searching};
 ghost use Rattle.format.specs.Tables.{planOfTables, tableSize, termSize};
 ghost use Rattle.tallies.specs.Layout.{assignmentSize, tallySize};
-ghost use Rattle.numbers.specs.Numbers.{numbersOf};
 ghost use Rattle.walk.specs.Calls.{markSize, endingNumber, Searches, HandsOut};
 ghost use Rattle.walk.specs.Steps.{settingsOf};
 ghost use Rattle.walk.specs.Bounds.{endingOf};

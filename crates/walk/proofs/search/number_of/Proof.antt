@@ -1,7 +1,6 @@
 -- `number_of` meets its contract: each ending has the number that the definition gives it.
 -- Assumes nothing.
 use borrow.Author.Needs.{needs}
-use mathlib.Core.Path.{refl}
 use Rattle.walk.specs.Calls.{endingNumber}
 use Rattle.walk.specs.Bounds.{endingOf}
 use Rattle.walk.proofs.search.number_of.Statement.{statement}

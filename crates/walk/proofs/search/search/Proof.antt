@@ -1,7 +1,7 @@
 -- `search` meets its contract: it is refused as its tests say, or all that the search needs has been tested. Assumes nothing.
 use borrow.Author.Needs.{needs}
 use native.Mathlib.Omega.{arith}
-use mathlib.Core.Path.{_≡_, sym, ap, _∙_}
+use mathlib.Core.Path.{sym, ap, _∙_}
 use mathlib.Core.List.{_++_}
 use lib.ListN.{replicate}
 use mir.Syntax.{w64}
