@@ -122,15 +122,15 @@ module _ (n : ℕ) (x y : List ℕ) (h : n ≤ length x) where
   front : take n (take n x ++ drop n y) ≡ take n x
   front = take-at (take n x) (drop n y) n (omega (arith, length-take n x))
 
-  front-bits : bitsOf n (take n x ++ drop n y) ≡ bitsOf n x
+  pub front-bits : bitsOf n (take n x ++ drop n y) ≡ bitsOf n x
   unfolding bitsOf
   front-bits = ap (map (λ b. eqb b 1)) front
 
-  front-areBits : areBits n (take n x ++ drop n y) ≡ areBits n x
+  pub front-areBits : areBits n (take n x ++ drop n y) ≡ areBits n x
   unfolding areBits
   front-areBits = ap (all (λ b. leb b 1)) front
 
-  front-beyond : drop n (take n x ++ drop n y) ≡ drop n y
+  pub front-beyond : drop n (take n x ++ drop n y) ≡ drop n y
   front-beyond = drop-at (take n x) (drop n y) n (omega (arith, length-take n x))
 
 same-bits : (n : ℕ) (x : List ℕ) → bits n x ≡ bitsOf n x

@@ -49,25 +49,20 @@ use Rattle.walk.specs.Calls.{Asked, Lent, markSize, searchRefusal, modeO
 use Rattle.walk.specs.Steps.{Work, Startable, Beyond, triedOf, usedBy, flipsBy, IfReached, Tries}
 use Rattle.walk.specs.Bounds.{basis, Bounded, Stands, Room, Leaves, answerOf, endingOf, Concludes}
 use Rattle.walk.specs.Whole.{Empty, Roomy, FirstFind, FromFind, Searchable, Whole}
-use Rattle.walk.proofs.Bounds.{bounded-basis}
+use Rattle.walk.proofs.Bounds.{bounded-basis, front-bits, front-areBits, front-beyond}
 use Rattle.walk.proofs.Refusing.{accepted}
 
 -- ---- a find copied out
 
 module _ (n : ℕ) (found entry : List ℕ) (room : n ≤ length found) {exit : List ℕ} (e : exit ≡ take n found ++ drop n entry) where
-  copied-front : take n exit ≡ take n found
-  copied-front = ap (take n) e ∙ take-at (take n found) (drop n entry) n (length-take-le n found room)
-
   copied-bits : bitsOf n exit ≡ bitsOf n found
-  unfolding bitsOf
-  copied-bits = ap (map (λ b. eqb b 1)) copied-front
+  copied-bits = ap (bitsOf n) e ∙ front-bits n found entry room
 
   copied-areBits : T (areBits n found) → T (areBits n exit)
-  unfolding areBits
-  copied-areBits t = rw copied-front t
+  copied-areBits t = rw (e, front-areBits n found entry room) t
 
   copied-beyond : drop n exit ≡ drop n entry
-  copied-beyond = ap (drop n) e ∙ drop-at (take n found) (drop n entry) n (length-take-le n found room)
+  copied-beyond = ap (drop n) e ∙ front-beyond n found entry room
 
 -- The bytes of a find are those of its bits, and what stood behind them.
 find-bytes : (n : ℕ) (entry exit : List ℕ) → T (areBits n exit) → drop n exit ≡ drop n entry → exit ≡ withFind (reached (bitsOf n exit)) n entry
