@@ -1,18 +1,17 @@
 -- What an accepted or refused call comes to: an accepted one has tested all that the cores need, a refused one leaves what it was lent.
 use Prim.Native.Nat.{ℕ, zero, suc, _≤_, _<_}
 use native.Mathlib.Omega.{arith}
-use mathlib.Core.Path.{_≡_, refl, sym, _∙_}
+use mathlib.Core.Path.{_≡_, refl, sym}
 use mathlib.Core.Bool.{true, false, cond}
-use mathlib.Core.List.{List, _++_}
-use lib.Dec.{eqb, eqb·suc-zero}
-use lib.ListN.{length, take, drop}
+use lib.Dec.{eqb·suc-zero}
+use lib.ListN.{length, take}
 use borrow.Author.Tests.{lt-ltb, le-ltb}
 use Rattle.plpb.specs.Lists.{_and_}
 use Rattle.plpb.specs.Plan.{isVariable}
 use Rattle.plpb.specs.Count.{cappedBreak, cappedMake}
 use Rattle.words.specs.Words.{wordAt}
 use Rattle.format.specs.File.{refuse}
-use Rattle.format.specs.Tables.{planOfTables, sameBytes}
+use Rattle.format.specs.Tables.{sameBytes}
 use Rattle.format.proofs.IsLoaded.{isLoaded-tables, same-equal}
 use Rattle.tallies.specs.Layout.{tallySize, bitsOf}
 use Rattle.tallies.specs.Calls.{Lent, plan, freshBytes, openRefusal, openTallies, callRefusal, turned, flipAssignment, flipTallies, countsBreak, countsMake}

@@ -1,10 +1,8 @@
 -- What opening answers, test by test: the first one that fails decides.
 use Prim.Native.Nat.{ℕ, _≤_, _<_}
 use native.Mathlib.Omega.{arith}
-use native.Mathlib.Nat.{le-trans}
-use mathlib.Core.Path.{_≡_, refl, sym, _∙_}
-use mathlib.Core.Bool.{Bool, true, false, not}
-use mathlib.Core.List.{List}
+use mathlib.Core.Path.{_≡_, refl, sym}
+use mathlib.Core.Bool.{true, false, not}
 use lib.Dec.{T, ltb, nltb→le}
 use lib.ListN.{length}
 use borrow.Author.Tests.{lt-ltb, le-ltb}
@@ -12,10 +10,10 @@ use Rattle.plpb.specs.Lists.{_or_}
 use Rattle.plpb.proofs.Lists.{and-left, and-right, not-or, T-true}
 use Rattle.words.specs.Words.{wordAt}
 use Rattle.format.specs.File.{refuse}
-use Rattle.format.specs.Tables.{tableSize, termSize, planOfTables, planIn, isLoaded}
+use Rattle.format.specs.Tables.{planOfTables, planIn, isLoaded}
 use Rattle.format.proofs.Lawful.{plan-parts}
 use Rattle.format.proofs.IsLoaded.{isLoaded-lawful}
-use Rattle.tallies.specs.Layout.{assignmentSize, tallySize, areBits}
+use Rattle.tallies.specs.Layout.{areBits}
 use Rattle.tallies.specs.Calls.{Lent, plan, tooSmall, openRefusal}
 
 module _ (l : Lent) where

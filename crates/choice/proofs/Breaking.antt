@@ -1,16 +1,14 @@
 -- What a caller learns of rules and clauses in tables that hold a plan: the effect of a flip on a rule, rule by rule on a clause, clause by clause on the plan.
 -- Assumes nothing.
-use Prim.Native.Nat.{ℕ, suc, _+_, _*_, _-_, _≤_, _<_}
-use native.Mathlib.Omega.{arith}
-use mathlib.Core.Path.{_≡_, refl, sym, ap, ap₂, _∙_}
+use Prim.Native.Nat.{ℕ, _+_, _*_, _-_, _≤_, _<_}
+use mathlib.Core.Path.{_≡_, sym, ap, _∙_}
 use mathlib.Core.Bool.{Bool, true, false, not}
 use mathlib.Core.List.{List, [], _∷_, map}
 use lib.Dec.{ltb, eqb}
-use lib.ListN.{length, take, length-map}
 use Rattle.plpb.specs.Lists.{_and_, _or_, any, all, row}
-use Rattle.plpb.specs.Plan.{Rule, Clause, Plan, Assignment, names}
+use Rattle.plpb.specs.Plan.{Rule, Clause, Assignment, names}
 use Rattle.plpb.specs.Count.{cappedBreak}
-use Rattle.plpb.specs.Equations.{sharesOf, clauseBreak}
+use Rattle.plpb.specs.Equations.{clauseBreak}
 use Rattle.plpb.specs.Equations.{Shares as SharesOf}
 use Rattle.plpb.proofs.Lists.{true-and, false-and, or-assoc, or-false, not-not}
 use Rattle.words.specs.Words.{wordAt}
@@ -22,7 +20,7 @@ use Rattle.rules.specs.State.{StateOf, sharesFrom}
 use Rattle.rules.proofs.States.{shares-rule}
 use Rattle.rules.proofs.Tables.{table-rule-state}
 use Rattle.tallies.specs.Layout.{bitsOf}
-use Rattle.tallies.specs.Core.{Laid, Ready}
+use Rattle.tallies.specs.Core.{Ready}
 use Rattle.tallies.proofs.Bits.{length-bitsOf}
 use Rattle.tallies.proofs.Along.{along-start, along-step, along-end}
 use Rattle.tallies.proofs.Laid.{rule-lawful, rises}

@@ -4,19 +4,19 @@ use Prim.Native.Nat.{ℕ, zero, suc, _+_, _-_, _/_, _≤_, _<_, min}
 use native.Mathlib.Nat.{eq-or-lt-of-le}
 use native.Mathlib.Decide.{decLe}
 use native.Mathlib.Omega.{arith}
-use mathlib.Core.Path.{_≡_, refl, sym, ap, ap₂, _∙_, subst}
+use mathlib.Core.Path.{_≡_, refl, sym, ap, _∙_}
 use mathlib.Core.Logic.{⊎-elim}
 use mathlib.Core.Bool.{Bool, true, false, not, cond}
 use mathlib.Core.List.{List, [], _∷_, _++_}
 use lib.Dec.{T, ltb, eqb}
 use lib.ListN.{length, getD, drop, List·getD-append}
 use lib.Seq.{drop-at}
-use borrow.Author.Tests.{eq-eqb, ne-eqb, eqb-true, eqb-false}
+use borrow.Author.Tests.{eq-eqb, ne-eqb}
 use Rattle.plpb.specs.Lists.{_or_, keep, any, all, isEmpty, row}
 use Rattle.plpb.specs.Plan.{Term, Rule, Clause, Plan, Assignment, namedIn, names}
 use Rattle.plpb.specs.Count.{cap, cappedBreak}
-use Rattle.plpb.specs.Numbers.{taken, tooFew, takePick}
-use Rattle.plpb.specs.Walk.{Walk, ends, short, run}
+use Rattle.plpb.specs.Numbers.{takePick}
+use Rattle.plpb.specs.Walk.{Walk, ends, run}
 use Rattle.plpb.specs.Choice.{choosable, pickFrom, leastBreak, withBreak, noisyChoice, choice}
 use Rattle.plpb.proofs.Lists.{and-left, and-right, true-or}
 use Rattle.plpb.proofs.Walks.{at}

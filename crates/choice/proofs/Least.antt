@@ -2,18 +2,17 @@
 -- Assumes nothing.
 use Prim.Native.Nat.{ℕ, suc, _+_, _-_, _≤_, _<_, min}
 use native.Mathlib.Nat.{eq-or-lt-of-le}
-use native.Mathlib.Numerals.{add-one, one-add}
 use native.Mathlib.Omega.{arith}
 use mathlib.Core.Path.{_≡_, refl, sym, ap, ap₂, _∙_, subst}
 use mathlib.Core.Logic.{⊎-elim}
-use mathlib.Core.Bool.{Bool, true, false, not, cond}
+use mathlib.Core.Bool.{Bool, true, false, cond}
 use mathlib.Core.List.{List, [], _∷_}
-use lib.Dec.{T, eqb}
+use lib.Dec.{eqb}
 use lib.ListN.{length, getD, set}
-use borrow.Author.Tests.{eq-eqb, ne-eqb, eqb-true, eqb-false}
+use borrow.Author.Tests.{eq-eqb, ne-eqb, eqb-true}
 use Rattle.plpb.specs.Lists.{keep, row}
 use Rattle.plpb.specs.Plan.{Plan, Assignment}
-use Rattle.plpb.specs.Count.{cap, capped, cappedBreak}
+use Rattle.plpb.specs.Count.{cap, cappedBreak}
 use Rattle.plpb.specs.Choice.{leastBreak}
 use Rattle.plpb.specs.Expansion.{breakCount}
 use Rattle.plpb.proofs.Capped.{capped-le-cap}

@@ -1,10 +1,10 @@
 -- Laws of marks: a clause's variables are marked term by term and rule by rule, and what stands at each place in the end is whether the clause names its variable.
 -- Assumes nothing.
-use Prim.Native.Nat.{ℕ, zero, suc, _+_, _*_, _-_, _≤_, _<_}
+use Prim.Native.Nat.{ℕ, suc, _+_, _*_, _-_, _≤_, _<_}
 use native.Mathlib.Numerals.{one-add}
 use native.Mathlib.Omega.{arith}
 use mathlib.Core.Path.{_≡_, refl, sym, ap, ap₂, _∙_}
-use mathlib.Core.Bool.{Bool, true, false, not, cond}
+use mathlib.Core.Bool.{Bool, true, false, cond}
 use mathlib.Core.List.{List, [], _∷_, _++_, map}
 use lib.Dec.{T, eqb}
 use lib.ListN.{length, getD, set, take, drop, replicate, length-set, length-map, length-append, length-replicate, getD-replicate, take-append-drop, List·getD-append}

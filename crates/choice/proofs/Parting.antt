@@ -4,14 +4,14 @@ use Prim.Native.Nat.{ℕ, suc, _+_, _-_, _≤_, _<_}
 use native.Mathlib.Nat.{eq-or-lt-of-le}
 use native.Mathlib.Numerals.{add-one}
 use native.Mathlib.Omega.{arith}
-use mathlib.Core.Path.{_≡_, refl, sym, ap, ap₂, _∙_, subst}
+use mathlib.Core.Path.{_≡_, refl, sym, ap₂, _∙_, subst}
 use mathlib.Core.Logic.{⊎-elim}
 use mathlib.Core.Bool.{Bool, true, false, not, cond}
-use mathlib.Core.List.{List, [], _∷_}
-use lib.Dec.{T, eqb}
+use mathlib.Core.List.{List}
+use lib.Dec.{eqb}
 use lib.ListN.{length, getD, set, drop, length-set, length-drop}
 use lib.Seq.{getD-set-same, getD-set-other, getD-drop, ext-getD}
-use borrow.Author.Tests.{eq-eqb, ne-eqb, eqb-true, eqb-false}
+use borrow.Author.Tests.{eq-eqb, ne-eqb}
 use Rattle.plpb.specs.Lists.{_and_, keep, row}
 use Rattle.words.specs.Words.{wordAt}
 use Rattle.format.specs.Tables.{planOfTables}

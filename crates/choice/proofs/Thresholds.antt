@@ -6,11 +6,11 @@ use native.Mathlib.Nat.{zero-add, add-zero, suc-add, le-refl, le-trans, zero-mul
 use native.Mathlib.Numerals.{add-one}
 use native.Mathlib.Omega.{arith}
 use mathlib.Core.Path.{_≡_, refl, sym, ap, ap₂, _∙_}
-use mathlib.Core.Bool.{Bool, true, false, not, cond}
+use mathlib.Core.Bool.{Bool, true, false, not}
 use mathlib.Core.List.{List, [], _∷_}
 use lib.Dec.{T, ltb, leb, eqb}
 use lib.ListN.{length}
-use borrow.Author.Tests.{lt-ltb, le-ltb, le-leb, lt-leb, leb-true, leb-false, ltb-true, ltb-false, eq-eqb, ne-eqb, eqb-true, eqb-false}
+use borrow.Author.Tests.{lt-ltb, le-ltb, leb-true, leb-false, ltb-true, ltb-false, eq-eqb, ne-eqb, eqb-true, eqb-false}
 use Rattle.plpb.specs.Lists.{_and_, _or_, any, all, sumBy}
 use Rattle.plpb.specs.Plan.{Bound, absent, present, Rule, Clause, Plan, Assignment, numbersRise}
 use Rattle.plpb.specs.Equations.{binom, over, Standing, out, on, off, shares, sharesOf, product, clauseBreak, breakSum}

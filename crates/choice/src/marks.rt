@@ -9,7 +9,7 @@ ghost use Rattle.plpb.specs.Choice.{leastBreak};
 ghost use Rattle.words.specs.Words.{wordAt};
 ghost use Rattle.format.specs.Tables.{ruleOf, planOfTables};
 ghost use Rattle.rules.specs.Terms.{termsAt, Readable};
-ghost use Rattle.tallies.specs.Core.{Laid, Ready};
+ghost use Rattle.tallies.specs.Core.{Ready};
 ghost use Rattle.numbers.specs.Finding.{marked};
 ghost use Rattle.choice.specs.Breaks.{lentBits};
 ghost use Rattle.choice.specs.Marks.{markTerms, markRules, clauseMarks, hasBreak, parting, lowering, Written, Parted, LeastSoFar};

@@ -1,16 +1,16 @@
 -- The plan file as a definition: from any list of bytes to the plan, or the refusal's number with the offset of the field's first byte
 -- (document 01, "The plan file" and "Who can cause which refusal").
 -- Assumes nothing.
-use Prim.Native.Nat.{ℕ, zero, suc, _+_, _*_, _-_, _/_, _%_}
-use mathlib.Core.Bool.{Bool, true, false, not, cond}
+use Prim.Native.Nat.{ℕ, zero, suc, _+_, _-_, _/_, _%_}
+use mathlib.Core.Bool.{Bool, false, not, cond}
 use mathlib.Core.List.{List, [], _∷_}
 use lib.Dec.{leb, ltb, eqb}
-use lib.IntN.{ℤ, pos, natAbs}
-use lib.ListN.{length, getD}
-use Rattle.plpb.specs.Lists.{_and_, _or_, all, row}
+use lib.IntN.{ℤ, natAbs}
+use lib.ListN.{length}
+use Rattle.plpb.specs.Lists.{_and_, _or_}
 use Rattle.plpb.specs.Plan.{Bound, absent, present, Term, Rule, Clause, Plan}
 use Rattle.words.specs.Words.{numAt, signed}
-use Rattle.format.specs.Limits.{maxVariables, maxClauses, maxRules, maxTerms, maxBound, weightLawful, termsLawful}
+use Rattle.format.specs.Limits.{maxVariables, maxClauses, maxRules, maxTerms, maxBound, termsLawful}
 
 -- What may stand next: "Order: 01, 02, then clauses, each 03 followed by one or more 04, then 05 as the last bytes."
 pub data Stage : Type 0 where

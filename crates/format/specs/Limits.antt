@@ -1,13 +1,13 @@
 -- The limits of a plan (the owner's demands; document 01, "Who can cause which refusal", 4 to 6) and plans within them.
 -- Assumes nothing.
-use Prim.Native.Nat.{ℕ, suc, _≤_}
+use Prim.Native.Nat.{ℕ}
 use mathlib.Core.Bool.{Bool, true, false, not}
-use mathlib.Core.List.{List, [], _∷_}
-use lib.Dec.{leb, ltb, eqb}
+use mathlib.Core.List.{List}
+use lib.Dec.{leb, ltb}
 use lib.IntN.{ℤ, natAbs}
 use lib.ListN.{length}
 use Rattle.plpb.specs.Lists.{_and_, _or_, all, isEmpty, sumBy}
-use Rattle.plpb.specs.Plan.{Bound, absent, present, Term, Rule, Clause, Plan, rising}
+use Rattle.plpb.specs.Plan.{Bound, absent, present, Term, Rule, Plan, rising}
 use Rattle.plpb.specs.Tallies.{rulesOf}
 
 -- "A plan holds at most 512 yes-or-no variables, 512 clauses, 1,024 rules and 6,000 terms, with weights up to 1,000,000 either way."

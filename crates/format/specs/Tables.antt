@@ -1,6 +1,6 @@
 -- The tables that an accepted loading leaves, in words of 4 bytes (docs/FORMAT.md has the layout with offsets), and the plan read back from them.
 -- Assumes nothing.
-use Prim.Native.Nat.{ℕ, zero, suc, _+_, _*_, _-_}
+use Prim.Native.Nat.{ℕ, _+_, _*_, _-_}
 use mathlib.Core.Path.{_≡_}
 use mathlib.Core.Bool.{Bool, true, false, cond}
 use mathlib.Core.List.{List, [], _∷_, _++_, map}
@@ -9,11 +9,11 @@ use lib.IntN.{ℤ, pos, natAbs}
 use lib.ListN.{length, replicate, take}
 use lib.Pow.{areBytes}
 use Rattle.plpb.specs.Lists.{_and_, concat, keep, row}
-use Rattle.plpb.specs.Plan.{Bound, absent, present, Term, Rule, Clause, Plan}
+use Rattle.plpb.specs.Plan.{Term, Rule, Clause, Plan}
 use Rattle.plpb.specs.Tallies.{rulesOf}
 use Rattle.words.specs.Words.{wordBytes, wordAt, signed, unsigned}
 use Rattle.format.specs.Limits.{termCount, lawful}
-use Rattle.format.specs.File.{Reading, accepted, read, boundOf}
+use Rattle.format.specs.File.{accepted, read, boundOf}
 use Rattle.format.specs.Writer.{mode, boundNumber}
 
 -- The coefficient of a variable in a sum, 0 where it has none.

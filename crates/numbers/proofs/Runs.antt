@@ -14,7 +14,7 @@ use Rattle.plpb.specs.Numbers.{Taken, taken, tooFew, takeWords, takePick, start
 use Rattle.plpb.specs.Walk.{Walk, done, words, pick, flipped, _>>=_, Mark, ends, short, run}
 use Rattle.plpb.specs.Choice.{choosable, pickFrom, leastBreak, withBreak, noisyChoice, choice}
 use Rattle.plpb.specs.Search.{linear, lbs, Settings, Reached, failed, reached, move, flipping, try, orElse, trying, call, tightened, lbsBound, linearBound, Ending, floor, ended, none, atFloor, gap, after, linearSearch, lbsSearch, tighten, searchWalk}
-use Rattle.plpb.proofs.Walks.{at, drawn, turned, noted, resume, run-words, run-pick, onward, run-bind}
+use Rattle.plpb.proofs.Walks.{drawn, turned, noted, resume, run-words, run-pick, onward, run-bind}
 
 -- ---- needs, and one walk after another
 

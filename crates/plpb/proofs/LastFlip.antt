@@ -3,13 +3,13 @@ use Prim.Native.Nat.{ℕ, zero, suc, _≤_, zero-le}
 use native.Mathlib.Omega.{arith}
 use native.Mathlib.Nat.{le-refl}
 use mathlib.Core.Bool.{Bool, true, false, cond}
-use mathlib.Core.List.{List, [], _∷_}
+use mathlib.Core.List.{List, []}
 use lib.ListN.{length}
-use Rattle.plpb.specs.Plan.{Plan, Assignment, flip, satisfies}
+use Rattle.plpb.specs.Plan.{Plan, Assignment, satisfies}
 use Rattle.plpb.specs.Numbers.{Taken, taken, tooFew, takeWords, takePick}
 use Rattle.plpb.specs.Walk.{Walk, done, words, pick, look, flipped, found, _>>=_, looks}
 use Rattle.plpb.specs.Choice.{choice}
-use Rattle.plpb.specs.Search.{Settings, Reached, reached, move, flipping}
+use Rattle.plpb.specs.Search.{Settings, reached, move, flipping}
 use Rattle.plpb.proofs.Walks.{Draws, resumeLooks}
 use Rattle.plpb.proofs.Soundness.{pick-draws, choice-draws}
 

@@ -1,12 +1,12 @@
 -- P, N and K of the normal form are what the signed sum says: raising the bounds by the negative weights raises the sum by as much.
-use Prim.Native.Nat.{ℕ, zero, suc, _+_, _≤_, zero-le}
+use Prim.Native.Nat.{ℕ, suc, _+_, _≤_, zero-le}
 use native.Mathlib.Nat.{zero-add, add-zero}
 use native.Mathlib.Omega.{arith}
 use mathlib.Core.Path.{_≡_, refl, sym, ap, ap₂, _∙_}
 use mathlib.Core.Bool.{Bool, true, false, not, cond}
 use mathlib.Core.List.{List, [], _∷_}
-use lib.Dec.{ltb, leb·zero, leb·suc-zero, leb·suc-suc}
-use lib.IntN.{ℤ, pos, negsuc, negℤ, sucℤ, natAbs, _+ℤ_, _-ℤ_, +ℤ-assoc, +ℤ-comm, +ℤ-idr, +ℤ-invl, +ℤ-one, +ℤ-sucℤ, -ℤ-+ℤ-cancel}
+use lib.Dec.{ltb, leb·suc-zero}
+use lib.IntN.{ℤ, pos, negsuc, negℤ, natAbs, _+ℤ_, _-ℤ_, +ℤ-assoc, +ℤ-comm, +ℤ-invl, +ℤ-one, -ℤ-+ℤ-cancel}
 use lib.Signed.{leZ}
 use Rattle.plpb.specs.Lists.{sumBy}
 use Rattle.plpb.specs.Plan.{Bound, absent, present, mapBound, Term, Rule, Assignment, value, total, atLeast, atMost}

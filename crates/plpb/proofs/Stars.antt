@@ -1,10 +1,9 @@
 -- Every line of the star table holds: by computing the real expansion, and by the proved formula (11) where that has five thousand million clauses.
 -- Assumes nothing.
-use Prim.Native.Nat.{ℕ, zero, suc, _+_, _*_, _-_}
+use Prim.Native.Nat.{ℕ, zero, suc, _-_}
 use native.Mathlib.Omega.{arith}
-use native.Mathlib.Bridge.{le-by-compare, IsLe}
 use mathlib.Core.Path.{_≡_, refl, _∙_}
-use mathlib.Core.List.{List, [], _∷_}
+use mathlib.Core.List.{[], _∷_}
 use Rattle.plpb.specs.Lists.{_and_, _or_, keep, any, all, concat, row, sumBy}
 use Rattle.plpb.specs.Plan.{value, flip, total, atLeast, atMost, ruleHolds, mapBound, rising, risingAbove, numbersRise}
 use Rattle.plpb.specs.Normal.{opposite, literalTrue, isNegative, literal, size, rise, K, P, N, raised, sizeA, sizeB, copies}

@@ -1,7 +1,7 @@
 -- The choice of a variable (document 01, "The walk": "Choice (Algorithm 2, SKC)"; paper 004, Algorithm 2).
 -- Assumes nothing.
-use Prim.Native.Nat.{ℕ, zero, suc, min}
-use mathlib.Core.Bool.{Bool, cond}
+use Prim.Native.Nat.{ℕ, min}
+use mathlib.Core.Bool.{cond}
 use mathlib.Core.List.{List, [], _∷_}
 use lib.Dec.{ltb, eqb}
 use lib.ListN.{length, getD}

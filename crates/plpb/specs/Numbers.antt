@@ -1,6 +1,6 @@
 -- Taking numbers from the list drawn beforehand (document 01, "The walk"). A place in the list is how many numbers are used.
 -- Assumes nothing.
-use Prim.Native.Nat.{ℕ, zero, suc, _+_, _/_, _%_, _^_}
+use Prim.Native.Nat.{ℕ, _+_, _/_, _%_, _^_}
 use mathlib.Core.Bool.{Bool, cond}
 use mathlib.Core.List.{List, map}
 use lib.Dec.{leb, eqb}

@@ -7,10 +7,10 @@ use lib.IntN.{ℤ, pos, negsuc, natAbs, _+ℤ_, _-ℤ_, _*ℤ_}
 use lib.ListN.{length}
 use lib.Signed.{leZ}
 use Rattle.plpb.specs.Lists.{_and_, keep, isEmpty}
-use Rattle.plpb.specs.Plan.{Bound, absent, present, Rule, Plan, Assignment, flip, satisfies, cost, floorCost}
+use Rattle.plpb.specs.Plan.{absent, present, Plan, Assignment, flip, satisfies, cost, floorCost}
 use Rattle.plpb.specs.Tallies.{unsatisfied}
 use Rattle.plpb.specs.Numbers.{startWords, startOf}
-use Rattle.plpb.specs.Walk.{Walk, done, words, look, flipped, found, _>>=_, Mark, Outcome, ends, short, run, looks}
+use Rattle.plpb.specs.Walk.{Walk, done, words, look, flipped, found, _>>=_, Mark, Outcome, ends, short, run}
 use Rattle.plpb.specs.Choice.{pickFrom, choice}
 
 pub data Mode : Type 0 where

@@ -2,13 +2,13 @@
 -- Assumes nothing.
 use Prim.Native.Nat.{ℕ}
 use mathlib.Core.Path.{_≡_}
-use mathlib.Core.Bool.{Bool, true, false}
+use mathlib.Core.Bool.{Bool, false}
 use mathlib.Core.List.{List, [], _∷_, _++_, map}
 use lib.Dec.{eqb}
 use lib.IntN.{ℤ, pos, negsuc}
 use lib.ListN.{length}
 use Rattle.plpb.specs.Lists.{concat, row}
-use Rattle.plpb.specs.Plan.{Bound, absent, present, Term, Rule, Clause, Plan, Assignment, total, ruleHolds}
+use Rattle.plpb.specs.Plan.{absent, present, Term, Rule, Clause, Plan, Assignment, total, ruleHolds}
 use Rattle.plpb.specs.Normal.{K, sizeA}
 use Rattle.plpb.specs.Expansion.{parts, expandClause, breakCount, makeCount}
 use Rattle.plpb.specs.Search.{lbsBound}

@@ -1,9 +1,9 @@
 -- Walks: what is done with numbers as they are asked for, and what a walk comes to over a given list of them.
 -- Assumes nothing.
-use Prim.Native.Nat.{ℕ, zero, suc, _+_}
+use Prim.Native.Nat.{ℕ, _+_}
 use mathlib.Core.List.{List, [], _∷_}
 use Rattle.plpb.specs.Plan.{Assignment}
-use Rattle.plpb.specs.Numbers.{Taken, taken, tooFew, takeWords, takePick}
+use Rattle.plpb.specs.Numbers.{taken, tooFew, takeWords, takePick}
 
 -- A walk is done with a result, or it asks for k numbers, or for a pick among m, or it looks at an assignment, makes a flip or notes a find, and goes on.
 pub data Walk (A : Type 0) : Type 0 where

@@ -1,11 +1,9 @@
 -- The book in `replay`'s contract is that of the file's plan: the tables that hold a plan read back as it. Assumes nothing.
-use Prim.Native.Nat.{ℕ, zero, suc}
+use Prim.Native.Nat.{ℕ, suc}
 use native.Mathlib.Omega.{arith}
-use mathlib.Core.Path.{_≡_, refl, sym, subst}
+use mathlib.Core.Path.{_≡_, subst}
 use mathlib.Core.Bool.{Bool, true, false}
 use mathlib.Core.List.{List}
-use lib.Dec.{ltb}
-use lib.ListN.{length}
 use Rattle.format.specs.File.{refuse}
 use Rattle.format.proofs.Accepted.{accepted-lawful}
 use Rattle.format.proofs.Lawful.{lawful-roomy}

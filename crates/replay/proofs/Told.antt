@@ -6,7 +6,6 @@ use mathlib.Core.List.{List}
 use lib.Dec.{eqb·suc-zero}
 use lib.ListN.{length}
 use borrow.Author.Tests.{lt-ltb, le-ltb}
-use Rattle.plpb.specs.Plan.{Plan, Assignment}
 use Rattle.plpb.specs.Book.{Call}
 use Rattle.words.specs.Writes.{front}
 use Rattle.format.specs.File.{refuse}

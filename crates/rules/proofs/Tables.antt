@@ -6,7 +6,7 @@ use mathlib.Core.Path.{_≡_, refl, ap, _∙_}
 use mathlib.Core.List.{List}
 use lib.Dec.{T}
 use lib.ListN.{length, take}
-use Rattle.plpb.specs.Lists.{_and_, any}
+use Rattle.plpb.specs.Lists.{_and_}
 use Rattle.plpb.specs.Plan.{Rule, Assignment, value, rising}
 use Rattle.plpb.specs.Normal.{rise, K, P, N}
 use Rattle.words.specs.Words.{wordAt}

@@ -6,10 +6,8 @@ use native.Mathlib.Nat.{add-zero}
 use native.Mathlib.Numerals.{one-add}
 use native.Mathlib.Decide.{decLt, ℕ-discrete}
 use mathlib.Core.Path.{_≡_, refl, sym, ap, _∙_}
-use mathlib.Core.Bool.{Bool, true, false, cond}
+use mathlib.Core.Bool.{true}
 use mathlib.Core.List.{List, [], _∷_, map}
-use lib.Dec.{eqb, leb, ltb}
-use lib.IntN.{pos}
 use lib.ListN.{length, getD, set, replicate, length-set, length-replicate, getD-replicate, length-map}
 use lib.Seq.{ext-getD, getD-set-same, getD-set-other}
 use borrow.Author.Tests.{eq-eqb, ne-eqb, leb-true, ltb-true, le-leb}
@@ -19,11 +17,10 @@ use Rattle.words.specs.Words.{numAt, bytesOf, wordBytes, unsigned}
 use Rattle.words.specs.Writes.{put}
 use Rattle.words.proofs.Words.{Below, numAt-lt, length-bytesOf, unsigned-signed}
 use Rattle.words.proofs.Writes.{put-word, wordBytes-zeros, length-put}
-use Rattle.format.specs.Limits.{weightLawful}
 use Rattle.format.specs.File.{read, accepted, lengthAt, termAt, termsAt}
 use Rattle.format.specs.Tables.{coefficient}
 use Rattle.format.proofs.Bools.{and-left, and-right, and-join}
-use Rattle.format.proofs.Lawful.{LawfulPlan, LawfulTerms, termWithin}
+use Rattle.format.proofs.Lawful.{LawfulPlan, termWithin}
 use Rattle.format.proofs.Lists.{length-row}
 use Rattle.format.proofs.Objective.{coefficient-below}
 use Rattle.tables.specs.Places.{firstClause}

@@ -1,9 +1,8 @@
 -- Laws of entries: the words that the code writes for a rule and for terms are those of the definitions.
 -- Assumes nothing.
-use Prim.Native.Nat.{ℕ, zero, suc, _+_, _*_, _-_, _/_, _^_, _≤_, _<_}
+use Prim.Native.Nat.{ℕ, zero, suc, _+_, _*_, _-_, _≤_, _<_}
 use native.Mathlib.Omega.{arith}
 use mathlib.Core.Path.{_≡_, refl, sym, ap, ap₂, _∙_}
-use mathlib.Core.Bool.{true}
 use mathlib.Core.List.{List, [], _∷_, _++_, append-assoc, append-nil}
 use lib.ListN.{length, getD, length-append}
 use borrow.Rule.Slice.PartMut.{midOf, putMid}
@@ -12,8 +11,8 @@ use Rattle.words.specs.Words.{numAt, wordBytes, signed, unsigned}
 use Rattle.words.specs.Writes.{front, put}
 use Rattle.words.proofs.Words.{Below, numAt-lt, unsigned-signed, length-wordBytes}
 use Rattle.words.proofs.Writes.{front-none, front-put, length-front, lent-tail, wordBytes-append}
-use Rattle.format.specs.File.{tagAt, lengthAt, termsIn, termAt, termsAt, fieldTerms, ruleAt, modeAt, lowerAt, upperAt, boundOf}
-use Rattle.format.specs.Writer.{mode, boundNumber}
+use Rattle.format.specs.File.{tagAt, lengthAt, termsIn, termAt, termsAt, fieldTerms, ruleAt, modeAt, lowerAt, upperAt}
+use Rattle.format.specs.Writer.{mode}
 use Rattle.format.specs.Tables.{ruleEntries, termEntries}
 use Rattle.format.proofs.Bounds.{Meant, bounds-tested, bounds-meant}
 use Rattle.format.proofs.Peel.{length-termsAt}

@@ -1,19 +1,19 @@
 -- Laws that join the tests of the code, one after the other, to the definition of a field's fault.
 -- Assumes nothing.
-use Prim.Native.Nat.{ℕ, zero, suc, _+_, _*_, _-_, _/_, _%_, _≤_, _<_}
+use Prim.Native.Nat.{ℕ, suc, _+_, _-_, _/_, _≤_, _<_}
 use native.Mathlib.Omega.{arith}
 use native.Mathlib.Decide.{decLt}
 use mathlib.Core.Path.{_≡_, refl, sym, ap, ap₂, _∙_}
-use mathlib.Core.Bool.{Bool, true, false, not, cond}
+use mathlib.Core.Bool.{Bool, true, false, not}
 use mathlib.Core.List.{List}
 use lib.Dec.{ltb, leb, eqb}
 use lib.IntN.{ℤ}
 use lib.ListN.{length, getD}
-use borrow.Author.Tests.{eq-eqb, ne-eqb, lt-ltb, le-ltb, eqb-true, ltb-false, leb-true, le-leb, lt-leb, not-false}
+use borrow.Author.Tests.{ne-eqb, lt-ltb, le-ltb, eqb-true, ltb-false, leb-true, le-leb, lt-leb, not-false}
 use Rattle.plpb.specs.Lists.{_and_, _or_, all}
 use Rattle.plpb.specs.Plan.{rising, risingAbove}
 use Rattle.words.specs.Words.{numAt, signed}
-use Rattle.format.proofs.Bools.{and-left, and-right}
+use Rattle.format.proofs.Bools.{and-left}
 use Rattle.format.specs.File as File
 use Rattle.format.specs.File.{atClause, afterRule, mayStand, tagAt, lengthAt, lengthLawful, refuse, fault, pastLimits, boundsLawful, lowerAt, upperAt, modeAt, wrongBounds, termsIn, termsAt, fieldTerms}
 use Rattle.format.specs.Limits.{termsLawful}

@@ -4,8 +4,8 @@ use Prim.Native.Nat.{ℕ, zero, suc, _+_, _-_, _≤_, _<_}
 use native.Mathlib.Omega.{arith}
 use mathlib.Core.Path.{_≡_, refl, sym, ap, _∙_}
 use mathlib.Core.Bool.{Bool, true, false}
-use mathlib.Core.List.{List, []}
-use lib.Dec.{leb, ltb, eqb}
+use mathlib.Core.List.{List}
+use lib.Dec.{ltb, eqb}
 use lib.IntN.{ℤ, pos, natAbs}
 use borrow.Author.Tests.{le-leb}
 use Rattle.plpb.specs.Lists.{_and_, _or_, all}

@@ -1,10 +1,10 @@
 -- Laws of the whole tables: the sections side by side, and what loading comes to.
 -- Assumes nothing.
-use Prim.Native.Nat.{ℕ, _+_, _*_, _-_, _≤_, _<_}
+use Prim.Native.Nat.{ℕ, _+_, _-_, _≤_, _<_}
 use native.Mathlib.Omega.{arith}
-use mathlib.Core.Path.{_≡_, refl, sym, ap, ap₂, _∙_, subst}
-use mathlib.Core.Bool.{Bool, true, false, cond}
-use mathlib.Core.List.{List, [], _∷_, _++_, map, append-assoc}
+use mathlib.Core.Path.{_≡_, refl, sym, ap, ap₂, _∙_}
+use mathlib.Core.Bool.{Bool, true, false}
+use mathlib.Core.List.{List, [], _∷_, _++_, append-assoc}
 use lib.Dec.{ltb}
 use lib.ListN.{length, drop, length-append, length-map}
 use borrow.Author.Tests.{lt-ltb, le-ltb}
@@ -12,7 +12,7 @@ use borrow.Rule.Slice.PartMut.{postOf, putMid}
 use Rattle.plpb.specs.Lists.{_or_, row}
 use Rattle.plpb.specs.Plan.{Plan}
 use Rattle.plpb.specs.Tallies.{rulesOf}
-use Rattle.words.specs.Words.{numAt, wordBytes, unsigned}
+use Rattle.words.specs.Words.{wordBytes, unsigned}
 use Rattle.words.specs.Writes.{front, put}
 use Rattle.words.proofs.Words.{length-wordBytes}
 use Rattle.words.proofs.Writes.{front-before, length-front, length-put, lent-part, put-put, wordBytes-append}
@@ -27,7 +27,7 @@ use Rattle.tables.specs.declared.judge.Answer.{Answer}
 use Rattle.tables.specs.declared.judge.Answer.the-variants.{Accepted, Refused}
 use Rattle.tables.specs.Load.{outcome, tooSmall, loading, tablesOf, termsOf, tablesAfter, termsAfter}
 use Rattle.tables.specs.Places.{said}
-use Rattle.tables.specs.Sections.{headWords, objectiveWords, clauseWords, ruleWords}
+use Rattle.tables.specs.Sections.{objectiveWords, clauseWords, ruleWords}
 use Rattle.tables.proofs.Filled.{lawful-file}
 
 -- How long each section is.

@@ -2,9 +2,8 @@
 -- (document 01, "The plan file" and "Who can cause which refusal").
 -- Assumes nothing.
 use Prim.Native.Nat.{ℕ}
-use mathlib.Core.Path.{_≡_}
 use mathlib.Core.Bool.{Bool, cond}
-use mathlib.Core.List.{List, [], _++_}
+use mathlib.Core.List.{List, _++_}
 use lib.Dec.{ltb}
 use lib.ListN.{length, drop}
 use Rattle.plpb.specs.Lists.{_or_}

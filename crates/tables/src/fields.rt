@@ -1,11 +1,9 @@
 // Ways through a file that was judged lawful, from field to field.
 ghost use mathlib.Core.Path.{_≡_};
-ghost use Prim.Native.Nat.{_+_, _≤_, _<_};
-ghost use mathlib.Core.List.{List, []};
+ghost use Prim.Native.Nat.{_+_, _≤_};
 ghost use lib.ListN.{length};
-ghost use Rattle.plpb.specs.Plan.{Rule, Clause};
 ghost use Rattle.format.specs.File.{termsIn, lengthAt};
-ghost use Rattle.tables.specs.Places.{Accepts, Reads, firstClause, behindField, ruleFrom, firstRule, nextRule, Ran};
+ghost use Rattle.tables.specs.Places.{Reads, firstClause, behindField, ruleFrom, firstRule, nextRule, Ran};
 
 // Where the first clause or the end stands: behind the fields 01 and 02.
 pub fn first_clause(file: &[u8]) -> usize

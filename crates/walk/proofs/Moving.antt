@@ -2,24 +2,23 @@
 -- Assumes nothing.
 use Prim.Native.Nat.{ℕ, _+_, _/_, _≤_, _<_}
 use native.Mathlib.Omega.{arith}
-use mathlib.Core.Path.{_≡_, refl, sym, ap, _∙_, subst}
+use mathlib.Core.Path.{_≡_, sym, ap, _∙_, subst}
 use mathlib.Core.Bool.{Bool, true, false, cond, true≢false}
-use mathlib.Core.List.{List, [], _∷_, _++_}
-use lib.Dec.{T}
-use lib.ListN.{length, getD, take, drop}
+use mathlib.Core.List.{List, []}
+use lib.ListN.{length, getD, drop}
 use Rattle.plpb.specs.Lists.{count, keep}
-use Rattle.plpb.specs.Plan.{Clause, Plan, Assignment, flip, ruleHolds}
-use Rattle.plpb.specs.Tallies.{unsatisfied, freshCount}
-use Rattle.plpb.specs.Numbers.{taken, tooFew, takePick}
+use Rattle.plpb.specs.Plan.{Clause, Assignment, flip, ruleHolds}
+use Rattle.plpb.specs.Tallies.{unsatisfied}
+use Rattle.plpb.specs.Numbers.{takePick}
 use Rattle.plpb.specs.Walk.{Walk, ends, short, run}
 use Rattle.plpb.specs.Choice.{pickFrom, choice}
 use Rattle.plpb.specs.Search.{Settings, move}
 use Rattle.plpb.proofs.Walks.{at}
 use Rattle.words.specs.Words.{wordAt}
 use Rattle.format.specs.Tables.{planOfTables}
-use Rattle.tallies.specs.Layout.{tallySize, bitsOf, areBits, tallyBytes}
+use Rattle.tallies.specs.Layout.{tallySize, bitsOf}
 use Rattle.tallies.specs.Calls.{turned}
-use Rattle.tallies.specs.Core.{Ready, Flippable, counted}
+use Rattle.tallies.specs.Core.{Flippable, counted}
 use Rattle.tallies.proofs.Bits.{length-turned, turned-bits, turned-areBits, turned-beyond}
 use Rattle.tallies.proofs.TallyBytes.{roomy-fits, length-fresh, take-fresh, drop-fresh}
 use Rattle.tallies.proofs.Tallied.{fresh-words, clause-word, total-word}
@@ -37,7 +36,7 @@ use Rattle.choice.specs.declared.choose.Chosen.{Chosen}
 use Rattle.choice.specs.declared.choose.Chosen.the-variants as chosen
 use Rattle.choice.specs.Outcome.{outcomeOf, usedBy, Among, Chooses}
 use Rattle.walk.specs.declared.moves.Moved.{Moved}
-use Rattle.walk.specs.Steps.{Work, bitsIn, Walking, Beyond, turning, movedOf, InClause, Moves}
+use Rattle.walk.specs.Steps.{Work, bitsIn, Walking, turning, movedOf, InClause, Moves}
 
 -- ---- a variable of the clause is chosen and flipped
 

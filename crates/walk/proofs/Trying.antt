@@ -1,7 +1,7 @@
 -- Laws of flips, tries and calls: what a loop has come to, and how it ends. Assumes nothing.
 use Prim.Native.Nat.{ℕ, suc, _+_, _-_, _/_, _≤_, _<_}
 use native.Mathlib.Omega.{arith}
-use mathlib.Core.Path.{_≡_, refl, sym, ap, _∙_, subst}
+use mathlib.Core.Path.{_≡_, refl, sym, ap, _∙_}
 use mathlib.Core.Bool.{Bool, true, false, not, cond, true≢false}
 use mathlib.Core.Logic.{_≢_}
 use mathlib.Core.List.{List, [], _∷_, _++_}
@@ -10,16 +10,15 @@ use lib.ListN.{length, take, drop}
 use borrow.Author.Tests.{eq-eqb, ne-eqb}
 use types.Run.{OneOf, miss}
 use denote.Enum.Declared.{tagOf}
-use Rattle.plpb.specs.Lists.{count}
 use Rattle.plpb.specs.Plan.{Plan, Assignment, satisfies}
-use Rattle.plpb.specs.Tallies.{unsatisfied, freshCount}
+use Rattle.plpb.specs.Tallies.{freshCount}
 use Rattle.plpb.specs.Numbers.{Taken, taken, tooFew, takeWords, startWords, startOf}
 use Rattle.plpb.specs.Walk.{ends, short, run}
-use Rattle.plpb.specs.Search.{Settings, failed, reached, move, flipping, try, trying, call}
+use Rattle.plpb.specs.Search.{Settings, flipping, try, trying, call}
 use Rattle.plpb.proofs.Walks.{at}
 use Rattle.words.specs.Words.{wordAt}
 use Rattle.format.specs.Tables.{planOfTables}
-use Rattle.tallies.specs.Layout.{tallySize, bitsOf, bitBytes, areBits}
+use Rattle.tallies.specs.Layout.{tallySize, bitsOf, bitBytes}
 use Rattle.tallies.specs.Core.{Ready, counted}
 use Rattle.tallies.proofs.Bits.{length-bitBytes, drop-bytes, bitsOf-bytes, areBits-bytes}
 use Rattle.tallies.proofs.Laid.{parts, variables-word}
@@ -28,14 +27,14 @@ use Rattle.numbers.specs.declared.Started.{Started}
 use Rattle.numbers.specs.declared.Started.the-variants as started
 use Rattle.numbers.specs.Numbers.{numbersOf}
 use Rattle.numbers.specs.Taking.{Starts}
-use Rattle.numbers.proofs.Taking.{length-numbersOf, length-start, started-taken, started-short, words-use, words-gone}
+use Rattle.numbers.proofs.Taking.{length-numbersOf, length-start, started-taken, started-short, words-use}
 use Rattle.numbers.proofs.Finding.{look-by-count}
 use Rattle.numbers.proofs.Runs.{counted as counted-down, flipping-none, flipping-found, flipping-moved, flipping-short, try-started, try-short, trying-none, trying-next, trying-found, trying-short, run-call}
 use Rattle.walk.specs.declared.moves.Moved.{Moved}
 use Rattle.walk.specs.declared.tries.Tried.{Tried}
 use Rattle.walk.proofs.tries.Tried.{the-type}
 use Rattle.walk.specs.declared.tries.Tried.the-variants as tried
-use Rattle.walk.specs.Steps.{Work, bitsIn, Startable, Walking, Beyond, movedOf, Moves, triedOf, usedBy, flipsBy, IfReached, Finds, Tries}
+use Rattle.walk.specs.Steps.{Work, bitsIn, Startable, Walking, Beyond, movedOf, Moves, triedOf, usedBy, flipsBy, IfReached, Tries}
 use Rattle.walk.proofs.Moving.{unsatisfied-word}
 
 pub beyond-same : (n : ℕ) (w : Work) → Beyond n w w

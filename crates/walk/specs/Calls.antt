@@ -5,10 +5,10 @@ use mathlib.Core.Path.{_≡_}
 use mathlib.Core.Bool.{Bool, not, cond}
 use mathlib.Core.List.{List, _++_}
 use lib.Dec.{T, leb, ltb, eqb}
-use lib.IntN.{ℤ, pos}
+use lib.IntN.{pos}
 use lib.ListN.{length, drop, replicate}
 use Rattle.plpb.specs.Lists.{_and_, _or_}
-use Rattle.plpb.specs.Plan.{Plan, satisfies, cost}
+use Rattle.plpb.specs.Plan.{satisfies, cost}
 use Rattle.plpb.specs.Search.{Mode, linear, lbs, Settings, Reached, failed, reached, Ending, floor, ended, none, short-found, short-none, Answer, search}
 use Rattle.format.specs.File.{refuse}
 use Rattle.format.specs.Tables.{tableSize, termSize, planOfTables, isLoaded}

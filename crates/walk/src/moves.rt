@@ -1,13 +1,9 @@
 // One step of the walk (Algorithm 1, lines 5 to 7): an unsatisfied clause is picked, a variable of it chosen and flipped.
-ghost use mathlib.Core.Path.{_≡_};
-ghost use mathlib.Core.Bool.{true, cond};
-ghost use mathlib.Core.List.{List, []};
-ghost use Prim.Native.Nat.{ℕ, _+_, _/_, _≤_, _<_};
-ghost use lib.ListN.{length, getD};
-ghost use Rattle.plpb.specs.Plan.{Assignment, flip as flipped};
-ghost use Rattle.plpb.specs.Tallies.{unsatisfied, freshCount};
+ghost use mathlib.Core.Bool.{true};
+ghost use Prim.Native.Nat.{_/_, _≤_, _<_};
+ghost use lib.ListN.{length};
+ghost use Rattle.plpb.specs.Tallies.{unsatisfied};
 ghost use Rattle.words.specs.Words.{wordAt};
-ghost use Rattle.format.specs.Tables.{planOfTables};
 ghost use Rattle.walk.specs.Steps.{Walking, Moves, InClause, settingsOf};
 use crate::tries::Settings;
 use choice::choose::Chosen;

@@ -1,7 +1,7 @@
 // The search: the first call with the plan alone, then the tightening.
 ghost use mathlib.Core.Path.{_≡_};
 ghost use mathlib.Core.List.{_++_};
-ghost use Prim.Native.Nat.{_≤_, _/_};
+ghost use Prim.Native.Nat.{_≤_};
 ghost use lib.ListN.{length, drop, replicate};
 ghost use Rattle.format.specs.Tables.{planOfTables, tableSize, termSize};
 ghost use Rattle.tallies.specs.Layout.{assignmentSize, tallySize};

@@ -1,5 +1,4 @@
 // One call of the walk (Algorithm 1): tries, each with its start and its flips.
-ghost use mathlib.Core.Path.{_≡_};
 ghost use Prim.Native.Nat.{_+_, _/_, _≤_};
 ghost use lib.ListN.{length};
 ghost use Rattle.plpb.specs.Search.{flipping, try, call as called};

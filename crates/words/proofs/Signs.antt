@@ -1,18 +1,18 @@
 -- Signed 32-bit numbers as the machine holds them, by their bits: what a test against 0 tells, and what a cast to an unsigned number gives.
 -- Assumes nothing.
-use Prim.Native.Nat.{ℕ, zero, suc, _+_, _-_, _^_, _<_, _≤_}
+use Prim.Native.Nat.{ℕ, zero, suc, _-_, _^_, _<_, _≤_}
 use native.Mathlib.Omega.{arith}
 use native.Mathlib.Nat.{zero-add}
 use mathlib.Core.Path.{_≡_, refl, sym, ap, _∙_, subst}
 use mathlib.Core.Bool.{Bool, true, false, cond}
-use lib.Dec.{T, ltb, lit<}
+use lib.Dec.{T, ltb}
 use lib.IntN.{ℤ, pos, negsuc, natAbs, _-ℤ_}
-use lib.Signed.{mag, ltZ, nonNeg}
+use lib.Signed.{ltZ, nonNeg}
 use mir.Syntax.{w32}
-use mir.Val.{Fits, SFits, toZ, ofZ, sel}
+use mir.Val.{Fits, SFits, toZ, ofZ}
 use mir.Facts.{toZ-ofZ, toZ-pos, toZ-neg}
 use borrow.Author.Tests.{lt-ltb, le-ltb}
-use Rattle.words.specs.Words.{signed, unsigned}
+use Rattle.words.specs.Words.{signed}
 use Rattle.words.specs.Signed.{complement}
 
 -- -1 - z

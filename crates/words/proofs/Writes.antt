@@ -2,12 +2,12 @@
 -- Assumes nothing.
 use Prim.Native.Nat.{ℕ, zero, suc, _+_, _*_, _-_, _/_, _%_, _^_, _≤_, _<_}
 use native.Mathlib.Omega.{arith}
-use native.Mathlib.Nat.{add-zero, add-suc, suc-add, add-assoc, le-of-eq, le-refl}
+use native.Mathlib.Nat.{le-of-eq, le-refl}
 use native.Mathlib.Numerals.{add-one, add-two, add-three}
 use mathlib.Core.Path.{_≡_, refl, sym, ap, ap₂, _∙_}
 use mathlib.Core.List.{List, [], _∷_, _++_, append-assoc, append-nil}
-use lib.ListN.{length, take, drop, getD, set, replicate, length-append, length-take, length-drop, length-replicate, take-append-drop}
-use lib.Seq.{sets, sets-eq, length-sets, take-at, drop-at, drop-drop, drop-append-add, take-append-add, length-take-le, take-take, getD-at, drop-append-le, drop-append-seam, take-append-seam, drop-length, take-all}
+use lib.ListN.{length, take, drop, getD, set, replicate, length-append, length-drop, length-replicate}
+use lib.Seq.{sets, sets-eq, drop-at, drop-drop, length-take-le, drop-append-seam, take-append-seam, drop-length, take-all}
 use borrow.Rule.Slice.PartMut.{midOf, postOf, putMid, post-is, mid-len, same-len-mid}
 use Rattle.words.specs.Words.{numAt, bytesOf, wordBytes}
 use Rattle.words.specs.Writes.{front, put}

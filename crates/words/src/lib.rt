@@ -1,6 +1,6 @@
 // Numbers in byte slices, little-endian: "All numbers are little-endian; coefficients and bounds are signed 32-bit, the rest unsigned."
 ghost use mathlib.Core.Path.{_≡_};
-ghost use Prim.Native.Nat.{ℕ, _+_, _*_, _/_, _%_, _≤_, _<_};
+ghost use Prim.Native.Nat.{_+_, _*_, _/_, _%_, _≤_, _<_};
 ghost use lib.ListN.{length, replicate};
 ghost use lib.IntN.{natAbs};
 ghost use Rattle.words.specs.Words.{numAt, bytesOf, wordAt, signed, unsigned};

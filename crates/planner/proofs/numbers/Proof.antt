@@ -1,6 +1,6 @@
 -- `planner::numbers` meets its contract, case by case. Assumes nothing.
 use borrow.Author.Needs.{needs}
-use mathlib.Core.Path.{_≡_, refl}
+use mathlib.Core.Path.{refl}
 use Rattle.tables.specs.Load.{refusalOf, offsetOf}
 use Rattle.planner.proofs.numbers.Statement.{statement}
 use Rattle.planner.proofs.numbers.Tie as tie

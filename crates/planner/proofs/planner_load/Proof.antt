@@ -1,6 +1,6 @@
 -- `planner::planner_load` meets its contract: what loading promises, its answer in numbers. Assumes nothing.
 use borrow.Author.Needs.{needs}
-use mathlib.Core.Path.{_≡_, _∙_, ap}
+use mathlib.Core.Path.{_∙_, ap}
 use Rattle.tables.specs.Load.{refusalOf, offsetOf}
 use Rattle.planner.proofs.planner_load.Statement.{statement}
 use Rattle.planner.proofs.planner_load.Tie as tie

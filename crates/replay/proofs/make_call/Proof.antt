@@ -1,5 +1,5 @@
 -- `replay::make_call` meets its contract: a flip or a counts call as its kind says. Assumes nothing.
-use mathlib.Core.Path.{_≡_, _∙_}
+use mathlib.Core.Path.{_∙_}
 use borrow.Author.Needs.{needs}
 use Rattle.replay.proofs.Made.{flip-made, counts-made}
 use Rattle.replay.proofs.make_call.Statement.{statement}

@@ -1,8 +1,7 @@
 -- `replay::replay` meets its contract: it is refused before a byte is changed, or the book tells what the calls after opening leave.
 -- Assumes nothing.
 use native.Mathlib.Omega.{arith}
-use mathlib.Core.Path.{_≡_, sym, ap, _∙_}
-use lib.ListN.{length}
+use mathlib.Core.Path.{sym, ap, _∙_}
 use Rattle.words.specs.Writes.{front}
 use Rattle.tallies.specs.Calls.{Lent}
 use Rattle.tallies.specs.Demand.{answers, after}

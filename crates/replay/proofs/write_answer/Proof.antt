@@ -1,6 +1,6 @@
 -- `replay::write_answer` meets its contract: three words written one behind the other. Assumes nothing.
 use Prim.Native.Nat.{_+_}
-use mathlib.Core.Path.{_≡_, ap, _∙_}
+use mathlib.Core.Path.{ap, _∙_}
 use Rattle.words.specs.Words.{bytesOf}
 use Rattle.words.specs.Writes.{put}
 use borrow.Author.Needs.{needs}

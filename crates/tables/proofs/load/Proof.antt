@@ -1,7 +1,7 @@
 -- `tables::load` meets its contract, case by case of the order of checks.
 -- Assumes nothing.
 use borrow.Author.Needs.{needs}
-use mathlib.Core.Path.{_≡_, sym, _∙_}
+use mathlib.Core.Path.{sym, _∙_}
 use Rattle.tables.proofs.Whole.{accepts, small-tables, small-terms, kept, filled}
 use Rattle.tables.proofs.load.Statement.{statement}
 use Rattle.tables.proofs.load.Tie as tie

@@ -7,9 +7,9 @@ use Prim.Native.Nat.{ℕ, _≤_, _<_, _-_}
 use native.Mathlib.Omega.{arith}
 use mathlib.Core.Path.{_≡_, refl, ap, _∙_}
 use mathlib.Core.List.{List, _++_, append-nil}
-use lib.ListN.{length, drop, replicate, set, length-set, drop-of-length-le}
+use lib.ListN.{length, drop, replicate, set, length-set}
 use lib.Seq.{drop-length}
-use borrow.Author.Fill.{fill-none, fill-more}
+use borrow.Author.Fill.{fill-more}
 
 abbrev Inv-loop : tie.InvT-loop
 Inv-loop s₀ i₀ s i = (i ≤ length s₀) × (s ≡ replicate i 0 ++ drop i s₀) × (length s ≡ length s₀)

@@ -3,10 +3,8 @@
 use borrow.Author.Needs.{needs}
 use Rattle.words.proofs.write_u32.Statement.{statement}
 use Rattle.words.proofs.write_u32.Tie as tie
-use Prim.Native.Nat.{_+_}
 use native.Mathlib.Omega.{arith}
 use native.Mathlib.Numerals.{add-one, add-two, add-three}
-use mathlib.Core.Path.{_≡_, refl, ap, _∙_}
 use lib.ListN.{length-set}
 use Rattle.words.proofs.Writes.{stored}
 

@@ -1,5 +1,5 @@
 -- `calls::counts::counts` meets its contract: it is refused as its tests say, or all that the core needs has been tested. Assumes nothing.
-use mathlib.Core.Path.{_≡_, sym, _∙_}
+use mathlib.Core.Path.{sym, _∙_}
 use borrow.Author.Needs.{needs}
 use Rattle.tallies.specs.Calls.{plan}
 use Rattle.calls.proofs.Accepting.{flippable, counts-refused, counts-accepted}

@@ -1,7 +1,6 @@
 -- `calls::open::open` meets its contract: it is refused as its tests say, or all that the core needs has been tested. Assumes nothing.
 use borrow.Author.Needs.{needs}
-use native.Mathlib.Omega.{arith}
-use mathlib.Core.Path.{_≡_, sym, _∙_}
+use mathlib.Core.Path.{sym, _∙_}
 use Rattle.tallies.proofs.Refusals.{opens, tallies-room}
 use Rattle.tallies.proofs.Callers.{opens-ready}
 use Rattle.calls.proofs.Accepting.{open-refused, open-accepted}

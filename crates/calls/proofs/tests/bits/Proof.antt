@@ -3,7 +3,6 @@ use Prim.Native.Nat.{_≤_, _-_}
 use mathlib.Core.Path.{_≡_, sym, _∙_}
 use native.Mathlib.Omega.{arith}
 use borrow.Author.Needs.{needs}
-use lib.ListN.{length}
 use Rattle.tallies.specs.Layout.{areBits}
 use Rattle.calls.proofs.BitsLeft.{bitsLeft, bits-start, bits-step, bits-fail, bits-end}
 use Rattle.calls.proofs.tests.bits.Statement.{statement}

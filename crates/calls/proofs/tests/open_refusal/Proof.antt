@@ -1,6 +1,6 @@
 -- `calls::tests::open_refusal` meets its contract: each test answers what the definition asks next. Assumes nothing.
 use native.Mathlib.Omega.{arith}
-use mathlib.Core.Path.{_≡_, sym, _∙_}
+use mathlib.Core.Path.{sym, _∙_}
 use borrow.Author.Needs.{needs}
 use borrow.Author.Tests.{not-true, not-false}
 use Rattle.calls.proofs.Opening.{large-tables, refused-21, refused-22, refused-24, refused-none, room-for-bits}

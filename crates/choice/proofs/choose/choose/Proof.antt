@@ -4,7 +4,6 @@ use borrow.Author.Needs.{needs}
 use native.Mathlib.Omega.{arith}
 use mathlib.Core.Path.{_≡_, sym, _∙_}
 use Rattle.tallies.proofs.Laid.{tables-long, variables-word}
-use Rattle.choice.proofs.Marking.{still-ready}
 use Rattle.choice.proofs.Choosing.{marks-beyond, free-pickable, free-chosen, noisy-ready, noisy-chosen}
 use Rattle.choice.proofs.choose.choose.Statement.{statement}
 use Rattle.choice.proofs.choose.choose.Tie as tie

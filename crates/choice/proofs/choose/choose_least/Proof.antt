@@ -2,7 +2,6 @@
 -- Assumes nothing.
 use borrow.Author.Needs.{needs}
 use native.Mathlib.Omega.{arith}
-use mathlib.Core.Path.{_≡_, sym}
 use Rattle.choice.proofs.Choosing.{least-pickable, least-chosen}
 use Rattle.choice.proofs.choose.choose_least.Statement.{statement}
 use Rattle.choice.proofs.choose.choose_least.Tie as tie

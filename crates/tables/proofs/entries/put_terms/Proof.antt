@@ -3,7 +3,6 @@
 -- Assumes nothing.
 use borrow.Author.Needs.{needs}
 use native.Mathlib.Omega.{arith}
-use mathlib.Core.Path.{_∙_}
 use Rattle.tables.proofs.Entered.{Written, written-start, written-more, written-end}
 use Rattle.tables.proofs.entries.put_terms.Statement.{statement}
 use Rattle.tables.proofs.entries.put_terms.Tie as tie

@@ -1,6 +1,5 @@
 -- `tables::field::begins_or_ends` meets its contract: the two tests are those of the definition.
 -- Assumes nothing.
-use borrow.Author.Needs.{needs}
 use Rattle.tables.proofs.field.begins_or_ends.Statement.{statement}
 use Rattle.tables.proofs.field.begins_or_ends.Tie as tie
 use borrow.Author.Tests.{eq-eqb, ne-eqb}

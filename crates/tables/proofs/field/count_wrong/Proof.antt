@@ -1,6 +1,5 @@
 -- `tables::field::count_wrong` meets its contract.
 -- Assumes nothing.
-use borrow.Author.Needs.{needs}
 use borrow.Author.Tests.{le-leb, lt-leb}
 use Rattle.plpb.specs.Lists.{_and_}
 use Rattle.tables.proofs.Judged.{ltb-not}

@@ -1,14 +1,11 @@
 -- `tables::field::head_fault` meets its contract: at each return the tests that led there say which case of the definition holds.
 -- Assumes nothing.
 use borrow.Author.Needs.{needs}
-use Prim.Native.Nat.{ℕ, _+_, _≤_, _<_}
 use native.Mathlib.Omega.{arith}
-use mathlib.Core.Path.{_≡_, _∙_}
-use mathlib.Core.Bool.{true, false}
+use mathlib.Core.Path.{_∙_}
 use lib.ListN.{length}
 use borrow.Author.Tests.{not-true, not-false}
-use Rattle.format.specs.File.{mayStand, tagAt, lengthAt, lengthLawful}
-use Rattle.tables.specs.Fields.{stageOf}
+use Rattle.format.specs.File.{lengthAt}
 use Rattle.tables.proofs.Judged.{told-tag, told-length, short-head, wrong-tag, wrong-length, short-body, whole-head}
 use Rattle.tables.proofs.field.head_fault.Statement.{statement}
 use Rattle.tables.proofs.field.head_fault.Tie as tie

@@ -1,6 +1,5 @@
 -- `tables::field::rules_full` meets its contract: 6,000 less the terms so far are fewer than those that come.
 -- Assumes nothing.
-use borrow.Author.Needs.{needs}
 use borrow.Author.Tests.{le-leb, lt-leb, lt-ltb}
 use native.Mathlib.Omega.{arith}
 use Rattle.plpb.specs.Lists.{_or_}

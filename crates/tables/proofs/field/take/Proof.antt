@@ -1,10 +1,8 @@
 -- `tables::field::take` meets its contract: the faults of the head, then those of the body.
 -- Assumes nothing.
 use borrow.Author.Needs.{needs}
-use mathlib.Core.Path.{_≡_, sym, ap, _∙_}
-use native.Mathlib.Omega.{arith}
+use mathlib.Core.Path.{sym, ap, _∙_}
 use Rattle.tables.specs.declared.field.Field.the-variants.{Taken}
-use Rattle.tables.specs.Fields.{stageOf, headFault}
 use Rattle.tables.proofs.Judged.{headed, field-head, field-body, field-taken}
 use Rattle.tables.proofs.field.take.Statement.{statement}
 use Rattle.tables.proofs.field.take.Tie as tie

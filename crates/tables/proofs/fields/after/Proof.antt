@@ -1,6 +1,5 @@
 -- `tables::fields::after` meets its contract.
 -- Assumes nothing.
-use borrow.Author.Needs.{needs}
 use native.Mathlib.Omega.{arith}
 use Rattle.format.specs.File.{lengthAt}
 use Rattle.tables.specs.Places.{behindField}

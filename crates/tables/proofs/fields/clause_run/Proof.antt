@@ -1,14 +1,10 @@
 -- `tables::fields::clause_run` meets its contract. The invariant: from the present place on stand the rules that are left, as many as were not
 -- counted. The measure is the bytes left.
 -- Assumes nothing.
-use borrow.Author.Needs.{needs}
-use Prim.Native.Nat.{ℕ, _+_, _-_, _≤_}
+use Prim.Native.Nat.{_-_}
 use native.Mathlib.Omega.{arith}
-use mathlib.Core.Path.{_≡_, refl, sym, ap, _∙_, subst}
-use mathlib.Core.List.{List}
 use lib.ListN.{length}
-use Rattle.plpb.specs.Plan.{Rule, Clause}
-use Rattle.tables.specs.Places.{Reads, Found, Ran, behindField}
+use Rattle.tables.specs.Places.{behindField}
 use Rattle.tables.proofs.Found.{Running, run-start, run-more, run-end, found-room, found-body}
 use Rattle.tables.proofs.fields.clause_run.Statement.{statement}
 use Rattle.tables.proofs.fields.clause_run.Tie as tie

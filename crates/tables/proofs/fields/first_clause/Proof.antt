@@ -1,9 +1,7 @@
 -- `tables::fields::first_clause` meets its contract.
 -- Assumes nothing.
-use borrow.Author.Needs.{needs}
 use native.Mathlib.Omega.{arith}
 use Rattle.format.specs.File.{lengthAt}
-use Rattle.words.specs.Words.{numAt}
 use Rattle.tables.specs.Places.{firstClause}
 use Rattle.tables.proofs.fields.first_clause.Statement.{statement}
 use Rattle.tables.proofs.fields.first_clause.Tie as tie

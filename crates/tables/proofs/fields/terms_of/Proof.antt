@@ -2,7 +2,6 @@
 -- Assumes nothing.
 use borrow.Author.Needs.{needs}
 use native.Mathlib.Omega.{arith}
-use mathlib.Core.Path.{_∙_}
 use Rattle.format.specs.File.{lengthAt, termsIn}
 use Rattle.tables.proofs.fields.terms_of.Statement.{statement}
 use Rattle.tables.proofs.fields.terms_of.Tie as tie

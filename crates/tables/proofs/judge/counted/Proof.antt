@@ -1,6 +1,5 @@
 -- `tables::judge::counted` meets its contract.
 -- Assumes nothing.
-use borrow.Author.Needs.{needs}
 use native.Mathlib.Omega.{arith}
 use borrow.Author.Tests.{eq-eqb, ne-eqb}
 use Rattle.tables.proofs.judge.counted.Statement.{statement}

@@ -1,6 +1,5 @@
 -- `tables::judge::finish` meets its contract.
 -- Assumes nothing.
-use borrow.Author.Needs.{needs}
 use borrow.Author.Tests.{lt-ltb, le-ltb}
 use Rattle.tables.specs.Fields.{ending}
 use Rattle.tables.proofs.judge.finish.Statement.{statement}

@@ -2,12 +2,10 @@
 -- file does. The measure is the fields left.
 -- Assumes nothing.
 use borrow.Author.Needs.{needs}
-use mathlib.Core.Path.{_≡_, refl, sym, ap, _∙_}
-use lib.ListN.{length}
-use Prim.Native.Nat.{ℕ}
-use Rattle.format.specs.File.{readFrom, begin, read}
+use mathlib.Core.Path.{_≡_, sym, _∙_}
+use Rattle.format.specs.File.{readFrom, read}
 use Rattle.tables.specs.Load.{outcome}
-use Rattle.tables.specs.Fields.{stageOf, stateOf}
+use Rattle.tables.specs.Fields.{stateOf}
 use Rattle.tables.proofs.Stepped.{goes, stops, judge-start, judge-end}
 use Rattle.tables.proofs.judge.judge.Statement.{statement}
 use Rattle.tables.proofs.judge.judge.Tie as tie

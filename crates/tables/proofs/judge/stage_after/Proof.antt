@@ -1,6 +1,5 @@
 -- `tables::judge::stage_after` meets its contract, tag by tag.
 -- Assumes nothing.
-use borrow.Author.Needs.{needs}
 use borrow.Author.Tests.{ne-eqb}
 use Rattle.format.specs.File.{stageAfter}
 use Rattle.tables.specs.Fields.{stageOf}

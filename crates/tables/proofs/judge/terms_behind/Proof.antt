@@ -1,6 +1,5 @@
 -- `tables::judge::terms_behind` meets its contract.
 -- Assumes nothing.
-use borrow.Author.Needs.{needs}
 use native.Mathlib.Omega.{arith}
 use borrow.Author.Tests.{eq-eqb, ne-eqb}
 use Rattle.format.specs.File.{termsIn}

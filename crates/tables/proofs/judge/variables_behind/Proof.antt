@@ -1,6 +1,5 @@
 -- `tables::judge::variables_behind` meets its contract.
 -- Assumes nothing.
-use borrow.Author.Needs.{needs}
 use borrow.Author.Tests.{eq-eqb, ne-eqb}
 use Rattle.tables.proofs.judge.variables_behind.Statement.{statement}
 use Rattle.tables.proofs.judge.variables_behind.Tie as tie

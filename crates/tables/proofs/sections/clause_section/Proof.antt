@@ -2,11 +2,10 @@
 -- of the clauses left they are all entries. The measure is the bytes left of the file.
 -- Assumes nothing.
 use borrow.Author.Needs.{needs}
-use Prim.Native.Nat.{ℕ, _+_, _-_, _≤_, _<_}
+use Prim.Native.Nat.{_-_}
 use native.Mathlib.Omega.{arith}
-use mathlib.Core.Path.{_≡_, sym, ap, _∙_}
 use lib.ListN.{length}
-use Rattle.tables.specs.Places.{planOfFile, Ran}
+use Rattle.tables.specs.Places.{planOfFile}
 use Rattle.tables.proofs.Found.{begun-file, begun-room}
 use Rattle.tables.proofs.Filled.{ClauseFill, lawful-file, clause-start, clause-few, clause-space, clause-room, clause-reads, clause-rules, clause-part, clause-same, clause-more, clause-on, clause-count, clause-end}
 use Rattle.tables.proofs.sections.clause_section.Statement.{statement}

@@ -2,7 +2,7 @@
 -- Assumes nothing.
 use borrow.Author.Needs.{needs}
 use native.Mathlib.Omega.{arith}
-use mathlib.Core.Path.{_≡_, refl, sym, ap, _∙_}
+use mathlib.Core.Path.{ap, _∙_}
 use lib.ListN.{length, length-replicate}
 use Prim.Native.Nat.{ℕ}
 use Rattle.tables.specs.Places.{firstClause}

@@ -2,9 +2,9 @@
 -- the rules left they are all entries. The measure is the bytes left of the file.
 -- Assumes nothing.
 use borrow.Author.Needs.{needs}
-use Prim.Native.Nat.{ℕ, _+_, _-_, _≤_, _<_}
+use Prim.Native.Nat.{_-_}
 use native.Mathlib.Omega.{arith}
-use mathlib.Core.Path.{_≡_, sym, ap, _∙_}
+use mathlib.Core.Path.{sym, _∙_}
 use lib.ListN.{length}
 use Rattle.tables.specs.Places.{planOfFile}
 use Rattle.tables.proofs.Judged.{tag-byte}

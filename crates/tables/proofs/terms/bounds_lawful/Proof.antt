@@ -1,11 +1,8 @@
 -- `tables::terms::bounds_lawful` meets its contract: only the sizes of the bounds are judged.
 -- Assumes nothing.
 use borrow.Author.Needs.{needs}
-use mathlib.Core.Path.{_∙_, ap₂}
-use mathlib.Core.Bool.{Bool}
-use lib.IntN.{pos}
+use mathlib.Core.Path.{_∙_}
 use mir.Facts.{toZ-ofZ}
-use Rattle.format.specs.File.{boundsLawful}
 use Rattle.tables.proofs.TermLaws.{bounds-size}
 use Rattle.tables.proofs.terms.bounds_lawful.Statement.{statement}
 use Rattle.tables.proofs.terms.bounds_lawful.Tie as tie

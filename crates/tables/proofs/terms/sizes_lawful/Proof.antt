@@ -1,8 +1,6 @@
 -- `tables::terms::sizes_lawful` meets its contract: at each return the tests that led there decide the definition.
 -- Assumes nothing.
-use borrow.Author.Needs.{needs}
-use mathlib.Core.Bool.{not}
-use borrow.Author.Tests.{le-leb, lt-leb, eq-eqb, ne-eqb}
+use borrow.Author.Tests.{le-leb, lt-leb, ne-eqb}
 use Rattle.plpb.specs.Lists.{_and_, _or_}
 use Rattle.format.specs.File.{boundsLawful}
 use Rattle.tables.proofs.TermLaws.{lacks-lower, lacks-upper}

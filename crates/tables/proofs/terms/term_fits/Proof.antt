@@ -1,7 +1,6 @@
 -- `tables::terms::term_fits` meets its contract: at each return the tests that led there decide the definition.
 -- Assumes nothing.
-use borrow.Author.Needs.{needs}
-use borrow.Author.Tests.{le-leb, lt-leb, lt-ltb, le-ltb, eq-eqb, ne-eqb}
+use borrow.Author.Tests.{le-leb, lt-leb, lt-ltb, le-ltb}
 use native.Mathlib.Omega.{arith}
 use Rattle.plpb.specs.Lists.{_and_}
 use Rattle.format.specs.Limits.{weightLawful}

@@ -2,13 +2,13 @@
 -- The measure is how many are left.
 -- Assumes nothing.
 use borrow.Author.Needs.{needs}
-use Prim.Native.Nat.{ℕ, _+_, _*_, _≤_}
+use Prim.Native.Nat.{_+_, _*_, _≤_}
 use native.Mathlib.Omega.{arith}
-use mathlib.Core.Path.{_≡_, refl, sym, ap, _∙_}
+use mathlib.Core.Path.{_≡_, sym, _∙_}
 use lib.ListN.{length}
 use borrow.Author.Tests.{not-true, not-false}
 use Rattle.format.specs.Limits.{termsLawful}
-use Rattle.format.specs.File.{termAt, termsAt}
+use Rattle.format.specs.File.{termsAt}
 use Rattle.tables.specs.Terms.{lawfulAbove}
 use Rattle.tables.proofs.TermLaws.{lawful-start, lawful-end, lawful-go, lawful-stop}
 use Rattle.tables.proofs.terms.terms_lawful.Statement.{statement}

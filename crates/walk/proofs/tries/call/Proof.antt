@@ -4,7 +4,7 @@ use borrow.Author.Needs.{needs}
 use native.Mathlib.Omega.{arith}
 use mathlib.Core.Path.{_∙_}
 use Rattle.walk.specs.Steps.{settingsOf}
-use Rattle.walk.proofs.Trying.{Calling, sized-on, calls-begin, calls-more, calls-done, calls-end, not-failed}
+use Rattle.walk.proofs.Trying.{Calling, calls-begin, calls-more, calls-done, calls-end, not-failed}
 use Rattle.walk.proofs.tries.call.Statement.{statement}
 use Rattle.walk.proofs.tries.call.Tie as tie
 

@@ -2,7 +2,7 @@
 -- Assumes nothing.
 use borrow.Author.Needs.{needs}
 use native.Mathlib.Omega.{arith}
-use mathlib.Core.Path.{sym, _∙_}
+use mathlib.Core.Path.{_∙_}
 use Rattle.walk.specs.Steps.{settingsOf}
 use Rattle.walk.proofs.Moving.{tally-room}
 use Rattle.walk.proofs.Trying.{Flipping, flips-begin, flips-found, flips-more, flips-short, flips-end, sized-on}
