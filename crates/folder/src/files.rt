@@ -1,8 +1,8 @@
 // walk.bin and numbers.bin judged.
 ghost use mathlib.Core.Path.{_≡_};
 ghost use Rattle.folder.specs.Files.{walkFault, judged, readWalk, walked, numbersRefusal};
+use tries::Settings;
 use walk::lent::settings_refusal;
-use walk::tries::Settings;
 
 // The settings, or the refusal's number and offset.
 pub enum Walked {

@@ -37,8 +37,7 @@ use Rattle.walk.specs.declared.tightening.Ending.{Ending as EndingOf}
 use Rattle.walk.specs.declared.tightening.Ending.the-variants as code
 use Rattle.walk.specs.declared.tightening.Searched.{Searched}
 use Rattle.walk.proofs.tightening.Called.{the-type}
-use Rattle.walk.specs.Calls.{modeOf}
-use Rattle.walk.specs.Steps.{Work}
+use Rattle.tries.specs.Steps.{modeOf, Work}
 use Rattle.walk.specs.Bounds.{basis, Bounded, Stands, Room, Leaves, calledOf, standIn, FindOr, CallsUnder, answerOf, endingOf, Concludes, LbsComes, StoppedAt}
 use Rattle.walk.proofs.Bounds.{bounded-basis, cost-small, cost-fits}
 

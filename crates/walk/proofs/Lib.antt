@@ -1,6 +1,4 @@
 -- The laws behind the search, in reading order.
-pub mod Moving
-pub mod Trying
 pub mod Bounds
 pub mod Concluding
 pub mod Refusing

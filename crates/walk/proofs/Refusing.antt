@@ -14,7 +14,7 @@ use Rattle.plpb.proofs.Lists.{T-true}
 use Rattle.format.specs.File.{refuse}
 use Rattle.format.specs.Tables.{isLoaded}
 use Rattle.walk.specs.Calls.{Asked, Lent, tooSmall, settingsRefusal, searchRefusal, searchAssignment, cleared, unless, Searches, hasPlan, HandsOut}
-use Rattle.walk.specs.Steps.{Work}
+use Rattle.tries.specs.Steps.{Work}
 use Rattle.walk.specs.Whole.{tablesSmall, workSmall, Searchable}
 
 -- ---- room

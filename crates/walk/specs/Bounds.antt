@@ -20,7 +20,7 @@ use Rattle.walk.specs.declared.tightening.Called.the-variants as called
 use Rattle.walk.specs.declared.tightening.Ending.{Ending as EndingOf}
 use Rattle.walk.specs.declared.tightening.Ending.the-variants as code
 use Rattle.walk.specs.declared.tightening.Searched.{Searched}
-use Rattle.walk.specs.Steps.{Work, Beyond}
+use Rattle.tries.specs.Steps.{Work, Beyond}
 
 -- A plan without the added last clause.
 unfoldable pub untightened : Plan → Plan

@@ -1,6 +1,6 @@
 -- The search as a definition on what is lent: the refusal, the answer and the bytes left (document 01, "Who can cause which refusal" and "The walk").
 -- Assumes nothing.
-use Prim.Native.Nat.{ℕ, zero, suc}
+use Prim.Native.Nat.{ℕ}
 use mathlib.Core.Path.{_≡_}
 use mathlib.Core.Bool.{Bool, not, cond}
 use mathlib.Core.List.{List, _++_}
@@ -14,6 +14,7 @@ use Rattle.format.specs.File.{refuse}
 use Rattle.format.specs.Tables.{tableSize, termSize, planOfTables, isLoaded}
 use Rattle.tallies.specs.Layout.{assignmentSize, tallySize, bitsOf, bitBytes}
 use Rattle.numbers.specs.Numbers.{numbersOf}
+use Rattle.tries.specs.Steps.{modeOf}
 use Rattle.walk.specs.declared.search.Answer.{Answer as Answered}
 
 -- What the planner sets.
@@ -55,10 +56,6 @@ settingsRefusal k =
 -- "Search: 21, 22, 11, 12, 13, 14."
 unfoldable pub searchRefusal : Lent → Asked → ℕ
 searchRefusal l k = refuse (tooSmall l) 21 (refuse (not (isLoaded (l .tables) (l .terms))) 22 (settingsRefusal k))
-
-unfoldable pub modeOf : ℕ → Mode
-modeOf zero = linear
-modeOf (suc m) = lbs
 
 unfoldable pub settings : Asked → Settings
 settings k = record { noise = k .noise; tries = k .tries; flips = k .flips; mode = modeOf (k .mode) }

@@ -1,5 +1,4 @@
--- What a search answers and leaves, for every lent byte; and what its steps do.
+-- What a search answers and leaves, for every lent byte; and what its parts do.
 pub mod Calls
-pub mod Steps
 pub mod Bounds
 pub mod Whole

@@ -19,7 +19,7 @@ use Rattle.numbers.specs.Numbers.{numbersOf}
 use Rattle.walk.specs.declared.tightening.Ending.{Ending as EndingOf}
 use Rattle.walk.specs.declared.tightening.Searched.{Searched}
 use Rattle.walk.specs.Calls.{markSize, withFind}
-use Rattle.walk.specs.Steps.{Work, Beyond, bitsIn}
+use Rattle.tries.specs.Steps.{Work, Beyond, bitsIn}
 use Rattle.walk.specs.Bounds.{answerOf}
 
 -- Whether three tables have less room than the full limits need, and whether the work tables do.

@@ -2,8 +2,8 @@
 ghost use mathlib.Core.Path.{_≡_};
 ghost use Rattle.walk.specs.Calls.{searchRefusal, settingsRefusal};
 ghost use Rattle.walk.specs.Whole.{tablesSmall, workSmall};
-use crate::tries::Settings;
 use loaded::good;
+use tries::Settings;
 
 // Whether tables, terms or assignment have less room than the full limits need.
 fn tables_small(tables: &[u8], terms: &[u8], assignment: &[u8]) -> bool

@@ -1,6 +1,4 @@
-// The search: moves, tries and calls of the walk, the tightening around them, and the entry with its tests.
+// The search: the tightening around the walk's calls, and the entry with its tests.
 pub mod lent;
-pub mod moves;
 pub mod search;
 pub mod tightening;
-pub mod tries;

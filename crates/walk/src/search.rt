@@ -6,7 +6,7 @@ ghost use lib.ListN.{length, drop, replicate};
 ghost use Rattle.format.specs.Tables.{planOfTables, tableSize, termSize};
 ghost use Rattle.tallies.specs.Layout.{assignmentSize, tallySize};
 ghost use Rattle.walk.specs.Calls.{markSize, endingNumber, Searches, HandsOut};
-ghost use Rattle.walk.specs.Steps.{settingsOf};
+ghost use Rattle.tries.specs.Steps.{settingsOf};
 ghost use Rattle.walk.specs.Bounds.{endingOf};
 ghost use Rattle.walk.specs.Whole.{Empty, FirstFind, FromFind, Searchable, Whole};
 use crate::lent::search_refusal;
@@ -15,12 +15,12 @@ use crate::tightening::Searched;
 use crate::tightening::Stand;
 use crate::tightening::keep_find;
 use crate::tightening::tighten;
-use crate::tries::Settings;
-use crate::tries::Tried;
-use crate::tries::call;
 use objective::added::add_bound;
 use objective::sums::floor_cost;
 use objective::writes::copy;
+use tries::Settings;
+use tries::Tried;
+use tries::call;
 use words::clear;
 
 // What a search answers: its ending by number, 0 with a refusal; then all else is 0 too.

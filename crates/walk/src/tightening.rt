@@ -10,17 +10,16 @@ ghost use Rattle.words.specs.Words.{wordAt};
 ghost use Rattle.format.specs.Limits.{maxBound};
 ghost use Rattle.tallies.specs.Layout.{bitsOf};
 ghost use Rattle.objective.specs.Sums.{Summable, costIn, bits};
-ghost use Rattle.walk.specs.Steps.{settingsOf};
-ghost use Rattle.walk.specs.Calls.{modeOf};
+ghost use Rattle.tries.specs.Steps.{settingsOf, modeOf};
 ghost use Rattle.walk.specs.Bounds.{basis, Room, Leaves, Stands, CallsUnder, LbsComes, Concludes, answerOf, standIn, StoppedAt};
-use crate::tries::Settings;
-use crate::tries::Tried;
-use crate::tries::call;
 use counting::tightening::lbs_bound;
 use counting::tightening::linear_bound;
 use objective::added::set_bound;
 use objective::sums::cost;
 use objective::writes::copy;
+use tries::Settings;
+use tries::Tried;
+use tries::call;
 use words::index;
 
 // Where a search stands after a find: what it costs, and how many finds and flips were made and numbers used.

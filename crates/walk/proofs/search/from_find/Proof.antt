@@ -4,7 +4,7 @@ use borrow.Author.Needs.{needs}
 use native.Mathlib.Omega.{arith}
 use mathlib.Core.Path.{refl}
 use lib.IntN.{pos}
-use Rattle.walk.specs.Steps.{settingsOf}
+use Rattle.tries.specs.Steps.{settingsOf}
 use Rattle.walk.proofs.Whole.{find-summable, find-keepable, from-floor, tighten-ready, from-tightened}
 use Rattle.walk.proofs.search.from_find.Statement.{statement}
 use Rattle.walk.proofs.search.from_find.Tie as tie

@@ -3,7 +3,7 @@
 use borrow.Author.Needs.{needs}
 use native.Mathlib.Omega.{arith}
 use mathlib.Core.Path.{_∙_}
-use Rattle.walk.specs.Steps.{settingsOf}
+use Rattle.tries.specs.Steps.{settingsOf}
 use Rattle.walk.proofs.Whole.{core-startable, core-first, core-found, core-none, core-short, copied-table, copied-terms}
 use Rattle.walk.proofs.search.search_core.Statement.{statement}
 use Rattle.walk.proofs.search.search_core.Tie as tie

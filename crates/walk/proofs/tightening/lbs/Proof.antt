@@ -4,7 +4,7 @@
 use mathlib.Core.Path.{_∙_}
 use Rattle.plpb.specs.Search.{gap, lbsSearch}
 use Rattle.tallies.specs.Layout.{bitsOf}
-use Rattle.walk.specs.Steps.{settingsOf}
+use Rattle.tries.specs.Steps.{settingsOf}
 use Rattle.walk.specs.Bounds.{basis}
 use Rattle.walk.proofs.Concluding.{cost-low, floor-low, test-above, test-floor, lbs-read, lbs-small, Since, since-first, room-here, stands-here, lbs-ends, lbs-falls, lbs-again, lbs-stops}
 use Rattle.walk.proofs.tightening.lbs.Statement.{statement}

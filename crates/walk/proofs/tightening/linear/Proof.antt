@@ -4,7 +4,7 @@
 use mathlib.Core.Path.{_∙_}
 use Rattle.plpb.specs.Search.{gap, linearSearch}
 use Rattle.tallies.specs.Layout.{bitsOf}
-use Rattle.walk.specs.Steps.{settingsOf}
+use Rattle.tries.specs.Steps.{settingsOf}
 use Rattle.walk.specs.Bounds.{basis}
 use Rattle.walk.proofs.Concluding.{cost-low, test-above, test-floor, linear-read, linear-small, Since, since-first, room-here, stands-here, linear-ends, linear-falls, linear-again, linear-stops}
 use Rattle.walk.proofs.tightening.linear.Statement.{statement}

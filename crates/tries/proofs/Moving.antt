@@ -35,8 +35,8 @@ use Rattle.numbers.proofs.Runs.{bind-ends, bind-short, pickFrom-taken, pickFrom
 use Rattle.choice.specs.declared.choose.Chosen.{Chosen}
 use Rattle.choice.specs.declared.choose.Chosen.the-variants as chosen
 use Rattle.choice.specs.Outcome.{outcomeOf, usedBy, Among, Chooses}
-use Rattle.walk.specs.declared.moves.Moved.{Moved}
-use Rattle.walk.specs.Steps.{Work, bitsIn, Walking, turning, movedOf, InClause, Moves}
+use Rattle.tries.specs.declared.moves.Moved.{Moved}
+use Rattle.tries.specs.Steps.{Work, bitsIn, Walking, turning, movedOf, InClause, Moves}
 
 -- ---- a variable of the clause is chosen and flipped
 

@@ -4,9 +4,9 @@ use borrow.Author.Needs.{needs}
 use native.Mathlib.Omega.{arith}
 use mathlib.Core.Path.{refl}
 use Rattle.tallies.proofs.Laid.{tables-long, variables-word}
-use Rattle.walk.proofs.Trying.{started-uses, started-ready, started-walking, tried-once, no-start}
-use Rattle.walk.proofs.tries.try_once.Statement.{statement}
-use Rattle.walk.proofs.tries.try_once.Tie as tie
+use Rattle.tries.proofs.Trying.{started-uses, started-ready, started-walking, tried-once, no-start}
+use Rattle.tries.proofs.try_once.Statement.{statement}
+use Rattle.tries.proofs.try_once.Tie as tie
 
 index-requires : tie.Need-index-requires
 index-requires c κs =

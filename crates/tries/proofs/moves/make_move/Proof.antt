@@ -5,9 +5,9 @@ use Prim.Native.Nat.{_<_}
 use native.Mathlib.Omega.{arith}
 use mathlib.Core.Path.{refl}
 use Rattle.tallies.proofs.Laid.{tables-long, clauses-few}
-use Rattle.walk.proofs.Moving.{tally-room, picked-within, picked-uses, picked-moves, gone-moves}
-use Rattle.walk.proofs.moves.make_move.Statement.{statement}
-use Rattle.walk.proofs.moves.make_move.Tie as tie
+use Rattle.tries.proofs.Moving.{tally-room, picked-within, picked-uses, picked-moves, gone-moves}
+use Rattle.tries.proofs.moves.make_move.Statement.{statement}
+use Rattle.tries.proofs.moves.make_move.Tie as tie
 
 index-requires : tie.Need-index-requires
 index-requires c κs = let at = c .before .before .before .before .before .before .before in tally-room (at .pre .0)

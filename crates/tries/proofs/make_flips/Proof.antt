@@ -3,11 +3,11 @@
 use borrow.Author.Needs.{needs}
 use native.Mathlib.Omega.{arith}
 use mathlib.Core.Path.{_∙_}
-use Rattle.walk.specs.Steps.{settingsOf}
-use Rattle.walk.proofs.Moving.{tally-room}
-use Rattle.walk.proofs.Trying.{Flipping, flips-begin, flips-found, flips-more, flips-short, flips-end, sized-on}
-use Rattle.walk.proofs.tries.make_flips.Statement.{statement}
-use Rattle.walk.proofs.tries.make_flips.Tie as tie
+use Rattle.tries.specs.Steps.{settingsOf}
+use Rattle.tries.proofs.Moving.{tally-room}
+use Rattle.tries.proofs.Trying.{Flipping, flips-begin, flips-found, flips-more, flips-short, flips-end, sized-on}
+use Rattle.tries.proofs.make_flips.Statement.{statement}
+use Rattle.tries.proofs.make_flips.Tie as tie
 
 abbrev Inv-loop : tie.InvT-loop
 Inv-loop tables terms numbers begun before s assignment₀ tallies₀ marks₀ used₀ made₀ left₀ assignment tallies marks used made left =

@@ -3,10 +3,10 @@
 use borrow.Author.Needs.{needs}
 use native.Mathlib.Omega.{arith}
 use mathlib.Core.Path.{_∙_}
-use Rattle.walk.specs.Steps.{settingsOf}
-use Rattle.walk.proofs.Trying.{Calling, calls-begin, calls-more, calls-done, calls-end, not-failed}
-use Rattle.walk.proofs.tries.call.Statement.{statement}
-use Rattle.walk.proofs.tries.call.Tie as tie
+use Rattle.tries.specs.Steps.{settingsOf}
+use Rattle.tries.proofs.Trying.{Calling, calls-begin, calls-more, calls-done, calls-end, not-failed}
+use Rattle.tries.proofs.call.Statement.{statement}
+use Rattle.tries.proofs.call.Tie as tie
 
 abbrev Inv-loop : tie.InvT-loop
 Inv-loop tables terms numbers begun before s assignment₀ tallies₀ marks₀ used₀ made₀ left₀ assignment tallies marks used made left =

@@ -3,7 +3,10 @@ ghost use Prim.Native.Nat.{_+_, _/_, _≤_};
 ghost use lib.ListN.{length};
 ghost use Rattle.plpb.specs.Search.{flipping, try, call as called};
 ghost use Rattle.format.specs.Tables.{planOfTables};
-ghost use Rattle.walk.specs.Steps.{Startable, Walking, Tries, bitsIn, settingsOf};
+ghost use Rattle.tries.specs.Steps.{Startable, Walking, Tries, bitsIn, settingsOf};
+
+mod moves;
+
 use crate::moves::make_move;
 use numbers::Started;
 use numbers::start;

@@ -2,9 +2,9 @@
 -- Assumes nothing.
 use borrow.Author.Needs.{needs}
 use mathlib.Core.Path.{refl}
-use Rattle.walk.proofs.Moving.{chosen-among, flippable, turned-in, gone-in}
-use Rattle.walk.proofs.moves.flip_in.Statement.{statement}
-use Rattle.walk.proofs.moves.flip_in.Tie as tie
+use Rattle.tries.proofs.Moving.{chosen-among, flippable, turned-in, gone-in}
+use Rattle.tries.proofs.moves.flip_in.Statement.{statement}
+use Rattle.tries.proofs.moves.flip_in.Tie as tie
 
 flip-core-requires : tie.Need-flip-core-requires
 flip-core-requires c κs =

@@ -1,6 +1,6 @@
 -- What the walk's code answers and leaves, step by step, as the walk's definitions have it.
 -- Assumes nothing.
-use Prim.Native.Nat.{ℕ, _+_, _/_, _≤_}
+use Prim.Native.Nat.{ℕ, zero, suc, _+_, _/_, _≤_}
 use mathlib.Core.Path.{_≡_}
 use mathlib.Core.Bool.{true, cond}
 use mathlib.Core.List.{List, []}
@@ -10,17 +10,16 @@ use Rattle.plpb.specs.Plan.{Clause, Plan, Assignment, flip, satisfies}
 use Rattle.plpb.specs.Tallies.{freshCount}
 use Rattle.plpb.specs.Walk.{Walk, done, flipped, _>>=_, Outcome, ends, short, run}
 use Rattle.plpb.specs.Choice.{choice}
-use Rattle.plpb.specs.Search.{Settings, Reached, failed, reached, move}
+use Rattle.plpb.specs.Search.{Mode, linear, lbs, Settings, Reached, failed, reached, move}
 use Rattle.plpb.proofs.Walks.{at}
 use Rattle.format.specs.Tables.{planOfTables}
 use Rattle.tallies.specs.Layout.{tallySize, bitsOf, areBits, tallyBytes}
 use Rattle.tallies.specs.Core.{Ready}
 use Rattle.numbers.specs.Numbers.{numbersOf}
-use Rattle.walk.specs.declared.moves.Moved.{Moved}
-use Rattle.walk.specs.declared.tries.Settings.{Settings as Asked}
-use Rattle.walk.specs.declared.tries.Tried.{Tried}
-use Rattle.walk.specs.declared.tries.Tried.the-variants as tried
-use Rattle.walk.specs.Calls.{modeOf}
+use Rattle.tries.specs.declared.moves.Moved.{Moved}
+use Rattle.tries.specs.declared.Settings.{Settings as Asked}
+use Rattle.tries.specs.declared.Tried.{Tried}
+use Rattle.tries.specs.declared.Tried.the-variants as tried
 
 -- What the walk writes: an assignment, its tallies, and the choice's marks.
 pub record Work : Type 0 where
@@ -50,6 +49,11 @@ pub record Beyond (n : ℕ) (w v : Work) : Type 0 where
   pub assignment : drop n (v .assignment) ≡ drop n (w .assignment)
   pub tallies : drop tallySize (v .tallies) ≡ drop tallySize (w .tallies)
   pub marks : drop n (v .marks) ≡ drop n (w .marks)
+
+-- "mode other than 0 (linear) or 1 (LBS)" is refused.
+unfoldable pub modeOf : ℕ → Mode
+modeOf zero = linear
+modeOf (suc m) = lbs
 
 -- The settings that the code is given.
 abbrev pub settingsOf : Asked → Settings

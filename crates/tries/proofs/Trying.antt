@@ -30,12 +30,12 @@ use Rattle.numbers.specs.Taking.{Starts}
 use Rattle.numbers.proofs.Taking.{length-numbersOf, length-start, started-taken, started-short, words-use}
 use Rattle.numbers.proofs.Finding.{look-by-count}
 use Rattle.numbers.proofs.Runs.{counted as counted-down, flipping-none, flipping-found, flipping-moved, flipping-short, try-started, try-short, trying-none, trying-next, trying-found, trying-short, run-call}
-use Rattle.walk.specs.declared.moves.Moved.{Moved}
-use Rattle.walk.specs.declared.tries.Tried.{Tried}
-use Rattle.walk.proofs.tries.Tried.{the-type}
-use Rattle.walk.specs.declared.tries.Tried.the-variants as tried
-use Rattle.walk.specs.Steps.{Work, bitsIn, Startable, Walking, Beyond, movedOf, Moves, triedOf, usedBy, flipsBy, IfReached, Tries}
-use Rattle.walk.proofs.Moving.{unsatisfied-word}
+use Rattle.tries.specs.declared.moves.Moved.{Moved}
+use Rattle.tries.specs.declared.Tried.{Tried}
+use Rattle.tries.proofs.Tried.{the-type}
+use Rattle.tries.specs.declared.Tried.the-variants as tried
+use Rattle.tries.specs.Steps.{Work, bitsIn, Startable, Walking, Beyond, movedOf, Moves, triedOf, usedBy, flipsBy, IfReached, Tries}
+use Rattle.tries.proofs.Moving.{unsatisfied-word}
 
 pub beyond-same : (n : ℕ) (w : Work) → Beyond n w w
 beyond-same n w = record { assignment = refl; tallies = refl; marks = refl }

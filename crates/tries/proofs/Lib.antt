@@ -1,0 +1,3 @@
+-- The laws behind moves, tries and calls, in reading order.
+pub mod Moving
+pub mod Trying

@@ -1,0 +1,2 @@
+-- What the walk's steps answer and leave.
+pub mod Steps
