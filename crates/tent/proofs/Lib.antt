@@ -1,1 +1,3 @@
 -- Laws of the program's output.
+pub mod Answering
+pub mod Responding

@@ -1,11 +1,15 @@
 // The program of the tent: it reads plan.bin, walk.bin and numbers.bin of the folder that it is run in, and prints what `respond` makes of them.
+ghost use Rattle.io.specs.Counts.{Counts};
+
 mod respond;
 
 use libc::STDOUT_FILENO;
 use respond::respond;
 
 // A file's bytes, as many as fit; none where it cannot be opened.
-fn read(name: &[u8], buffer: &mut [u8]) -> usize {
+fn read(name: &[u8], buffer: &mut [u8]) -> usize
+    ensures { λ r. ⌜ Counts r (now (buffer .exit)) ⌝ }
+{
     let fd = os::open_read(name);
     if fd < 0 {
         return 0;
