@@ -1,16 +1,17 @@
 -- The bytes of a fresh count fill the tallies' full limits, because each section is padded to its size and a word is four bytes.
 use Prim.Native.Nat.{ℕ, zero, suc, _*_, _-_, _≤_}
-use mathlib.Core.Path.{_≡_, refl, ap, ap₂, _∙_}
+use mathlib.Core.Path.{_≡_, refl, ap, _∙_}
 use mathlib.Core.List.{List, [], _∷_, _++_}
-use lib.Dec.{T, eqb, eqb→eq, eqb-refl}
+use lib.Dec.{T}
 use lib.ListN.{length, getD, take, drop, replicate, length-append, length-map}
 use lib.Seq.{take-at, drop-at}
 use Rattle.plpb.specs.Plan.{Plan, Assignment}
 use Rattle.plpb.specs.Tallies.{Tallies, rulesOf, freshCount}
-use Rattle.plpb.proofs.Lists.{and-left, and-right, and-both}
 use Rattle.words.proofs.Words.{length-wordBytes}
 use Rattle.format.specs.Tables.{padTo, sameBytes}
 use Rattle.format.specs.Limits.{lawful, roomy}
+use Rattle.format.proofs.Bools.{T-true, true-T}
+use Rattle.format.proofs.IsLoaded.{same-equal, same-self as same-itself}
 use Rattle.format.proofs.Lawful.{lawful-roomy, roomy-parts}
 use Rattle.format.proofs.Spells.{length-padTo}
 use Rattle.tallies.specs.Layout.{tallySize, tallyWords, tallyBytes}
@@ -70,17 +71,10 @@ module _ (p : Plan) (fits : Fits p) (a : Assignment) where
   pub drop-fresh : (rest : List ℕ) → drop tallySize (tallyBytes (freshCount p a) ++ rest) ≡ rest
   drop-fresh rest = drop-at (tallyBytes (freshCount p a)) rest tallySize length-fresh
 
--- ---- the test of equal bytes
+-- ---- the test of equal bytes, by truth
 
 pub same-self : (xs : List ℕ) → T (sameBytes xs xs)
-unfolding sameBytes
-same-self [] = tt
-same-self (x ∷ xs) = and-both (eqb x x) (sameBytes xs xs) (eqb-refl x) (same-self xs)
+same-self xs = true-T (sameBytes xs xs) (same-itself xs)
 
 pub same-bytes : (xs ys : List ℕ) → T (sameBytes xs ys) → xs ≡ ys
-unfolding sameBytes
-same-bytes [] [] t = refl
-same-bytes [] (y ∷ ys) t = absurd t
-same-bytes (x ∷ xs) [] t = absurd t
-same-bytes (x ∷ xs) (y ∷ ys) t =
-    ap₂ _∷_ (eqb→eq x y (and-left (eqb x y) (sameBytes xs ys) t)) (same-bytes xs ys (and-right (eqb x y) (sameBytes xs ys) t))
+same-bytes xs ys t = same-equal xs ys (T-true (sameBytes xs ys) t)

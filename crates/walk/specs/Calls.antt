@@ -9,7 +9,7 @@ use lib.IntN.{pos}
 use lib.ListN.{length, drop, replicate}
 use Rattle.plpb.specs.Lists.{_and_, _or_}
 use Rattle.plpb.specs.Plan.{satisfies, cost}
-use Rattle.plpb.specs.Search.{Mode, linear, lbs, Settings, Reached, failed, reached, Ending, floor, ended, none, short-found, short-none, Answer, search}
+use Rattle.plpb.specs.Search.{Settings, Reached, failed, reached, Ending, floor, ended, none, short-found, short-none, Answer, search}
 use Rattle.format.specs.File.{refuse}
 use Rattle.format.specs.Tables.{tableSize, termSize, planOfTables, isLoaded}
 use Rattle.tallies.specs.Layout.{assignmentSize, tallySize, bitsOf, bitBytes}
