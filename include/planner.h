@@ -105,8 +105,8 @@ planner_counted planner_counts(const uint8_t *tables, size_t tables_length, cons
  * in thousandths; each call of the walk has so many tries of so many flips; mode 0 tightens linearly, 1 by LBS. numbers is a list of any
  * length, 32-bit and little-endian: the same plan, settings and list give the same answer. A last number of fewer than 4 bytes is not read.
  * 21 (a buffer other than numbers), 22, 11, 12, 13, 14; with a refusal every other field of the answer is 0.
- * Accepted: the answer is that of the walk. The first n bytes of assignment, n being the plan's number of variables, are the last find; with
- * no find they are as they were, and those beyond n are in any case. What the five work buffers hold at first does not matter; they end
+ * Accepted: the answer is that of the walk. With a find (ending 1, 2 or 4) the first n bytes of assignment, n being the plan's number of
+ * variables, are the last one found: it meets every clause, and cost is its cost. With none they are as they were; those beyond n always are. What the five work buffers hold at first does not matter; they end
  * filled with 0 up to the sizes above. Writes nothing else. */
 planner_searched planner_search(const uint8_t *tables, size_t tables_length, const uint8_t *terms, size_t terms_length, const uint8_t *numbers,
                                 size_t numbers_length, uint32_t noise, uint32_t tries, uint32_t flips, uint32_t mode, uint8_t *assignment,
