@@ -51,7 +51,7 @@ unfolding signedDecimal text
 signed-short (pos n) f = let s : n < 2 ^ 63 = f .sfits in omega (arith, twenty n (omega (arith, s)))
 signed-short (negsuc n) f = let s : n < 2 ^ 63 = f .sfits in omega (arith, twenty (suc n) (omega (arith, s)))
 
-pub result-short : (e : Ending) (v : ℤ) (finds flips used : ℕ) → SFits w64 v → finds < 2 ^ 64 → flips < 2 ^ 64 → used < 2 ^ 64 → length (resultLine e v finds flips used) ≤ 97
+result-short : (e : Ending) (v : ℤ) (finds flips used : ℕ) → SFits w64 v → finds < 2 ^ 64 → flips < 2 ^ 64 → used < 2 ^ 64 → length (resultLine e v finds flips used) ≤ 97
 result-short e v finds flips used f a b c =
     let a5 = endingWord e ++ (32 ∷ []) in
     let a4 = signedDecimal v ++ (32 ∷ []) in
@@ -106,7 +106,7 @@ module _ (n : ℕ) (entry : List ℕ) (room : n ≤ length entry) where
 module _ (s : Settings) (p : Plan) (ns : List ℕ) (entry exit : List ℕ) (room : p .variables ≤ length entry) (e : exit ≡ withFind (search s p ns .assignment) (p .variables) entry)
     (same : length exit ≡ length entry)
   where
-    pub second-told : assignmentLine (hasPlan (endingNumber (search s p ns .ending))) (p .variables) exit ≡ foundLine (search s p ns .assignment)
+    second-told : assignmentLine (hasPlan (endingNumber (search s p ns .ending))) (p .variables) exit ≡ foundLine (search s p ns .assignment)
     second-told =
         let o = search-sound s p ns in
         let some : hasPlan (endingNumber (search s p ns .ending)) ≡ not (isEmpty (findsOf s p ns)) = told (search s p ns .ending) ∙ ap not (o .none-found) in
