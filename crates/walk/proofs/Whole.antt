@@ -42,14 +42,14 @@ use Rattle.numbers.specs.Numbers.{numbersOf}
 use Rattle.numbers.proofs.Runs.{linear-none, linear-floor, lbs-none, lbs-floor, tighten-linear, tighten-lbs, search-none, search-found, search-short}
 use Rattle.tries.specs.declared.Tried.{Tried}
 use Rattle.tries.specs.declared.Tried.the-variants as tried
-use Rattle.walk.specs.declared.tightening.Stand.{Stand}
-use Rattle.walk.specs.declared.tightening.Ending.the-variants as code
-use Rattle.walk.specs.declared.tightening.Searched.{Searched}
+use Rattle.tighten.specs.declared.Stand.{Stand}
+use Rattle.tighten.specs.declared.Ending.the-variants as code
+use Rattle.tighten.specs.declared.Searched.{Searched}
 use Rattle.tries.specs.Steps.{modeOf, Work, Startable, Beyond, triedOf, usedBy, flipsBy, IfReached, Tries}
 use Rattle.walk.specs.Calls.{Asked, Lent, markSize, searchRefusal, settings, answer, withFind, searchAssignment, cleared, endingNumber, unless, Searches, hasPlan, HandsOut}
-use Rattle.walk.specs.Bounds.{basis, Bounded, Stands, Room, Leaves, answerOf, endingOf, Concludes}
+use Rattle.tighten.specs.Bounds.{basis, Bounded, Stands, Room, Leaves, answerOf, endingOf, Concludes}
 use Rattle.walk.specs.Whole.{Empty, Roomy, FirstFind, FromFind, Searchable, Whole}
-use Rattle.walk.proofs.Bounds.{bounded-basis, front-bits, front-areBits, front-beyond}
+use Rattle.tighten.proofs.Bounds.{bounded-basis, front-bits, front-areBits, front-beyond}
 use Rattle.walk.proofs.Refusing.{accepted}
 
 -- ---- a find copied out

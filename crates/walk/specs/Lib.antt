@@ -1,4 +1,3 @@
 -- What a search answers and leaves, for every lent byte; and what its parts do.
 pub mod Calls
-pub mod Bounds
 pub mod Whole

@@ -16,11 +16,11 @@ use Rattle.format.specs.Limits.{lawful}
 use Rattle.format.specs.Tables.{Holds, planOfTables, tableSize, termSize, isLoaded}
 use Rattle.tallies.specs.Layout.{assignmentSize, tallySize, bitsOf, areBits}
 use Rattle.numbers.specs.Numbers.{numbersOf}
-use Rattle.walk.specs.declared.tightening.Ending.{Ending as EndingOf}
-use Rattle.walk.specs.declared.tightening.Searched.{Searched}
+use Rattle.tighten.specs.declared.Ending.{Ending as EndingOf}
+use Rattle.tighten.specs.declared.Searched.{Searched}
 use Rattle.walk.specs.Calls.{markSize, withFind}
 use Rattle.tries.specs.Steps.{Work, Beyond, bitsIn}
-use Rattle.walk.specs.Bounds.{answerOf}
+use Rattle.tighten.specs.Bounds.{answerOf}
 
 -- Whether three tables have less room than the full limits need, and whether the work tables do.
 unfoldable pub tablesSmall : List ℕ → List ℕ → List ℕ → Bool

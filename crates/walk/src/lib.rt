@@ -1,4 +1,3 @@
-// The search: the tightening around the walk's calls, and the entry with its tests.
+// The search: the first call, the tightening from its find on, and the entry with its tests.
 pub mod lent;
 pub mod search;
-pub mod tightening;

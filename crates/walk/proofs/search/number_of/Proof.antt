@@ -2,7 +2,7 @@
 -- Assumes nothing.
 use borrow.Author.Needs.{needs}
 use Rattle.walk.specs.Calls.{endingNumber}
-use Rattle.walk.specs.Bounds.{endingOf}
+use Rattle.tighten.specs.Bounds.{endingOf}
 use Rattle.walk.proofs.search.number_of.Statement.{statement}
 use Rattle.walk.proofs.search.number_of.Tie as tie
 

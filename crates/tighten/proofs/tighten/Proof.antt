@@ -4,10 +4,10 @@ use borrow.Author.Needs.{needs}
 use mathlib.Core.Path.{_∙_, sym, ap}
 use mir.Facts.{toZ-ofZ}
 use Rattle.plpb.specs.Plan.{floorCost}
-use Rattle.walk.proofs.Bounds.{bounded-basis}
-use Rattle.walk.proofs.Concluding.{room-here, room-after, tightens-linear, tightens-lbs, lbs-answers, stopped-stands, failed-stands, lbs-then-linear}
-use Rattle.walk.proofs.tightening.tighten.Statement.{statement}
-use Rattle.walk.proofs.tightening.tighten.Tie as tie
+use Rattle.tighten.proofs.Bounds.{bounded-basis}
+use Rattle.tighten.proofs.Concluding.{room-here, room-after, tightens-linear, tightens-lbs, lbs-answers, stopped-stands, failed-stands, lbs-then-linear}
+use Rattle.tighten.proofs.tighten.Statement.{statement}
+use Rattle.tighten.proofs.tighten.Tie as tie
 
 returns : tie.Need-returns
 returns c =

@@ -2,9 +2,9 @@
 -- Assumes nothing.
 use borrow.Author.Needs.{needs}
 use mathlib.Core.Path.{refl}
-use Rattle.walk.specs.Bounds.{StoppedAt}
-use Rattle.walk.proofs.tightening.stopped.Statement.{statement}
-use Rattle.walk.proofs.tightening.stopped.Tie as tie
+use Rattle.tighten.specs.Bounds.{StoppedAt}
+use Rattle.tighten.proofs.stopped.Statement.{statement}
+use Rattle.tighten.proofs.stopped.Tie as tie
 
 returns : tie.Need-returns
 unfolding StoppedAt

@@ -5,10 +5,10 @@ use mathlib.Core.Path.{_∙_}
 use Rattle.plpb.specs.Search.{gap, lbsSearch}
 use Rattle.tallies.specs.Layout.{bitsOf}
 use Rattle.tries.specs.Steps.{settingsOf}
-use Rattle.walk.specs.Bounds.{basis}
-use Rattle.walk.proofs.Concluding.{cost-low, floor-low, test-above, test-floor, lbs-read, lbs-small, Since, since-first, room-here, stands-here, lbs-ends, lbs-falls, lbs-again, lbs-stops}
-use Rattle.walk.proofs.tightening.lbs.Statement.{statement}
-use Rattle.walk.proofs.tightening.lbs.Tie as tie
+use Rattle.tighten.specs.Bounds.{basis}
+use Rattle.tighten.proofs.Concluding.{cost-low, floor-low, test-above, test-floor, lbs-read, lbs-small, Since, since-first, room-here, stands-here, lbs-ends, lbs-falls, lbs-again, lbs-stops}
+use Rattle.tighten.proofs.lbs.Statement.{statement}
+use Rattle.tighten.proofs.lbs.Tie as tie
 
 abbrev Inv-loop : tie.InvT-loop
 Inv-loop tables₀ terms numbers s floor assignment₀ tried₀ tallies₀ marks₀ at₀ tables assignment tried tallies marks at =

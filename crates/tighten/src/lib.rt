@@ -11,7 +11,7 @@ ghost use Rattle.format.specs.Limits.{maxBound};
 ghost use Rattle.tallies.specs.Layout.{bitsOf};
 ghost use Rattle.objective.specs.Sums.{Summable, costIn, bits};
 ghost use Rattle.tries.specs.Steps.{settingsOf, modeOf};
-ghost use Rattle.walk.specs.Bounds.{basis, Room, Leaves, Stands, CallsUnder, LbsComes, Concludes, answerOf, standIn, StoppedAt};
+ghost use Rattle.tighten.specs.Bounds.{basis, Room, Leaves, Stands, CallsUnder, LbsComes, Concludes, answerOf, standIn, StoppedAt};
 use counting::tightening::lbs_bound;
 use counting::tightening::linear_bound;
 use objective::added::set_bound;

@@ -14,12 +14,12 @@ use Rattle.format.specs.Limits.{lawful, maxBound}
 use Rattle.format.specs.Tables.{Holds, planOfTables, tableSize}
 use Rattle.tallies.specs.Layout.{bitsOf, areBits}
 use Rattle.numbers.specs.Numbers.{numbersOf}
-use Rattle.walk.specs.declared.tightening.Stand.{Stand}
-use Rattle.walk.specs.declared.tightening.Called.{Called}
-use Rattle.walk.specs.declared.tightening.Called.the-variants as called
-use Rattle.walk.specs.declared.tightening.Ending.{Ending as EndingOf}
-use Rattle.walk.specs.declared.tightening.Ending.the-variants as code
-use Rattle.walk.specs.declared.tightening.Searched.{Searched}
+use Rattle.tighten.specs.declared.Stand.{Stand}
+use Rattle.tighten.specs.declared.Called.{Called}
+use Rattle.tighten.specs.declared.Called.the-variants as called
+use Rattle.tighten.specs.declared.Ending.{Ending as EndingOf}
+use Rattle.tighten.specs.declared.Ending.the-variants as code
+use Rattle.tighten.specs.declared.Searched.{Searched}
 use Rattle.tries.specs.Steps.{Work, Beyond}
 
 -- A plan without the added last clause.

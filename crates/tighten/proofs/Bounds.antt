@@ -34,10 +34,10 @@ use Rattle.tallies.proofs.Callers.{held-laid}
 use Rattle.numbers.specs.Numbers.{numbersOf}
 use Rattle.tries.specs.declared.Tried.{Tried}
 use Rattle.tries.specs.declared.Tried.the-variants as tried
-use Rattle.walk.specs.declared.tightening.Stand.{Stand}
-use Rattle.walk.specs.declared.tightening.Called.the-variants as called
+use Rattle.tighten.specs.declared.Stand.{Stand}
+use Rattle.tighten.specs.declared.Called.the-variants as called
 use Rattle.tries.specs.Steps.{Work, Startable, Beyond, triedOf, usedBy, flipsBy, IfReached, Finds, Tries}
-use Rattle.walk.specs.Bounds.{untightened, basis, Bounded, Stands, Room, Leaves, calledOf, standIn, FindOr, CallsUnder}
+use Rattle.tighten.specs.Bounds.{untightened, basis, Bounded, Stands, Room, Leaves, calledOf, standIn, FindOr, CallsUnder}
 
 -- ---- a plan with an added clause, and without it
 

@@ -30,16 +30,16 @@ use Rattle.objective.proofs.Costs.{floor-size, linear-within, lbs-within}
 use Rattle.tallies.specs.Layout.{bitsOf}
 use Rattle.numbers.specs.Numbers.{numbersOf}
 use Rattle.numbers.proofs.Runs.{linear-none, linear-floor, linear-ended, linear-found, linear-short, lbs-none, lbs-floor, lbs-linear, lbs-found, lbs-short, tighten-linear, tighten-lbs}
-use Rattle.walk.specs.declared.tightening.Stand.{Stand}
-use Rattle.walk.specs.declared.tightening.Called.{Called}
-use Rattle.walk.specs.declared.tightening.Called.the-variants as called
-use Rattle.walk.specs.declared.tightening.Ending.{Ending as EndingOf}
-use Rattle.walk.specs.declared.tightening.Ending.the-variants as code
-use Rattle.walk.specs.declared.tightening.Searched.{Searched}
-use Rattle.walk.proofs.tightening.Called.{the-type}
+use Rattle.tighten.specs.declared.Stand.{Stand}
+use Rattle.tighten.specs.declared.Called.{Called}
+use Rattle.tighten.specs.declared.Called.the-variants as called
+use Rattle.tighten.specs.declared.Ending.{Ending as EndingOf}
+use Rattle.tighten.specs.declared.Ending.the-variants as code
+use Rattle.tighten.specs.declared.Searched.{Searched}
+use Rattle.tighten.proofs.Called.{the-type}
 use Rattle.tries.specs.Steps.{modeOf, Work}
-use Rattle.walk.specs.Bounds.{basis, Bounded, Stands, Room, Leaves, calledOf, standIn, FindOr, CallsUnder, answerOf, endingOf, Concludes, LbsComes, StoppedAt}
-use Rattle.walk.proofs.Bounds.{bounded-basis, cost-small, cost-fits}
+use Rattle.tighten.specs.Bounds.{basis, Bounded, Stands, Room, Leaves, calledOf, standIn, FindOr, CallsUnder, answerOf, endingOf, Concludes, LbsComes, StoppedAt}
+use Rattle.tighten.proofs.Bounds.{bounded-basis, cost-small, cost-fits}
 
 -- ---- the loop's test
 

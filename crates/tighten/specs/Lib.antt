@@ -1,0 +1,2 @@
+-- What the tightening answers and leaves.
+pub mod Bounds
