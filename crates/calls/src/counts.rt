@@ -1,6 +1,6 @@
 // Counts: how many clauses of the expansion a variable's flip would spoil and mend.
 ghost use mathlib.Core.Path.{_≡_};
-ghost use Rattle.tallies.specs.Calls.{callRefusal, countsBreak, countsMake};
+ghost use Rattle.tallies.specs.Calls.{callRefusal, countsBreak, countsMake, lent};
 use crate::tests::call_refusal;
 use tallies::counts::counts_core;
 
@@ -11,9 +11,9 @@ pub struct Counted {
 }
 
 pub fn counts(tables: &[u8], terms: &[u8], assignment: &[u8], tallies: &[u8], x: u32) -> Counted
-    ensures { λ r. ⌜ r .refusal ≡ callRefusal (record { tables = now (tables .entry); terms = now (terms .entry); assignment = now (assignment .entry); tallies = now (tallies .entry) }) x ⌝ }
-    ensures { λ r. ⌜ r .breaks ≡ countsBreak (record { tables = now (tables .entry); terms = now (terms .entry); assignment = now (assignment .entry); tallies = now (tallies .entry) }) x ⌝ }
-    ensures { λ r. ⌜ r .makes ≡ countsMake (record { tables = now (tables .entry); terms = now (terms .entry); assignment = now (assignment .entry); tallies = now (tallies .entry) }) x ⌝ }
+    ensures { λ r. ⌜ r .refusal ≡ callRefusal (lent (now (tables .entry)) (now (terms .entry)) (now (assignment .entry)) (now (tallies .entry))) x ⌝ }
+    ensures { λ r. ⌜ r .breaks ≡ countsBreak (lent (now (tables .entry)) (now (terms .entry)) (now (assignment .entry)) (now (tallies .entry))) x ⌝ }
+    ensures { λ r. ⌜ r .makes ≡ countsMake (lent (now (tables .entry)) (now (terms .entry)) (now (assignment .entry)) (now (tallies .entry))) x ⌝ }
 {
     let refusal = call_refusal(tables, terms, assignment, tallies, x);
     if refusal != 0 {

@@ -3,7 +3,7 @@ ghost use mathlib.Core.Path.{_≡_};
 ghost use Prim.Native.Nat.{_≤_};
 ghost use lib.ListN.{length};
 ghost use Rattle.tallies.specs.Layout.{areBits};
-ghost use Rattle.tallies.specs.Calls.{tooSmall, openRefusal, callRefusal};
+ghost use Rattle.tallies.specs.Calls.{tooSmall, openRefusal, callRefusal, lent};
 use loaded::good;
 use tallies::fresh::fresh;
 use words::index;
@@ -11,12 +11,12 @@ use words::word;
 
 // Whether a buffer is smaller than the full limits need.
 fn too_small(tables: &[u8], terms: &[u8], assignment: &[u8], tallies: &[u8]) -> bool
-    ensures { λ r. ⌜ r ≡ tooSmall (record { tables = now (tables .entry); terms = now (terms .entry); assignment = now (assignment .entry); tallies = now (tallies .entry) }) ⌝ }
+    ensures { λ r. ⌜ r ≡ tooSmall (lent (now (tables .entry)) (now (terms .entry)) (now (assignment .entry)) (now (tallies .entry))) ⌝ }
 {
-    if tables.len() < 26668 {
+    if tables.len() < format::TABLES {
         return true;
     }
-    if terms.len() < 52096 {
+    if terms.len() < format::TERMS {
         return true;
     }
     if assignment.len() < 512 {
@@ -41,7 +41,7 @@ fn bits(assignment: &[u8], n: usize) -> bool
 }
 
 pub fn open_refusal(tables: &[u8], terms: &[u8], assignment: &[u8], tallies: &[u8]) -> u32
-    ensures { λ r. ⌜ r ≡ openRefusal (record { tables = now (tables .entry); terms = now (terms .entry); assignment = now (assignment .entry); tallies = now (tallies .entry) }) ⌝ }
+    ensures { λ r. ⌜ r ≡ openRefusal (lent (now (tables .entry)) (now (terms .entry)) (now (assignment .entry)) (now (tallies .entry))) ⌝ }
 {
     if too_small(tables, terms, assignment, tallies) {
         return 21;
@@ -56,7 +56,7 @@ pub fn open_refusal(tables: &[u8], terms: &[u8], assignment: &[u8], tallies: &[u
 }
 
 pub fn call_refusal(tables: &[u8], terms: &[u8], assignment: &[u8], tallies: &[u8], x: u32) -> u32
-    ensures { λ r. ⌜ r ≡ callRefusal (record { tables = now (tables .entry); terms = now (terms .entry); assignment = now (assignment .entry); tallies = now (tallies .entry) }) x ⌝ }
+    ensures { λ r. ⌜ r ≡ callRefusal (lent (now (tables .entry)) (now (terms .entry)) (now (assignment .entry)) (now (tallies .entry))) x ⌝ }
 {
     let refusal = open_refusal(tables, terms, assignment, tallies);
     if refusal != 0 {

@@ -69,9 +69,10 @@ pub struct Effect {
 
 fn effect_on(tables: &[u8], terms: &[u8], assignment: &[u8], r: usize, x: u32) -> Effect
     requires { ⌜ Ready (now tables) (now terms) (now assignment) × (r < wordAt (now tables) 2) ⌝ }
-    ensures { λ e. ⌜ EffectOf (lentBits (now (tables .entry)) (now (terms .entry)) (now (assignment .entry))) x (ruleOf (wordAt (now (tables .entry))) (wordAt (now (terms .entry))) r) e ⌝ }
+    ensures { λ e. ⌜ EffectOf (lentBits (now (tables .entry)) (now (terms .entry)) (now (assignment .entry))) x
+        (ruleOf (wordAt (now (tables .entry))) (wordAt (now (terms .entry))) r) e ⌝ }
 {
-    let s = read_state_from(tables, terms, assignment, 1542 + 5 * r, x);
+    let s = read_state_from(tables, terms, assignment, format::RULES + 5 * r, x);
     Effect {
         fails: false_after(s),
         spoils: spoils(s),
@@ -94,7 +95,9 @@ fn breaks_along(
     x: u32,
 ) -> bool
     requires { ⌜ Ready (now tables) (now terms) (now assignment) × (end ≤ wordAt (now tables) 2) ⌝ }
-    ensures { λ r. ⌜ r ≡ breaksAlong (lentBits (now (tables .entry)) (now (terms .entry)) (now (assignment .entry))) x false (map (ruleOf (wordAt (now (tables .entry))) (wordAt (now (terms .entry)))) (row first (end - first))) ⌝ }
+    ensures { λ r. ⌜ r
+        ≡ breaksAlong (lentBits (now (tables .entry)) (now (terms .entry)) (now (assignment .entry))) x false
+        (map (ruleOf (wordAt (now (tables .entry))) (wordAt (now (terms .entry)))) (row first (end - first))) ⌝ }
 {
     let mut spoilt = false;
     let mut r = first;
@@ -112,7 +115,10 @@ fn breaks_along(
 // A clause that does not name the variable is passed over: nothing of it changes.
 pub fn clause_breaks(tables: &[u8], terms: &[u8], assignment: &[u8], c: usize, x: u32) -> bool
     requires { ⌜ Ready (now tables) (now terms) (now assignment) × (c < wordAt (now tables) 1) ⌝ }
-    ensures { λ r. ⌜ r ≡ ltb 0 (clauseBreak (lentBits (now (tables .entry)) (now (terms .entry)) (now (assignment .entry))) x (clauseOf (wordAt (now (tables .entry))) (wordAt (now (terms .entry))) c)) ⌝ }
+    ensures { λ r. ⌜ r
+        ≡ ltb 0
+        (clauseBreak (lentBits (now (tables .entry)) (now (terms .entry)) (now (assignment .entry))) x
+        (clauseOf (wordAt (now (tables .entry))) (wordAt (now (terms .entry))) c)) ⌝ }
 {
     if !clause_names(tables, terms, c, x) {
         return false;

@@ -66,8 +66,16 @@ fn choose_least(
     n: usize,
     marks: &mut [u8],
 ) -> Chosen
-    requires { ⌜ Ready (now tables) (now terms) (now assignment) × (n ≡ planOfTables (now tables) (now terms) .variables) × ToChoose (now numbers) used n (now marks) ⌝ }
-    ensures { λ r. ⌜ Chooses (pickFrom 0 (withBreak (planOfTables (now (tables .entry)) (now (terms .entry))) (lentBits (now (tables .entry)) (now (terms .entry)) (now (assignment .entry))) (leastBreak (planOfTables (now (tables .entry)) (now (terms .entry))) (lentBits (now (tables .entry)) (now (terms .entry)) (now (assignment .entry))) (marked (now (marks .entry)) n 1)) (marked (now (marks .entry)) n 1))) (numbersOf (now (numbers .entry))) used n r × (drop n (now (marks .exit)) ≡ drop n (now (marks .entry))) ⌝ }
+    requires { ⌜ Ready (now tables) (now terms) (now assignment) × (n ≡ planOfTables (now tables) (now terms) .variables)
+        × ToChoose (now numbers) used n (now marks) ⌝ }
+    ensures { λ r. ⌜ Chooses
+        (pickFrom 0
+        (withBreak (planOfTables (now (tables .entry)) (now (terms .entry)))
+        (lentBits (now (tables .entry)) (now (terms .entry)) (now (assignment .entry)))
+        (leastBreak (planOfTables (now (tables .entry)) (now (terms .entry)))
+        (lentBits (now (tables .entry)) (now (terms .entry)) (now (assignment .entry))) (marked (now (marks .entry)) n 1))
+        (marked (now (marks .entry)) n 1))) (numbersOf (now (numbers .entry))) used n r
+        × (drop n (now (marks .exit)) ≡ drop n (now (marks .entry))) ⌝ }
 {
     let few = mark_least(tables, terms, assignment, marks);
     pick_marked(numbers, used, marks, n, 2, few)
@@ -90,8 +98,13 @@ fn choose_noisy(
     n: usize,
     marks: &mut [u8],
 ) -> Chosen
-    requires { ⌜ Ready (now tables) (now terms) (now assignment) × (n ≡ planOfTables (now tables) (now terms) .variables) × ToChoose (now numbers) used n (now marks) ⌝ }
-    ensures { λ r. ⌜ Chooses (noisyChoice (planOfTables (now (tables .entry)) (now (terms .entry))) noise (lentBits (now (tables .entry)) (now (terms .entry)) (now (assignment .entry))) (marked (now (marks .entry)) n 1)) (numbersOf (now (numbers .entry))) used n r × (drop n (now (marks .exit)) ≡ drop n (now (marks .entry))) ⌝ }
+    requires { ⌜ Ready (now tables) (now terms) (now assignment) × (n ≡ planOfTables (now tables) (now terms) .variables)
+        × ToChoose (now numbers) used n (now marks) ⌝ }
+    ensures { λ r. ⌜ Chooses
+        (noisyChoice (planOfTables (now (tables .entry)) (now (terms .entry))) noise
+        (lentBits (now (tables .entry)) (now (terms .entry)) (now (assignment .entry))) (marked (now (marks .entry)) n 1))
+        (numbersOf (now (numbers .entry))) used n r
+        × (drop n (now (marks .exit)) ≡ drop n (now (marks .entry))) ⌝ }
 {
     let p = pick(numbers, used, 1000);
     match p {
@@ -117,8 +130,15 @@ pub fn choose(
     c: usize,
     marks: &mut [u8],
 ) -> Chosen
-    requires { ⌜ Ready (now tables) (now terms) (now assignment) × Ready (now tables) (now terms) (now marks) × (c < wordAt (now tables) 1) × (used ≤ length (now numbers) / 4) ⌝ }
-    ensures { λ r. ⌜ Chooses (choice (planOfTables (now (tables .entry)) (now (terms .entry))) noise (lentBits (now (tables .entry)) (now (terms .entry)) (now (assignment .entry))) (getD (planOfTables (now (tables .entry)) (now (terms .entry)) .clauses) c [])) (numbersOf (now (numbers .entry))) used (planOfTables (now (tables .entry)) (now (terms .entry)) .variables) r × (drop (planOfTables (now (tables .entry)) (now (terms .entry)) .variables) (now (marks .exit)) ≡ drop (planOfTables (now (tables .entry)) (now (terms .entry)) .variables) (now (marks .entry))) ⌝ }
+    requires { ⌜ Ready (now tables) (now terms) (now assignment) × Ready (now tables) (now terms) (now marks) × (c < wordAt (now tables) 1)
+        × (used ≤ length (now numbers) / 4) ⌝ }
+    ensures { λ r. ⌜ Chooses
+        (choice (planOfTables (now (tables .entry)) (now (terms .entry))) noise
+        (lentBits (now (tables .entry)) (now (terms .entry)) (now (assignment .entry)))
+        (getD (planOfTables (now (tables .entry)) (now (terms .entry)) .clauses) c [])) (numbersOf (now (numbers .entry))) used
+        (planOfTables (now (tables .entry)) (now (terms .entry)) .variables) r
+        × (drop (planOfTables (now (tables .entry)) (now (terms .entry)) .variables) (now (marks .exit))
+        ≡ drop (planOfTables (now (tables .entry)) (now (terms .entry)) .variables) (now (marks .entry))) ⌝ }
 {
     let n = index(tables, 0);
     mark_clause(tables, terms, c, marks);

@@ -15,6 +15,7 @@ ghost use Rattle.tallies.specs.Core.{Ready};
 ghost use Rattle.choice.specs.Breaks.{lentBits, spoilsPart};
 ghost use Rattle.choice.specs.Marks.{Written, hasBreak, parting};
 ghost use Rattle.choice.specs.Free.{raising, lowerIf, Lowered, spoilsBy, spoilsAt, breaksAt};
+ghost use Rattle.format.specs.Layout.{clauseCount, clauseFirst, ruleFirst, tableSize};
 use crate::breaks::clause_breaks;
 use crate::breaks::spoils;
 use crate::marks::variable_at;
@@ -61,7 +62,8 @@ fn spoilt_mark(s: State, terms: &[u8], assignment: &[u8], i: usize, mark: u8) ->
 
 fn lower_term(s: State, terms: &[u8], assignment: &[u8], i: usize, marks: &mut [u8])
     requires { ⌜ TermReadable (now terms) (now assignment) i × TermReadable (now terms) (now marks) i ⌝ }
-    ensures { λ _. ⌜ Lowered (λ x. spoilsAt (bitsIn (now (assignment .entry))) s x (termOf (wordAt (now (terms .entry))) i)) (now (marks .entry)) (now (marks .exit)) ⌝ }
+    ensures { λ _. ⌜ Lowered (λ x. spoilsAt (bitsIn (now (assignment .entry))) s x (termOf (wordAt (now (terms .entry))) i)) (now (marks .entry))
+        (now (marks .exit)) ⌝ }
 {
     let place = index(terms, 2 * i) - 1;
     marks[place] = spoilt_mark(s, terms, assignment, i, marks[place]);
@@ -76,7 +78,8 @@ fn lower_terms(
     marks: &mut [u8],
 )
     requires { ⌜ Readable (now terms) (now assignment) first count × Readable (now terms) (now marks) first count ⌝ }
-    ensures { λ _. ⌜ Lowered (λ x. any (spoilsAt (bitsIn (now (assignment .entry))) s x) (termsAt (wordAt (now (terms .entry))) first count)) (now (marks .entry)) (now (marks .exit)) ⌝ }
+    ensures { λ _. ⌜ Lowered (λ x. any (spoilsAt (bitsIn (now (assignment .entry))) s x) (termsAt (wordAt (now (terms .entry))) first count))
+        (now (marks .entry)) (now (marks .exit)) ⌝ }
 {
     let end = first + count;
     let mut i = first;
@@ -89,11 +92,13 @@ fn lower_terms(
 // A clause of one rule: it breaks where a part of the rule is spoiled, so its sums are worked out once for all its variables.
 fn lower_single(tables: &[u8], terms: &[u8], assignment: &[u8], r: usize, marks: &mut [u8])
     requires { ⌜ Ready (now tables) (now terms) (now assignment) × Ready (now tables) (now terms) (now marks) × (r < wordAt (now tables) 2) ⌝ }
-    ensures { λ _. ⌜ Lowered (λ x. spoilsPart (lentBits (now (tables .entry)) (now (terms .entry)) (now (assignment .entry))) x (ruleOf (wordAt (now (tables .entry))) (wordAt (now (terms .entry))) r)) (now (marks .entry)) (now (marks .exit)) ⌝ }
+    ensures { λ _. ⌜ Lowered
+        (λ x. spoilsPart (lentBits (now (tables .entry)) (now (terms .entry)) (now (assignment .entry))) x
+        (ruleOf (wordAt (now (tables .entry))) (wordAt (now (terms .entry))) r)) (now (marks .entry)) (now (marks .exit)) ⌝ }
 {
-    let s = read_state(tables, terms, assignment, 1542 + 5 * r);
-    let first = index(tables, 1542 + 5 * r);
-    let count = index(tables, 1543 + 5 * r);
+    let s = read_state(tables, terms, assignment, format::RULES + 5 * r);
+    let first = index(tables, format::RULES + 5 * r);
+    let count = index(tables, format::RULE_COUNT + 5 * r);
     lower_terms(s, terms, assignment, first, count, marks);
 }
 
@@ -115,7 +120,8 @@ fn broken_mark(tables: &[u8], terms: &[u8], assignment: &[u8], c: usize, x: u32,
 // Variable by variable.
 fn lower_all(tables: &[u8], terms: &[u8], assignment: &[u8], c: usize, n: usize, marks: &mut [u8])
     requires { ⌜ Ready (now tables) (now terms) (now assignment) × (c < wordAt (now tables) 1) × (n ≤ 512) × (n ≤ length (now marks)) ⌝ }
-    ensures { λ _. ⌜ Written (λ x. lowerIf (breaksAt (now (tables .entry)) (now (terms .entry)) (now (assignment .entry)) c x)) n (now (marks .entry)) (now (marks .exit)) ⌝ }
+    ensures { λ _. ⌜ Written (λ x. lowerIf (breaksAt (now (tables .entry)) (now (terms .entry)) (now (assignment .entry)) c x)) n (now (marks .entry))
+        (now (marks .exit)) ⌝ }
 {
     let mut i = 0;
     while i < n {
@@ -127,7 +133,9 @@ fn lower_all(tables: &[u8], terms: &[u8], assignment: &[u8], c: usize, n: usize,
 // Term by term and rule by rule.
 fn lower_named(tables: &[u8], terms: &[u8], assignment: &[u8], c: usize, i: usize, marks: &mut [u8])
     requires { ⌜ Ready (now tables) (now terms) (now assignment) × (c < wordAt (now tables) 1) × TermReadable (now terms) (now marks) i ⌝ }
-    ensures { λ _. ⌜ Lowered (λ x. eqb (termOf (wordAt (now (terms .entry))) i .variable) x and breaksAt (now (tables .entry)) (now (terms .entry)) (now (assignment .entry)) c x) (now (marks .entry)) (now (marks .exit)) ⌝ }
+    ensures { λ _. ⌜ Lowered
+        (λ x. eqb (termOf (wordAt (now (terms .entry))) i .variable) x and breaksAt (now (tables .entry)) (now (terms .entry)) (now (assignment .entry)) c x)
+        (now (marks .entry)) (now (marks .exit)) ⌝ }
 {
     let x = word(terms, 2 * i);
     let place = index(terms, 2 * i) - 1;
@@ -144,7 +152,9 @@ fn lower_run(
     marks: &mut [u8],
 )
     requires { ⌜ Ready (now tables) (now terms) (now assignment) × (c < wordAt (now tables) 1) × Readable (now terms) (now marks) first count ⌝ }
-    ensures { λ _. ⌜ Lowered (λ x. any (λ t. eqb (t .variable) x and breaksAt (now (tables .entry)) (now (terms .entry)) (now (assignment .entry)) c x) (termsAt (wordAt (now (terms .entry))) first count)) (now (marks .entry)) (now (marks .exit)) ⌝ }
+    ensures { λ _. ⌜ Lowered
+        (λ x. any (λ t. eqb (t .variable) x and breaksAt (now (tables .entry)) (now (terms .entry)) (now (assignment .entry)) c x)
+        (termsAt (wordAt (now (terms .entry))) first count)) (now (marks .entry)) (now (marks .exit)) ⌝ }
 {
     let end = first + count;
     let mut i = first;
@@ -155,11 +165,14 @@ fn lower_run(
 }
 
 fn lower_rule(tables: &[u8], terms: &[u8], assignment: &[u8], c: usize, r: usize, marks: &mut [u8])
-    requires { ⌜ Ready (now tables) (now terms) (now assignment) × (c < wordAt (now tables) 1) × Ready (now tables) (now terms) (now marks) × (r < wordAt (now tables) 2) ⌝ }
-    ensures { λ _. ⌜ Lowered (λ x. namedIn x (ruleOf (wordAt (now (tables .entry))) (wordAt (now (terms .entry))) r .terms) and breaksAt (now (tables .entry)) (now (terms .entry)) (now (assignment .entry)) c x) (now (marks .entry)) (now (marks .exit)) ⌝ }
+    requires { ⌜ Ready (now tables) (now terms) (now assignment) × (c < wordAt (now tables) 1) × Ready (now tables) (now terms) (now marks)
+        × (r < wordAt (now tables) 2) ⌝ }
+    ensures { λ _. ⌜ Lowered
+        (λ x. namedIn x (ruleOf (wordAt (now (tables .entry))) (wordAt (now (terms .entry))) r .terms) and breaksAt (now (tables .entry))
+        (now (terms .entry)) (now (assignment .entry)) c x) (now (marks .entry)) (now (marks .exit)) ⌝ }
 {
-    let first = index(tables, 1542 + 5 * r);
-    let count = index(tables, 1543 + 5 * r);
+    let first = index(tables, format::RULES + 5 * r);
+    let count = index(tables, format::RULE_COUNT + 5 * r);
     lower_run(tables, terms, assignment, c, first, count, marks);
 }
 
@@ -172,8 +185,12 @@ fn lower_rules(
     end: usize,
     marks: &mut [u8],
 )
-    requires { ⌜ Ready (now tables) (now terms) (now assignment) × (c < wordAt (now tables) 1) × Ready (now tables) (now terms) (now marks) × (end ≤ wordAt (now tables) 2) ⌝ }
-    ensures { λ _. ⌜ Lowered (λ x. any (λ q. namedIn x (q .terms) and breaksAt (now (tables .entry)) (now (terms .entry)) (now (assignment .entry)) c x) (map (ruleOf (wordAt (now (tables .entry))) (wordAt (now (terms .entry)))) (row first (end - first)))) (now (marks .entry)) (now (marks .exit)) ⌝ }
+    requires { ⌜ Ready (now tables) (now terms) (now assignment) × (c < wordAt (now tables) 1) × Ready (now tables) (now terms) (now marks)
+        × (end ≤ wordAt (now tables) 2) ⌝ }
+    ensures { λ _. ⌜ Lowered
+        (λ x. any (λ q. namedIn x (q .terms) and breaksAt (now (tables .entry)) (now (terms .entry)) (now (assignment .entry)) c x)
+        (map (ruleOf (wordAt (now (tables .entry))) (wordAt (now (terms .entry)))) (row first (end - first)))) (now (marks .entry))
+        (now (marks .exit)) ⌝ }
 {
     let mut r = first;
     while r < end {
@@ -191,11 +208,13 @@ fn is_short(from: u32, last: u32, count: u32, n: u32) -> bool
 
 // Whether the rules of a clause have fewer terms than there are variables: the terms of rules stand one after another.
 fn has_few_terms(tables: &[u8], first: usize, end: usize) -> bool
-    requires { ⌜ (26668 ≤ length (now tables)) × (first < 1025) × (end ≤ 1025) ⌝ }
-    ensures { λ r. ⌜ r ≡ ltb (wordAt (now (tables .entry)) (1537 + 5 * end) + wordAt (now (tables .entry)) (1538 + 5 * end)) (wordAt (now (tables .entry)) (1542 + 5 * first) + wordAt (now (tables .entry)) 0) ⌝ }
+    requires { ⌜ (tableSize ≤ length (now tables)) × (first < 1025) × (end ≤ 1025) ⌝ }
+    ensures { λ r. ⌜ r
+        ≡ ltb (wordAt (now (tables .entry)) (1537 + 5 * end) + wordAt (now (tables .entry)) (1538 + 5 * end))
+        (wordAt (now (tables .entry)) (ruleFirst first) + wordAt (now (tables .entry)) 0) ⌝ }
 {
     is_short(
-        word(tables, 1542 + 5 * first),
+        word(tables, format::RULES + 5 * first),
         word(tables, 1537 + 5 * end),
         word(tables, 1538 + 5 * end),
         word(tables, 0),
@@ -212,7 +231,8 @@ fn lower_several(
     end: usize,
     marks: &mut [u8],
 )
-    requires { ⌜ Ready (now tables) (now terms) (now assignment) × (c < wordAt (now tables) 1) × Ready (now tables) (now terms) (now marks) × (first ≡ wordAt (now tables) (516 + 2 * c)) × (end ≡ wordAt (now tables) (516 + 2 * c) + wordAt (now tables) (517 + 2 * c)) ⌝ }
+    requires { ⌜ Ready (now tables) (now terms) (now assignment) × (c < wordAt (now tables) 1) × Ready (now tables) (now terms) (now marks)
+        × (first ≡ wordAt (now tables) (clauseFirst c)) × (end ≡ wordAt (now tables) (clauseFirst c) + wordAt (now tables) (clauseCount c)) ⌝ }
     ensures { λ _. ⌜ Lowered (breaksAt (now (tables .entry)) (now (terms .entry)) (now (assignment .entry)) c) (now (marks .entry)) (now (marks .exit)) ⌝ }
 {
     if has_few_terms(tables, first, end) {
@@ -238,7 +258,9 @@ fn lower_clause(tables: &[u8], terms: &[u8], assignment: &[u8], c: usize, marks:
 
 fn lower_clauses(tables: &[u8], terms: &[u8], assignment: &[u8], clauses: usize, marks: &mut [u8])
     requires { ⌜ Ready (now tables) (now terms) (now assignment) × Ready (now tables) (now terms) (now marks) × (clauses ≤ wordAt (now tables) 1) ⌝ }
-    ensures { λ _. ⌜ Lowered (λ x. any (λ q. ltb 0 (clauseBreak (lentBits (now (tables .entry)) (now (terms .entry)) (now (assignment .entry))) x q)) (map (clauseOf (wordAt (now (tables .entry))) (wordAt (now (terms .entry)))) (row 0 clauses))) (now (marks .entry)) (now (marks .exit)) ⌝ }
+    ensures { λ _. ⌜ Lowered
+        (λ x. any (λ q. ltb 0 (clauseBreak (lentBits (now (tables .entry)) (now (terms .entry)) (now (assignment .entry))) x q))
+        (map (clauseOf (wordAt (now (tables .entry))) (wordAt (now (terms .entry)))) (row 0 clauses))) (now (marks .entry)) (now (marks .exit)) ⌝ }
 {
     let mut c = 0;
     while c < clauses {
@@ -249,8 +271,12 @@ fn lower_clauses(tables: &[u8], terms: &[u8], assignment: &[u8], clauses: usize,
 
 // A mark 1 becomes 2 where the variable's flip breaks nothing, and stays where it breaks something; any other becomes 0.
 pub fn free_marks(tables: &[u8], terms: &[u8], assignment: &[u8], n: usize, marks: &mut [u8])
-    requires { ⌜ Ready (now tables) (now terms) (now assignment) × Ready (now tables) (now terms) (now marks) × (n ≡ planOfTables (now tables) (now terms) .variables) ⌝ }
-    ensures { λ _. ⌜ Written (parting (hasBreak (planOfTables (now (tables .entry)) (now (terms .entry))) (lentBits (now (tables .entry)) (now (terms .entry)) (now (assignment .entry))) 0)) n (now (marks .entry)) (now (marks .exit)) ⌝ }
+    requires { ⌜ Ready (now tables) (now terms) (now assignment) × Ready (now tables) (now terms) (now marks)
+        × (n ≡ planOfTables (now tables) (now terms) .variables) ⌝ }
+    ensures { λ _. ⌜ Written
+        (parting
+        (hasBreak (planOfTables (now (tables .entry)) (now (terms .entry)))
+        (lentBits (now (tables .entry)) (now (terms .entry)) (now (assignment .entry))) 0)) n (now (marks .entry)) (now (marks .exit)) ⌝ }
 {
     raise_marks(marks, n);
     let clauses = index(tables, 1);

@@ -37,16 +37,18 @@ fn mark_terms(terms: &[u8], first: usize, count: usize, marks: &mut [u8])
 
 fn mark_rule(tables: &[u8], terms: &[u8], r: usize, marks: &mut [u8])
     requires { ⌜ Ready (now tables) (now terms) (now marks) × (r < wordAt (now tables) 2) ⌝ }
-    ensures { λ _. ⌜ now (marks .exit) ≡ markTerms (ruleOf (wordAt (now (tables .entry))) (wordAt (now (terms .entry))) r .terms) (now (marks .entry)) ⌝ }
+    ensures { λ _. ⌜ now (marks .exit)
+        ≡ markTerms (ruleOf (wordAt (now (tables .entry))) (wordAt (now (terms .entry))) r .terms) (now (marks .entry)) ⌝ }
 {
-    let first = index(tables, 1542 + 5 * r);
-    let count = index(tables, 1543 + 5 * r);
+    let first = index(tables, format::RULES + 5 * r);
+    let count = index(tables, format::RULE_COUNT + 5 * r);
     mark_terms(terms, first, count, marks);
 }
 
 fn mark_rules(tables: &[u8], terms: &[u8], first: usize, end: usize, marks: &mut [u8])
     requires { ⌜ Ready (now tables) (now terms) (now marks) × (end ≤ wordAt (now tables) 2) ⌝ }
-    ensures { λ _. ⌜ now (marks .exit) ≡ markRules (map (ruleOf (wordAt (now (tables .entry))) (wordAt (now (terms .entry)))) (row first (end - first))) (now (marks .entry)) ⌝ }
+    ensures { λ _. ⌜ now (marks .exit)
+        ≡ markRules (map (ruleOf (wordAt (now (tables .entry))) (wordAt (now (terms .entry)))) (row first (end - first))) (now (marks .entry)) ⌝ }
 {
     let mut r = first;
     while r < end {
@@ -58,7 +60,10 @@ fn mark_rules(tables: &[u8], terms: &[u8], first: usize, end: usize, marks: &mut
 // Marks the variables that a clause names with 1 and the others with 0: each once, however many of its rules name it.
 pub fn mark_clause(tables: &[u8], terms: &[u8], c: usize, marks: &mut [u8])
     requires { ⌜ Ready (now tables) (now terms) (now marks) × (c < wordAt (now tables) 1) ⌝ }
-    ensures { λ _. ⌜ now (marks .exit) ≡ clauseMarks (getD (planOfTables (now (tables .entry)) (now (terms .entry)) .clauses) c []) (planOfTables (now (tables .entry)) (now (terms .entry)) .variables) ++ drop (planOfTables (now (tables .entry)) (now (terms .entry)) .variables) (now (marks .entry)) ⌝ }
+    ensures { λ _. ⌜ now (marks .exit)
+        ≡ clauseMarks (getD (planOfTables (now (tables .entry)) (now (terms .entry)) .clauses) c [])
+        (planOfTables (now (tables .entry)) (now (terms .entry)) .variables) ++ drop (planOfTables (now (tables .entry)) (now (terms .entry)) .variables)
+        (now (marks .entry)) ⌝ }
 {
     let n = index(tables, 0);
     clear(&mut marks[..n]);
@@ -77,7 +82,9 @@ pub fn variable_at(place: usize) -> u32
 // Among the variables marked 1, those with break count 0 become marked 2; how many they are.
 pub fn mark_free(tables: &[u8], terms: &[u8], assignment: &[u8], marks: &mut [u8]) -> usize
     requires { ⌜ Ready (now tables) (now terms) (now assignment) × Ready (now tables) (now terms) (now marks) ⌝ }
-    ensures { λ r. ⌜ Parted (planOfTables (now (tables .entry)) (now (terms .entry)) .variables) (hasBreak (planOfTables (now (tables .entry)) (now (terms .entry))) (lentBits (now (tables .entry)) (now (terms .entry)) (now (assignment .entry))) 0) (now (marks .entry)) (now (marks .exit)) r ⌝ }
+    ensures { λ r. ⌜ Parted (planOfTables (now (tables .entry)) (now (terms .entry)) .variables)
+        (hasBreak (planOfTables (now (tables .entry)) (now (terms .entry))) (lentBits (now (tables .entry)) (now (terms .entry)) (now (assignment .entry))) 0)
+        (now (marks .entry)) (now (marks .exit)) r ⌝ }
 {
     let n = index(tables, 0);
     free_marks(tables, terms, assignment, n, marks);
@@ -87,7 +94,9 @@ pub fn mark_free(tables: &[u8], terms: &[u8], assignment: &[u8], marks: &mut [u8
 // The exact count, where the least is asked for.
 fn break_count(tables: &[u8], terms: &[u8], assignment: &[u8], place: usize) -> u32
     requires { ⌜ Ready (now tables) (now terms) (now assignment) × (place < planOfTables (now tables) (now terms) .variables) ⌝ }
-    ensures { λ r. ⌜ r ≡ cappedBreak (planOfTables (now (tables .entry)) (now (terms .entry))) (lentBits (now (tables .entry)) (now (terms .entry)) (now (assignment .entry))) (place + 1) ⌝ }
+    ensures { λ r. ⌜ r
+        ≡ cappedBreak (planOfTables (now (tables .entry)) (now (terms .entry)))
+        (lentBits (now (tables .entry)) (now (terms .entry)) (now (assignment .entry))) (place + 1) ⌝ }
 {
     let counts = counts_core(tables, terms, assignment, variable_at(place));
     counts.breaks.value
@@ -120,8 +129,13 @@ fn least_mark(
     place: usize,
     marks: &mut [u8],
 ) -> u32
-    requires { ⌜ Ready (now tables) (now terms) (now assignment) × (place < planOfTables (now tables) (now terms) .variables) × (place < length (now marks)) ⌝ }
-    ensures { λ r. ⌜ ((s : List ℕ) → LeastSoFar (planOfTables (now (tables .entry)) (now (terms .entry))) (lentBits (now (tables .entry)) (now (terms .entry)) (now (assignment .entry))) place least s (now (marks .entry)) → LeastSoFar (planOfTables (now (tables .entry)) (now (terms .entry))) (lentBits (now (tables .entry)) (now (terms .entry)) (now (assignment .entry))) (place + 1) r s (now (marks .exit))) ⌝ }
+    requires { ⌜ Ready (now tables) (now terms) (now assignment) × (place < planOfTables (now tables) (now terms) .variables)
+        × (place < length (now marks)) ⌝ }
+    ensures { λ r. ⌜ ((s : List ℕ)
+        → LeastSoFar (planOfTables (now (tables .entry)) (now (terms .entry)))
+        (lentBits (now (tables .entry)) (now (terms .entry)) (now (assignment .entry))) place least s (now (marks .entry))
+        → LeastSoFar (planOfTables (now (tables .entry)) (now (terms .entry)))
+        (lentBits (now (tables .entry)) (now (terms .entry)) (now (assignment .entry))) (place + 1) r s (now (marks .exit))) ⌝ }
 {
     if marks[place] != 1 {
         marks[place] = 0;
@@ -141,8 +155,16 @@ fn least_mark(
 }
 
 fn least_marks(tables: &[u8], terms: &[u8], assignment: &[u8], n: usize, marks: &mut [u8])
-    requires { ⌜ Ready (now tables) (now terms) (now assignment) × (n ≡ planOfTables (now tables) (now terms) .variables) × (n ≤ length (now marks)) ⌝ }
-    ensures { λ _. ⌜ Written (parting (hasBreak (planOfTables (now (tables .entry)) (now (terms .entry))) (lentBits (now (tables .entry)) (now (terms .entry)) (now (assignment .entry))) (leastBreak (planOfTables (now (tables .entry)) (now (terms .entry))) (lentBits (now (tables .entry)) (now (terms .entry)) (now (assignment .entry))) (marked (now (marks .entry)) (planOfTables (now (tables .entry)) (now (terms .entry)) .variables) 1)))) n (now (marks .entry)) (now (marks .exit)) ⌝ }
+    requires { ⌜ Ready (now tables) (now terms) (now assignment) × (n ≡ planOfTables (now tables) (now terms) .variables)
+        × (n ≤ length (now marks)) ⌝ }
+    ensures { λ _. ⌜ Written
+        (parting
+        (hasBreak (planOfTables (now (tables .entry)) (now (terms .entry)))
+        (lentBits (now (tables .entry)) (now (terms .entry)) (now (assignment .entry)))
+        (leastBreak (planOfTables (now (tables .entry)) (now (terms .entry)))
+        (lentBits (now (tables .entry)) (now (terms .entry)) (now (assignment .entry)))
+        (marked (now (marks .entry)) (planOfTables (now (tables .entry)) (now (terms .entry)) .variables) 1)))) n (now (marks .entry))
+        (now (marks .exit)) ⌝ }
 {
     let mut least = Count::CAP.value;
     let mut i = 0;
@@ -155,7 +177,12 @@ fn least_marks(tables: &[u8], terms: &[u8], assignment: &[u8], n: usize, marks: 
 // Among the variables marked 1, those with the least break count become marked 2; how many they are. Each count is worked out once.
 pub fn mark_least(tables: &[u8], terms: &[u8], assignment: &[u8], marks: &mut [u8]) -> usize
     requires { ⌜ Ready (now tables) (now terms) (now assignment) × Ready (now tables) (now terms) (now marks) ⌝ }
-    ensures { λ r. ⌜ Parted (planOfTables (now (tables .entry)) (now (terms .entry)) .variables) (hasBreak (planOfTables (now (tables .entry)) (now (terms .entry))) (lentBits (now (tables .entry)) (now (terms .entry)) (now (assignment .entry))) (leastBreak (planOfTables (now (tables .entry)) (now (terms .entry))) (lentBits (now (tables .entry)) (now (terms .entry)) (now (assignment .entry))) (marked (now (marks .entry)) (planOfTables (now (tables .entry)) (now (terms .entry)) .variables) 1))) (now (marks .entry)) (now (marks .exit)) r ⌝ }
+    ensures { λ r. ⌜ Parted (planOfTables (now (tables .entry)) (now (terms .entry)) .variables)
+        (hasBreak (planOfTables (now (tables .entry)) (now (terms .entry))) (lentBits (now (tables .entry)) (now (terms .entry)) (now (assignment .entry)))
+        (leastBreak (planOfTables (now (tables .entry)) (now (terms .entry)))
+        (lentBits (now (tables .entry)) (now (terms .entry)) (now (assignment .entry)))
+        (marked (now (marks .entry)) (planOfTables (now (tables .entry)) (now (terms .entry)) .variables) 1))) (now (marks .entry))
+        (now (marks .exit)) r ⌝ }
 {
     let n = index(tables, 0);
     least_marks(tables, terms, assignment, n, marks);

@@ -60,7 +60,8 @@ fn put_decimal(out: &mut [u8], at: usize, n: u64) -> usize
 // A number of 20 digits at most, and what ends it. Answers the next place.
 fn put_number(out: &mut [u8], at: usize, n: u64, end: u8) -> usize
     requires { ⌜ at + 21 ≤ length (now out) ⌝ }
-    ensures { λ r. ⌜ (now (out .exit) ≡ put at (decimal n ++ (end ∷ [])) (now (out .entry))) × (r ≡ at + length (decimal n ++ (end ∷ []))) × (r ≤ at + 21) ⌝ }
+    ensures { λ r. ⌜ (now (out .exit) ≡ put at (decimal n ++ (end ∷ [])) (now (out .entry))) × (r ≡ at + length (decimal n ++ (end ∷ [])))
+        × (r ≤ at + 21) ⌝ }
 {
     let last = put_decimal(out, at, n);
     out[last] = end;
@@ -80,7 +81,8 @@ fn size(v: i64) -> u64
 
 fn put_signed(out: &mut [u8], at: usize, v: i64, end: u8) -> usize
     requires { ⌜ at + 22 ≤ length (now out) ⌝ }
-    ensures { λ r. ⌜ (now (out .exit) ≡ put at (signedDecimal v ++ (end ∷ [])) (now (out .entry))) × (r ≡ at + length (signedDecimal v ++ (end ∷ []))) × (r ≤ at + 22) ⌝ }
+    ensures { λ r. ⌜ (now (out .exit) ≡ put at (signedDecimal v ++ (end ∷ [])) (now (out .entry)))
+        × (r ≡ at + length (signedDecimal v ++ (end ∷ []))) × (r ≤ at + 22) ⌝ }
 {
     let n = size(v);
     if v < 0 {
@@ -134,7 +136,8 @@ fn bit_digit(b: u8) -> u8
 
 fn put_bits(out: &mut [u8], assignment: &[u8], n: usize)
     requires { ⌜ (n ≤ length (now assignment)) × (n ≤ length (now out)) ⌝ }
-    ensures { λ _. ⌜ now (out .exit) ≡ front (map (λ b. cond (eqb b 0) (digitOf 0) (digitOf 1)) (take n (now (assignment .entry)))) (now (out .entry)) ⌝ }
+    ensures { λ _. ⌜ now (out .exit)
+        ≡ front (map (λ b. cond (eqb b 0) (digitOf 0) (digitOf 1)) (take n (now (assignment .entry)))) (now (out .entry)) ⌝ }
 {
     let mut i = 0;
     while i < n {

@@ -2,4 +2,5 @@
 pub mod Limits
 pub mod File
 pub mod Writer
+pub mod Layout
 pub mod Tables

@@ -14,6 +14,8 @@ use Rattle.plpb.specs.Tallies.{rulesOf}
 use Rattle.words.specs.Words.{wordBytes, wordAt, signed, unsigned}
 use Rattle.format.specs.Limits.{termCount, lawful}
 use Rattle.format.specs.File.{accepted, read, boundOf}
+pub use Rattle.format.specs.Layout.{tableSize, termSize}
+use Rattle.format.specs.Layout.{tableWordCount, termWordCount, objectiveAt, clauseFirst, clauseCount, ruleFirst, ruleCount, ruleMode, ruleLower, ruleUpper}
 use Rattle.format.specs.Writer.{mode, boundNumber}
 
 -- The coefficient of a variable in a sum, 0 where it has none.
@@ -63,13 +65,7 @@ tableWords p =
 
 -- The term table: 2·6,512 words, with room for the terms of one rule more.
 unfoldable pub termWords : Plan → List ℕ
-termWords p = padTo 13_024 (termEntries (allTerms p))
-
-abbrev pub tableSize : ℕ
-tableSize = 26_668
-
-abbrev pub termSize : ℕ
-termSize = 52_096
+termWords p = padTo termWordCount (termEntries (allTerms p))
 
 -- The two tables hold the words of a plan; what stands past the full limits does not matter.
 unfoldable pub Holds : Plan → List ℕ → List ℕ → Type 0
@@ -86,17 +82,17 @@ termOf g i = record { variable = g (2 * i); weight = signed (g (2 * i + 1)) }
 unfoldable pub ruleOf : (ℕ → ℕ) → (ℕ → ℕ) → ℕ → Rule
 ruleOf f g r =
     record {
-      lower = boundOf 2 (f (1_544 + 5 * r)) (signed (f (1_545 + 5 * r)));
-      upper = boundOf 1 (f (1_544 + 5 * r)) (signed (f (1_546 + 5 * r)));
-      terms = map (termOf g) (row (f (1_542 + 5 * r)) (f (1_543 + 5 * r)));
+      lower = boundOf 2 (f (ruleMode r)) (signed (f (ruleLower r)));
+      upper = boundOf 1 (f (ruleMode r)) (signed (f (ruleUpper r)));
+      terms = map (termOf g) (row (f (ruleFirst r)) (f (ruleCount r)));
     }
 
 unfoldable pub clauseOf : (ℕ → ℕ) → (ℕ → ℕ) → ℕ → Clause
-clauseOf f g c = map (ruleOf f g) (row (f (516 + 2 * c)) (f (517 + 2 * c)))
+clauseOf f g c = map (ruleOf f g) (row (f (clauseFirst c)) (f (clauseCount c)))
 
 unfoldable pub objectiveOf : (ℕ → ℕ) → List Term
 objectiveOf f =
-    keep (λ t. ltb 0 (natAbs (t .weight))) (map (λ x. record { variable = x; weight = signed (f (3 + x)) }) (row 1 (f 0)))
+    keep (λ t. ltb 0 (natAbs (t .weight))) (map (λ x. record { variable = x; weight = signed (f (objectiveAt x)) }) (row 1 (f 0)))
 
 unfoldable pub planIn : (ℕ → ℕ) → (ℕ → ℕ) → Plan
 planIn f g = record { variables = f 0; objective = objectiveOf f; clauses = map (clauseOf f g) (row 0 (f 1)) }

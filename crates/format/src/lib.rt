@@ -1,1 +1,42 @@
-// The plan file, the tables and the plan that both stand for: definitions in specs/, theorems in proofs/, no code.
+// The plan file, the tables and the plan that both stand for: definitions in specs/, theorems in proofs/. The code is the layout's numbers;
+// specs/Layout.antt has the same for contracts, and each crate that uses both ties the two.
+
+// How many of each a plan may have.
+pub const MAX_VARIABLES: usize = 512;
+
+pub const MAX_CLAUSES: usize = 512;
+
+pub const MAX_RULES: usize = 1024;
+
+pub const MAX_TERMS: usize = 6000;
+
+// The words of the tables: four counts, a coefficient for each variable, two words for each clause and five for each rule.
+pub const OBJECTIVE: usize = 4 - 1; // variable x has its coefficient at OBJECTIVE + x
+
+pub const CLAUSES: usize = 4 + MAX_VARIABLES; // clause c has its first rule at CLAUSES + 2 * c
+
+pub const CLAUSE_COUNT: usize = CLAUSES + 1;
+
+pub const RULES: usize = CLAUSES + 2 * (MAX_CLAUSES + 1); // rule r has its first term at RULES + 5 * r
+
+pub const RULE_COUNT: usize = RULES + 1;
+
+pub const RULE_MODE: usize = RULES + 2;
+
+pub const RULE_LOWER: usize = RULES + 3;
+
+pub const RULE_UPPER: usize = RULES + 4;
+
+pub const TABLE_WORDS: usize = RULES + 5 * (MAX_RULES + 1);
+
+pub const TERM_WORDS: usize = 2 * (MAX_TERMS + MAX_VARIABLES);
+
+// The same in bytes.
+pub const TABLES: usize = 4 * TABLE_WORDS;
+
+pub const TERMS: usize = 4 * TERM_WORDS;
+
+// The words of the tallies: a true weight for each rule, how many of each clause's rules hold, and how many clauses are unsatisfied.
+pub const HOLDING: usize = MAX_RULES + 1;
+
+pub const UNSATISFIED: usize = HOLDING + MAX_CLAUSES + 1;

@@ -8,10 +8,27 @@ ghost use lib.IntN.{natAbs};
 ghost use lib.ListN.{length};
 ghost use Rattle.plpb.specs.Lists.{_and_};
 ghost use Rattle.words.specs.Words.{wordAt, signed};
-ghost use Rattle.format.specs.Limits.{weightLawful};
+ghost use Rattle.format.specs.Limits.{maxVariables, maxClauses, maxRules, maxTerms, weightLawful};
+ghost use Rattle.format.specs.Layout.{tableSize, termSize, clauseFirst, clauseCount, ruleFirst, ruleCount};
 ghost use Rattle.format.specs.File.{boundsLawful};
 ghost use Rattle.format.specs.Tables.{isLoaded};
 ghost use Rattle.format.proofs.Good.{everyFrom, zerosFrom, chainFrom, termsFrom, coefficientGood, objectiveGood, clausesGood, rulesGood, ruleGood, goodBy};
+use format::CLAUSE_COUNT;
+use format::CLAUSES;
+use format::MAX_CLAUSES;
+use format::MAX_RULES;
+use format::MAX_TERMS;
+use format::MAX_VARIABLES;
+use format::OBJECTIVE;
+use format::RULE_COUNT;
+use format::RULE_LOWER;
+use format::RULE_MODE;
+use format::RULE_UPPER;
+use format::RULES;
+use format::TABLE_WORDS;
+use format::TABLES;
+use format::TERM_WORDS;
+use format::TERMS;
 use words::index;
 use words::magnitude;
 use words::to_signed;
@@ -55,7 +72,7 @@ fn coefficients(tables: &[u8], variables: usize) -> bool
     let mut all = true;
     let mut x = 1;
     while x < variables + 1 {
-        all = all & (size(word(tables, 3 + x)) <= 1000000);
+        all = all & (size(word(tables, OBJECTIVE + x)) <= 1000000);
         x += 1;
     }
     all
@@ -71,14 +88,15 @@ fn link_good(first: usize, count: usize, at: usize, end: usize) -> bool
 
 // The clauses share out the rules in order.
 fn clause_chain(tables: &[u8], clauses: usize, rules: usize) -> bool
-    requires { ⌜ 4 * (516 + 2 * clauses) ≤ length (now tables) ⌝ }
-    ensures { λ r. ⌜ r ≡ chainFrom (λ c. wordAt (now (tables .entry)) (516 + 2 * c)) (λ c. wordAt (now (tables .entry)) (517 + 2 * c)) rules 0 0 clauses ⌝ }
+    requires { ⌜ 4 * clauseFirst clauses ≤ length (now tables) ⌝ }
+    ensures { λ r. ⌜ r
+        ≡ chainFrom (λ c. wordAt (now (tables .entry)) (clauseFirst c)) (λ c. wordAt (now (tables .entry)) (clauseCount c)) rules 0 0 clauses ⌝ }
 {
     let mut at = 0;
     let mut c = 0;
     while c < clauses {
-        let count = index(tables, 517 + 2 * c);
-        if !link_good(index(tables, 516 + 2 * c), count, at, rules) {
+        let count = index(tables, CLAUSE_COUNT + 2 * c);
+        if !link_good(index(tables, CLAUSES + 2 * c), count, at, rules) {
             return false;
         }
         at += count;
@@ -129,30 +147,32 @@ fn bounds_good(mode: u32, lower: u32, upper: u32) -> bool
 // A rule, whose terms stand from a place up to another.
 fn rule_good(tables: &[u8], terms: &[u8], variables: u32, r: usize, from: usize, to: usize) -> bool
     requires { ⌜ variables ≡ wordAt (now tables) 0 ⌝ }
-    requires { ⌜ from ≡ wordAt (now tables) (1542 + 5 * r) ⌝ }
-    requires { ⌜ to ≡ from + wordAt (now tables) (1543 + 5 * r) ⌝ }
-    requires { ⌜ 4 * (1547 + 5 * r) ≤ length (now tables) ⌝ }
+    requires { ⌜ from ≡ wordAt (now tables) (ruleFirst r) ⌝ }
+    requires { ⌜ to ≡ from + wordAt (now tables) (ruleCount r) ⌝ }
+    requires { ⌜ 4 * ruleFirst (r + 1) ≤ length (now tables) ⌝ }
     requires { ⌜ 8 * to ≤ length (now terms) ⌝ }
     ensures { λ b. ⌜ b ≡ ruleGood (wordAt (now (tables .entry))) (wordAt (now (terms .entry))) r ⌝ }
 {
-    let mode = word(tables, 1544 + 5 * r);
-    let lower = word(tables, 1545 + 5 * r);
-    let upper = word(tables, 1546 + 5 * r);
+    let mode = word(tables, RULE_MODE + 5 * r);
+    let lower = word(tables, RULE_LOWER + 5 * r);
+    let upper = word(tables, RULE_UPPER + 5 * r);
     bounds_good(mode, lower, upper) & rule_terms(terms, variables, from, to)
 }
 
 // The rules share out the terms in order, and each is lawful.
 fn rule_chain(tables: &[u8], terms: &[u8], rules: usize, total: usize) -> bool
-    requires { ⌜ 4 * (1542 + 5 * rules) ≤ length (now tables) ⌝ }
+    requires { ⌜ 4 * ruleFirst rules ≤ length (now tables) ⌝ }
     requires { ⌜ 8 * total ≤ length (now terms) ⌝ }
-    ensures { λ b. ⌜ b ≡ (chainFrom (λ r. wordAt (now (tables .entry)) (1542 + 5 * r)) (λ r. wordAt (now (tables .entry)) (1543 + 5 * r)) total 0 0 rules and everyFrom (ruleGood (wordAt (now (tables .entry))) (wordAt (now (terms .entry)))) 0 rules) ⌝ }
+    ensures { λ b. ⌜ b
+        ≡ (chainFrom (λ r. wordAt (now (tables .entry)) (ruleFirst r)) (λ r. wordAt (now (tables .entry)) (ruleCount r)) total 0 0 rules and everyFrom
+        (ruleGood (wordAt (now (tables .entry))) (wordAt (now (terms .entry)))) 0 rules) ⌝ }
 {
     let variables = word(tables, 0);
     let mut at = 0;
     let mut r = 0;
     while r < rules {
-        let count = index(tables, 1543 + 5 * r);
-        if !link_good(index(tables, 1542 + 5 * r), count, at, total) {
+        let count = index(tables, RULE_COUNT + 5 * r);
+        if !link_good(index(tables, RULES + 5 * r), count, at, total) {
             return false;
         }
         if !rule_good(tables, terms, variables, r, at, at + count) {
@@ -166,48 +186,53 @@ fn rule_chain(tables: &[u8], terms: &[u8], rules: usize, total: usize) -> bool
 
 // The counts within the limits.
 fn counts_good(variables: usize, clauses: usize, rules: usize, total: usize) -> bool
-    ensures { λ r. ⌜ r ≡ (leb 1 variables and leb variables 512 and leb clauses 512 and leb rules 1024 and leb total 6000) ⌝ }
+    ensures { λ r. ⌜ r ≡ (leb 1 variables and leb variables maxVariables and leb clauses maxClauses and leb rules maxRules and leb total maxTerms) ⌝ }
 {
-    (1 <= variables) & (variables <= 512) & (clauses <= 512) & (rules <= 1024) & (total <= 6000)
+    (1 <= variables)
+        & (variables <= MAX_VARIABLES)
+        & (clauses <= MAX_CLAUSES)
+        & (rules <= MAX_RULES)
+        & (total <= MAX_TERMS)
 }
 
 // The objective: 0 or a lawful coefficient for each variable, 0 beyond the last.
 fn objective_good(tables: &[u8], variables: usize) -> bool
     requires { ⌜ variables ≡ wordAt (now tables) 0 ⌝ }
-    requires { ⌜ variables ≤ 512 ⌝ }
-    requires { ⌜ 26668 ≤ length (now tables) ⌝ }
+    requires { ⌜ variables ≤ maxVariables ⌝ }
+    requires { ⌜ tableSize ≤ length (now tables) ⌝ }
     ensures { λ r. ⌜ r ≡ objectiveGood (wordAt (now (tables .entry))) ⌝ }
 {
-    coefficients(tables, variables) & zeros(tables, 4 + variables, 516)
+    coefficients(tables, variables) & zeros(tables, 4 + variables, CLAUSES)
 }
 
 // The clauses, and 0 beyond the last.
 fn clauses_good(tables: &[u8], clauses: usize, rules: usize) -> bool
     requires { ⌜ clauses ≡ wordAt (now tables) 1 ⌝ }
     requires { ⌜ rules ≡ wordAt (now tables) 2 ⌝ }
-    requires { ⌜ clauses ≤ 512 ⌝ }
-    requires { ⌜ 26668 ≤ length (now tables) ⌝ }
+    requires { ⌜ clauses ≤ maxClauses ⌝ }
+    requires { ⌜ tableSize ≤ length (now tables) ⌝ }
     ensures { λ r. ⌜ r ≡ clausesGood (wordAt (now (tables .entry))) ⌝ }
 {
-    clause_chain(tables, clauses, rules) & zeros(tables, 516 + 2 * clauses, 1542)
+    clause_chain(tables, clauses, rules) & zeros(tables, CLAUSES + 2 * clauses, RULES)
 }
 
 // The rules, and 0 beyond the last.
 fn rules_good(tables: &[u8], terms: &[u8], rules: usize, total: usize) -> bool
     requires { ⌜ rules ≡ wordAt (now tables) 2 ⌝ }
     requires { ⌜ total ≡ wordAt (now tables) 3 ⌝ }
-    requires { ⌜ rules ≤ 1024 ⌝ }
-    requires { ⌜ 26668 ≤ length (now tables) ⌝ }
+    requires { ⌜ rules ≤ maxRules ⌝ }
+    requires { ⌜ tableSize ≤ length (now tables) ⌝ }
     requires { ⌜ 8 * total ≤ length (now terms) ⌝ }
-    ensures { λ b. ⌜ b ≡ (rulesGood (wordAt (now (tables .entry))) and everyFrom (ruleGood (wordAt (now (tables .entry))) (wordAt (now (terms .entry)))) 0 rules) ⌝ }
+    ensures { λ b. ⌜ b
+        ≡ (rulesGood (wordAt (now (tables .entry))) and everyFrom (ruleGood (wordAt (now (tables .entry))) (wordAt (now (terms .entry)))) 0 rules) ⌝ }
 {
-    rule_chain(tables, terms, rules, total) & zeros(tables, 1542 + 5 * rules, 6667)
+    rule_chain(tables, terms, rules, total) & zeros(tables, RULES + 5 * rules, TABLE_WORDS)
 }
 
 // Tables of full size.
 fn full_good(tables: &[u8], terms: &[u8]) -> bool
-    requires { ⌜ 26668 ≤ length (now tables) ⌝ }
-    requires { ⌜ 52096 ≤ length (now terms) ⌝ }
+    requires { ⌜ tableSize ≤ length (now tables) ⌝ }
+    requires { ⌜ termSize ≤ length (now terms) ⌝ }
     ensures { λ r. ⌜ r ≡ goodBy (wordAt (now (tables .entry))) (wordAt (now (terms .entry))) ⌝ }
 {
     let variables = index(tables, 0);
@@ -220,18 +245,20 @@ fn full_good(tables: &[u8], terms: &[u8]) -> bool
     objective_good(tables, variables)
         & clauses_good(tables, clauses, rules)
         & rules_good(tables, terms, rules, total)
-        & zeros(terms, 2 * total, 13024)
+        & zeros(terms, 2 * total, TERM_WORDS)
 }
 
 // Whether an accepted loading leaves these tables, for any bytes: format/proofs/IsLoaded.antt says that `isLoaded` is just that.
 pub fn good(tables: &[u8], terms: &[u8]) -> bool
     ensures { λ r. ⌜ r ≡ isLoaded (now (tables .entry)) (now (terms .entry)) ⌝ }
 {
-    if tables.len() < 26668 {
+    if tables.len() < TABLES {
         return false;
     }
-    if terms.len() < 52096 {
+    if terms.len() < TERMS {
         return false;
     }
     full_good(tables, terms)
 }
+// 1
+// 2

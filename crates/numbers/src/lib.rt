@@ -55,7 +55,8 @@ fn start_bit(numbers: &[u8], used: usize, i: usize) -> u8
 // Writes a start for which there are numbers enough.
 fn write_start(numbers: &[u8], used: usize, n: usize, assignment: &mut [u8])
     requires { ⌜ (used + startWords n ≤ length (now numbers) / 4) × (n ≤ length (now assignment)) ⌝ }
-    ensures { λ _. ⌜ now (assignment .exit) ≡ bitBytes (startOf n (take (startWords n) (drop used (numbersOf (now (numbers .entry)))))) ++ drop n (now (assignment .entry)) ⌝ }
+    ensures { λ _. ⌜ now (assignment .exit)
+        ≡ bitBytes (startOf n (take (startWords n) (drop used (numbersOf (now (numbers .entry)))))) ++ drop n (now (assignment .entry)) ⌝ }
 {
     let mut i = 0;
     while i < n {

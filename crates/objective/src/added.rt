@@ -9,6 +9,7 @@ ghost use Rattle.words.specs.Words.{wordAt, wordBytes, unsigned};
 ghost use Rattle.format.specs.Limits.{maxBound};
 ghost use Rattle.format.specs.Tables.{termEntries, objectiveOf, planOfTables, tableWords, termWords, tableSize, termSize};
 ghost use Rattle.objective.specs.Added.{putWords, termsAbove, addedEntries, rebound, Boundable};
+ghost use Rattle.format.specs.Layout.{clauseFirst, ruleFirst};
 use crate::writes::write_two;
 use crate::writes::write_word;
 
@@ -61,19 +62,24 @@ fn add_terms(tables: &[u8], terms: &mut [u8], first: usize) -> usize
 // A clause of one rule.
 fn add_clause(tables: &mut [u8], clauses: usize, rules: usize)
     requires { ⌜ (tableSize ≤ length (now tables)) × (clauses ≤ 512) × (rules ≤ 1024) ⌝ }
-    ensures { λ _. ⌜ now (tables .exit) ≡ putWords (516 + 2 * clauses) (rules ∷ 1 ∷ []) (now (tables .entry)) ⌝ }
+    ensures { λ _. ⌜ now (tables .exit) ≡ putWords (clauseFirst clauses) (rules ∷ 1 ∷ []) (now (tables .entry)) ⌝ }
 {
-    write_two(tables, 516 + 2 * clauses, narrow(rules), 1);
+    write_two(tables, format::CLAUSES + 2 * clauses, narrow(rules), 1);
 }
 
 // A rule with an upper bound alone: mode 2, and 0 for the lower.
 fn add_rule(tables: &mut [u8], rules: usize, first: usize, count: usize, bound: u32)
     requires { ⌜ (tableSize ≤ length (now tables)) × (rules ≤ 1024) × (first ≤ 6000) × (count ≤ 512) ⌝ }
-    ensures { λ _. ⌜ now (tables .exit) ≡ putWords (1542 + 5 * rules) (first ∷ count ∷ 2 ∷ 0 ∷ bound ∷ []) (now (tables .entry)) ⌝ }
+    ensures { λ _. ⌜ now (tables .exit) ≡ putWords (ruleFirst rules) (first ∷ count ∷ 2 ∷ 0 ∷ bound ∷ []) (now (tables .entry)) ⌝ }
 {
-    write_two(tables, 1542 + 5 * rules, narrow(first), narrow(count));
-    write_two(tables, 1544 + 5 * rules, 2, 0);
-    write_word(tables, 1546 + 5 * rules, bound);
+    write_two(
+        tables,
+        format::RULES + 5 * rules,
+        narrow(first),
+        narrow(count),
+    );
+    write_two(tables, format::RULE_MODE + 5 * rules, 2, 0);
+    write_word(tables, format::RULE_UPPER + 5 * rules, bound);
 }
 
 fn write_counts(tables: &mut [u8], clauses: usize, rules: usize, terms: usize)

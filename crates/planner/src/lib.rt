@@ -1,8 +1,8 @@
 // The planner's C interface: numbers and byte slices in, numbers out. include/planner.h declares it.
 // Each function promises what the function that it calls promises.
 ghost use mathlib.Core.Path.{_≡_};
-ghost use Rattle.tallies.specs.Calls.{openRefusal, openTallies, callRefusal, flipAssignment, flipTallies, countsBreak, countsMake};
-ghost use Rattle.walk.specs.Calls.{Searches, HandsOut};
+ghost use Rattle.tallies.specs.Calls.{openRefusal, openTallies, callRefusal, flipAssignment, flipTallies, countsBreak, countsMake, lent};
+ghost use Rattle.walk.specs.Calls.{Searches, HandsOut, lentAll};
 ghost use Rattle.tables.specs.Load.{refusalOf, offsetOf, loading, tablesAfter, termsAfter};
 use calls::counts::counts;
 use calls::flip::flip;
@@ -43,7 +43,8 @@ fn numbers(answer: Answer) -> Loaded
 
 #[no_mangle]
 pub extern "C" fn planner_load(file: &[u8], tables: &mut [u8], terms: &mut [u8]) -> Loaded
-    ensures { λ r. ⌜ (r .refusal ≡ refusalOf (loading (now (file .entry)) (now (tables .entry)) (now (terms .entry)))) × (r .offset ≡ offsetOf (loading (now (file .entry)) (now (tables .entry)) (now (terms .entry)))) ⌝ }
+    ensures { λ r. ⌜ (r .refusal ≡ refusalOf (loading (now (file .entry)) (now (tables .entry)) (now (terms .entry))))
+        × (r .offset ≡ offsetOf (loading (now (file .entry)) (now (tables .entry)) (now (terms .entry)))) ⌝ }
     ensures { λ _. ⌜ now (tables .exit) ≡ tablesAfter (now (file .entry)) (now (tables .entry)) (now (terms .entry)) ⌝ }
     ensures { λ _. ⌜ now (terms .exit) ≡ termsAfter (now (file .entry)) (now (tables .entry)) (now (terms .entry)) ⌝ }
 {
@@ -57,8 +58,9 @@ pub extern "C" fn planner_open(
     assignment: &[u8],
     tallies: &mut [u8],
 ) -> u32
-    ensures { λ r. ⌜ r ≡ openRefusal (record { tables = now (tables .entry); terms = now (terms .entry); assignment = now (assignment .entry); tallies = now (tallies .entry) }) ⌝ }
-    ensures { λ _. ⌜ now (tallies .exit) ≡ openTallies (record { tables = now (tables .entry); terms = now (terms .entry); assignment = now (assignment .entry); tallies = now (tallies .entry) }) ⌝ }
+    ensures { λ r. ⌜ r ≡ openRefusal (lent (now (tables .entry)) (now (terms .entry)) (now (assignment .entry)) (now (tallies .entry))) ⌝ }
+    ensures { λ _. ⌜ now (tallies .exit)
+        ≡ openTallies (lent (now (tables .entry)) (now (terms .entry)) (now (assignment .entry)) (now (tallies .entry))) ⌝ }
 {
     open(tables, terms, assignment, tallies)
 }
@@ -71,9 +73,11 @@ pub extern "C" fn planner_flip(
     tallies: &mut [u8],
     variable: u32,
 ) -> u32
-    ensures { λ r. ⌜ r ≡ callRefusal (record { tables = now (tables .entry); terms = now (terms .entry); assignment = now (assignment .entry); tallies = now (tallies .entry) }) variable ⌝ }
-    ensures { λ _. ⌜ now (assignment .exit) ≡ flipAssignment (record { tables = now (tables .entry); terms = now (terms .entry); assignment = now (assignment .entry); tallies = now (tallies .entry) }) variable ⌝ }
-    ensures { λ _. ⌜ now (tallies .exit) ≡ flipTallies (record { tables = now (tables .entry); terms = now (terms .entry); assignment = now (assignment .entry); tallies = now (tallies .entry) }) variable ⌝ }
+    ensures { λ r. ⌜ r ≡ callRefusal (lent (now (tables .entry)) (now (terms .entry)) (now (assignment .entry)) (now (tallies .entry))) variable ⌝ }
+    ensures { λ _. ⌜ now (assignment .exit)
+        ≡ flipAssignment (lent (now (tables .entry)) (now (terms .entry)) (now (assignment .entry)) (now (tallies .entry))) variable ⌝ }
+    ensures { λ _. ⌜ now (tallies .exit)
+        ≡ flipTallies (lent (now (tables .entry)) (now (terms .entry)) (now (assignment .entry)) (now (tallies .entry))) variable ⌝ }
 {
     flip(tables, terms, assignment, tallies, variable)
 }
@@ -86,9 +90,12 @@ pub extern "C" fn planner_counts(
     tallies: &[u8],
     variable: u32,
 ) -> Counted
-    ensures { λ r. ⌜ r .refusal ≡ callRefusal (record { tables = now (tables .entry); terms = now (terms .entry); assignment = now (assignment .entry); tallies = now (tallies .entry) }) variable ⌝ }
-    ensures { λ r. ⌜ r .breaks ≡ countsBreak (record { tables = now (tables .entry); terms = now (terms .entry); assignment = now (assignment .entry); tallies = now (tallies .entry) }) variable ⌝ }
-    ensures { λ r. ⌜ r .makes ≡ countsMake (record { tables = now (tables .entry); terms = now (terms .entry); assignment = now (assignment .entry); tallies = now (tallies .entry) }) variable ⌝ }
+    ensures { λ r. ⌜ r .refusal
+        ≡ callRefusal (lent (now (tables .entry)) (now (terms .entry)) (now (assignment .entry)) (now (tallies .entry))) variable ⌝ }
+    ensures { λ r. ⌜ r .breaks
+        ≡ countsBreak (lent (now (tables .entry)) (now (terms .entry)) (now (assignment .entry)) (now (tallies .entry))) variable ⌝ }
+    ensures { λ r. ⌜ r .makes
+        ≡ countsMake (lent (now (tables .entry)) (now (terms .entry)) (now (assignment .entry)) (now (tallies .entry))) variable ⌝ }
 {
     let c = counts(tables, terms, assignment, tallies, variable);
     Counted {
@@ -115,8 +122,16 @@ pub extern "C" fn planner_search(
     work_tallies: &mut [u8],
     work_marks: &mut [u8],
 ) -> Searched
-    ensures { λ r. ⌜ Searches (record { tables = now (tables .entry); terms = now (terms .entry); numbers = now (numbers .entry); assignment = now (assignment .entry); workTables = now («work_tables» .entry); workTerms = now («work_terms» .entry); workAssignment = now («work_assignment» .entry); workTallies = now («work_tallies» .entry); workMarks = now («work_marks» .entry) }) (record { noise = noise; tries = tries; flips = flips; mode = mode }) r (record { tables = now (tables .entry); terms = now (terms .entry); numbers = now (numbers .entry); assignment = now (assignment .exit); workTables = now («work_tables» .exit); workTerms = now («work_terms» .exit); workAssignment = now («work_assignment» .exit); workTallies = now («work_tallies» .exit); workMarks = now («work_marks» .exit) }) ⌝ }
-    ensures { λ r. ⌜ HandsOut (record { tables = now (tables .entry); terms = now (terms .entry); numbers = now (numbers .entry); assignment = now (assignment .entry); workTables = now («work_tables» .entry); workTerms = now («work_terms» .entry); workAssignment = now («work_assignment» .entry); workTallies = now («work_tallies» .entry); workMarks = now («work_marks» .entry) }) r (now (assignment .exit)) ⌝ }
+    ensures { λ r. ⌜ Searches
+        (lentAll (now (tables .entry)) (now (terms .entry)) (now (numbers .entry)) (now (assignment .entry)) (now («work_tables» .entry))
+        (now («work_terms» .entry)) (now («work_assignment» .entry)) (now («work_tallies» .entry)) (now («work_marks» .entry)))
+        (record { noise = noise; tries = tries; flips = flips; mode = mode }) r
+        (lentAll (now (tables .entry)) (now (terms .entry)) (now (numbers .entry)) (now (assignment .exit)) (now («work_tables» .exit))
+        (now («work_terms» .exit)) (now («work_assignment» .exit)) (now («work_tallies» .exit)) (now («work_marks» .exit))) ⌝ }
+    ensures { λ r. ⌜ HandsOut
+        (lentAll (now (tables .entry)) (now (terms .entry)) (now (numbers .entry)) (now (assignment .entry)) (now («work_tables» .entry))
+        (now («work_terms» .entry)) (now («work_assignment» .entry)) (now («work_tallies» .entry)) (now («work_marks» .entry))) r
+        (now (assignment .exit)) ⌝ }
 {
     search(
         tables,

@@ -7,6 +7,7 @@ ghost use Rattle.words.specs.Words.{wordBytes};
 ghost use Rattle.words.specs.Writes.{put, front};
 ghost use Rattle.tallies.specs.Demand.{answer, leaves, answers, after};
 ghost use Rattle.replay.specs.Replay.{callOf, callsOf, answerWords, answerBytes, replayRefusal, replayOut, replayAssignment, replayTallies};
+ghost use Rattle.tallies.specs.Calls.{lent};
 use calls::counts::Counted;
 use calls::counts::counts;
 use calls::flip::flip;
@@ -23,9 +24,12 @@ fn make_call(
     kind: u8,
     x: u32,
 ) -> Counted
-    ensures { λ r. ⌜ r .refusal ∷ r .breaks ∷ r .makes ∷ [] ≡ answerWords (answer (record { tables = now (tables .entry); terms = now (terms .entry); assignment = now (assignment .entry); tallies = now (tallies .entry) }) (callOf kind x)) ⌝ }
-    ensures { λ _. ⌜ now (assignment .exit) ≡ leaves (record { tables = now (tables .entry); terms = now (terms .entry); assignment = now (assignment .entry); tallies = now (tallies .entry) }) (callOf kind x) .assignment ⌝ }
-    ensures { λ _. ⌜ now (tallies .exit) ≡ leaves (record { tables = now (tables .entry); terms = now (terms .entry); assignment = now (assignment .entry); tallies = now (tallies .entry) }) (callOf kind x) .tallies ⌝ }
+    ensures { λ r. ⌜ r .refusal ∷ r .breaks ∷ r .makes ∷ []
+        ≡ answerWords (answer (lent (now (tables .entry)) (now (terms .entry)) (now (assignment .entry)) (now (tallies .entry))) (callOf kind x)) ⌝ }
+    ensures { λ _. ⌜ now (assignment .exit)
+        ≡ leaves (lent (now (tables .entry)) (now (terms .entry)) (now (assignment .entry)) (now (tallies .entry))) (callOf kind x) .assignment ⌝ }
+    ensures { λ _. ⌜ now (tallies .exit)
+        ≡ leaves (lent (now (tables .entry)) (now (terms .entry)) (now (assignment .entry)) (now (tallies .entry))) (callOf kind x) .tallies ⌝ }
 {
     if kind == 0 {
         let refusal = flip(tables, terms, assignment, tallies, x);
@@ -58,9 +62,17 @@ fn make_calls(
     out: &mut [u8],
 )
     requires { ⌜ 12 * (length (now list) / 5) ≤ length (now out) ⌝ }
-    ensures { λ _. ⌜ now (out .exit) ≡ front (answerBytes (answers (record { tables = now (tables .entry); terms = now (terms .entry); assignment = now (assignment .entry); tallies = now (tallies .entry) }) (callsOf (now (list .entry))))) (now (out .entry)) ⌝ }
-    ensures { λ _. ⌜ now (assignment .exit) ≡ after (record { tables = now (tables .entry); terms = now (terms .entry); assignment = now (assignment .entry); tallies = now (tallies .entry) }) (callsOf (now (list .entry))) .assignment ⌝ }
-    ensures { λ _. ⌜ now (tallies .exit) ≡ after (record { tables = now (tables .entry); terms = now (terms .entry); assignment = now (assignment .entry); tallies = now (tallies .entry) }) (callsOf (now (list .entry))) .tallies ⌝ }
+    ensures { λ _. ⌜ now (out .exit)
+        ≡ front
+        (answerBytes
+        (answers (lent (now (tables .entry)) (now (terms .entry)) (now (assignment .entry)) (now (tallies .entry))) (callsOf (now (list .entry)))))
+        (now (out .entry)) ⌝ }
+    ensures { λ _. ⌜ now (assignment .exit)
+        ≡ after (lent (now (tables .entry)) (now (terms .entry)) (now (assignment .entry)) (now (tallies .entry))) (callsOf (now (list .entry)))
+        .assignment ⌝ }
+    ensures { λ _. ⌜ now (tallies .exit)
+        ≡ after (lent (now (tables .entry)) (now (terms .entry)) (now (assignment .entry)) (now (tallies .entry))) (callsOf (now (list .entry)))
+        .tallies ⌝ }
 {
     let mut left = list.len() / 5;
     let mut at = 0;
@@ -85,10 +97,18 @@ pub fn replay(
     list: &[u8],
     out: &mut [u8],
 ) -> u32
-    ensures { λ r. ⌜ r ≡ replayRefusal (record { tables = now (tables .entry); terms = now (terms .entry); assignment = now (assignment .entry); tallies = now (tallies .entry) }) (now (list .entry)) (now (out .entry)) ⌝ }
-    ensures { λ _. ⌜ now (out .exit) ≡ replayOut (record { tables = now (tables .entry); terms = now (terms .entry); assignment = now (assignment .entry); tallies = now (tallies .entry) }) (now (list .entry)) (now (out .entry)) ⌝ }
-    ensures { λ _. ⌜ now (assignment .exit) ≡ replayAssignment (record { tables = now (tables .entry); terms = now (terms .entry); assignment = now (assignment .entry); tallies = now (tallies .entry) }) (now (list .entry)) (now (out .entry)) ⌝ }
-    ensures { λ _. ⌜ now (tallies .exit) ≡ replayTallies (record { tables = now (tables .entry); terms = now (terms .entry); assignment = now (assignment .entry); tallies = now (tallies .entry) }) (now (list .entry)) (now (out .entry)) ⌝ }
+    ensures { λ r. ⌜ r
+        ≡ replayRefusal (lent (now (tables .entry)) (now (terms .entry)) (now (assignment .entry)) (now (tallies .entry))) (now (list .entry))
+        (now (out .entry)) ⌝ }
+    ensures { λ _. ⌜ now (out .exit)
+        ≡ replayOut (lent (now (tables .entry)) (now (terms .entry)) (now (assignment .entry)) (now (tallies .entry))) (now (list .entry))
+        (now (out .entry)) ⌝ }
+    ensures { λ _. ⌜ now (assignment .exit)
+        ≡ replayAssignment (lent (now (tables .entry)) (now (terms .entry)) (now (assignment .entry)) (now (tallies .entry))) (now (list .entry))
+        (now (out .entry)) ⌝ }
+    ensures { λ _. ⌜ now (tallies .exit)
+        ≡ replayTallies (lent (now (tables .entry)) (now (terms .entry)) (now (assignment .entry)) (now (tallies .entry))) (now (list .entry))
+        (now (out .entry)) ⌝ }
 {
     if out.len() / 12 < list.len() / 5 {
         return 21;
@@ -111,10 +131,18 @@ pub extern "C" fn replay_calls(
     list: &[u8],
     out: &mut [u8],
 ) -> u32
-    ensures { λ r. ⌜ r ≡ replayRefusal (record { tables = now (tables .entry); terms = now (terms .entry); assignment = now (assignment .entry); tallies = now (tallies .entry) }) (now (list .entry)) (now (out .entry)) ⌝ }
-    ensures { λ _. ⌜ now (out .exit) ≡ replayOut (record { tables = now (tables .entry); terms = now (terms .entry); assignment = now (assignment .entry); tallies = now (tallies .entry) }) (now (list .entry)) (now (out .entry)) ⌝ }
-    ensures { λ _. ⌜ now (assignment .exit) ≡ replayAssignment (record { tables = now (tables .entry); terms = now (terms .entry); assignment = now (assignment .entry); tallies = now (tallies .entry) }) (now (list .entry)) (now (out .entry)) ⌝ }
-    ensures { λ _. ⌜ now (tallies .exit) ≡ replayTallies (record { tables = now (tables .entry); terms = now (terms .entry); assignment = now (assignment .entry); tallies = now (tallies .entry) }) (now (list .entry)) (now (out .entry)) ⌝ }
+    ensures { λ r. ⌜ r
+        ≡ replayRefusal (lent (now (tables .entry)) (now (terms .entry)) (now (assignment .entry)) (now (tallies .entry))) (now (list .entry))
+        (now (out .entry)) ⌝ }
+    ensures { λ _. ⌜ now (out .exit)
+        ≡ replayOut (lent (now (tables .entry)) (now (terms .entry)) (now (assignment .entry)) (now (tallies .entry))) (now (list .entry))
+        (now (out .entry)) ⌝ }
+    ensures { λ _. ⌜ now (assignment .exit)
+        ≡ replayAssignment (lent (now (tables .entry)) (now (terms .entry)) (now (assignment .entry)) (now (tallies .entry))) (now (list .entry))
+        (now (out .entry)) ⌝ }
+    ensures { λ _. ⌜ now (tallies .exit)
+        ≡ replayTallies (lent (now (tables .entry)) (now (terms .entry)) (now (assignment .entry)) (now (tallies .entry))) (now (list .entry))
+        (now (out .entry)) ⌝ }
 {
     replay(tables, terms, assignment, tallies, list, out)
 }

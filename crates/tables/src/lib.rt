@@ -26,7 +26,7 @@ fn fill_tables(file: &[u8], tables: &mut [u8])
 {
     sections::objective_section(file, &mut tables[16..2064]);
     let clauses = sections::clause_section(file, &mut tables[2064..6168]);
-    let counted = sections::rule_section(file, &mut tables[6168..26668]);
+    let counted = sections::rule_section(file, &mut tables[6168..format::TABLES]);
     let variables = words::read_u16(file, 3);
     entries::put_head(tables, variables, clauses, counted.rules, counted.terms);
 }
@@ -37,7 +37,7 @@ fn fill_terms(file: &[u8], terms: &mut [u8])
     requires { ⌜ termSize ≤ length (now terms) ⌝ }
     ensures { λ _. ⌜ now (terms .exit) ≡ front (wordBytes (termWords (planOfFile (now (file .entry))))) (now (terms .entry)) ⌝ }
 {
-    sections::term_section(file, &mut terms[0..52096]);
+    sections::term_section(file, &mut terms[0..format::TERMS]);
 }
 
 // Fills the two tables from a plan file, or refuses it: "Loading: 21, then the file."
@@ -46,10 +46,10 @@ pub fn load(file: &[u8], tables: &mut [u8], terms: &mut [u8]) -> Answer
     ensures { λ _. ⌜ now (tables .exit) ≡ tablesAfter (now (file .entry)) (now (tables .entry)) (now (terms .entry)) ⌝ }
     ensures { λ _. ⌜ now (terms .exit) ≡ termsAfter (now (file .entry)) (now (tables .entry)) (now (terms .entry)) ⌝ }
 {
-    if tables.len() < 26668 {
+    if tables.len() < format::TABLES {
         return Answer::Refused(21, 0);
     }
-    if terms.len() < 52096 {
+    if terms.len() < format::TERMS {
         return Answer::Refused(21, 0);
     }
     let verdict = judge::judge(file);

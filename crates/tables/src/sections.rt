@@ -16,7 +16,8 @@ use crate::fields;
 
 fn put_coefficient(file: &[u8], at: usize, out: &mut [u8])
     requires { ⌜ (at + 6 ≤ length (now file)) × (1 ≤ numAt 2 (now file) at) × (numAt 2 (now file) at ≤ 512) × (length (now out) ≡ 2_048) ⌝ }
-    ensures { λ _. ⌜ now (out .exit) ≡ put (4 * (numAt 2 (now (file .entry)) at - 1)) (bytesOf 4 (numAt 4 (now (file .entry)) (at + 2))) (now (out .entry)) ⌝ }
+    ensures { λ _. ⌜ now (out .exit)
+        ≡ put (4 * (numAt 2 (now (file .entry)) at - 1)) (bytesOf 4 (numAt 4 (now (file .entry)) (at + 2))) (now (out .entry)) ⌝ }
 {
     let place = 4 * (words::read_size(file, at) - 1);
     words::write_u32(out, place, words::read_u32(file, at + 2));
@@ -49,7 +50,8 @@ pub fn objective_section(file: &[u8], out: &mut [u8])
 pub fn clause_section(file: &[u8], out: &mut [u8]) -> usize
     requires { ⌜ Accepts (now file) ⌝ }
     requires { ⌜ length (now out) ≡ 4_104 ⌝ }
-    ensures { λ r. ⌜ (r ≡ length (planOfFile (now (file .entry)) .clauses)) × (now (out .exit) ≡ wordBytes (clauseWords (planOfFile (now (file .entry))))) ⌝ }
+    ensures { λ r. ⌜ (r ≡ length (planOfFile (now (file .entry)) .clauses))
+        × (now (out .exit) ≡ wordBytes (clauseWords (planOfFile (now (file .entry))))) ⌝ }
 {
     let mut at = fields::first_clause(file);
     let mut clauses = 0;
@@ -77,7 +79,8 @@ pub struct Counted {
 pub fn rule_section(file: &[u8], out: &mut [u8]) -> Counted
     requires { ⌜ Accepts (now file) ⌝ }
     requires { ⌜ length (now out) ≡ 20_500 ⌝ }
-    ensures { λ r. ⌜ (r .rules ≡ length (rulesOf (planOfFile (now (file .entry))))) × (r .terms ≡ termCount (planOfFile (now (file .entry)))) × (now (out .exit) ≡ wordBytes (ruleWords (planOfFile (now (file .entry))))) ⌝ }
+    ensures { λ r. ⌜ (r .rules ≡ length (rulesOf (planOfFile (now (file .entry))))) × (r .terms ≡ termCount (planOfFile (now (file .entry))))
+        × (now (out .exit) ≡ wordBytes (ruleWords (planOfFile (now (file .entry))))) ⌝ }
 {
     let mut at = fields::first_rule(file);
     let mut rules = 0;

@@ -20,6 +20,9 @@ pub record Lent : Type 0 where
   pub assignment : List ℕ
   pub tallies : List ℕ
 
+abbrev pub lent : List ℕ → List ℕ → List ℕ → List ℕ → Lent
+lent tables terms assignment tallies = record { tables = tables; terms = terms; assignment = assignment; tallies = tallies }
+
 unfoldable pub plan : Lent → Plan
 plan l = planOfTables (l .tables) (l .terms)
 

@@ -5,6 +5,7 @@ ghost use Rattle.plpb.specs.Plan.{namedIn, names as clauseNames};
 ghost use Rattle.words.specs.Words.{wordAt};
 ghost use Rattle.format.specs.Tables.{ruleOf, clauseOf};
 ghost use Rattle.tallies.specs.Core.{Laid, RunReadable};
+ghost use Rattle.format.specs.Layout.{clauseCount, clauseFirst};
 use rules::state::names;
 use words::index;
 
@@ -16,10 +17,11 @@ pub struct Run {
 
 pub fn rules_of(tables: &[u8], c: usize) -> Run
     requires { ⌜ RunReadable (now tables) c ⌝ }
-    ensures { λ r. ⌜ (r .first ≡ wordAt (now (tables .entry)) (516 + 2 * c)) × (r .end ≡ wordAt (now (tables .entry)) (516 + 2 * c) + wordAt (now (tables .entry)) (517 + 2 * c)) ⌝ }
+    ensures { λ r. ⌜ (r .first ≡ wordAt (now (tables .entry)) (clauseFirst c))
+        × (r .end ≡ wordAt (now (tables .entry)) (clauseFirst c) + wordAt (now (tables .entry)) (clauseCount c)) ⌝ }
 {
-    let first = index(tables, 516 + 2 * c);
-    let count = index(tables, 517 + 2 * c);
+    let first = index(tables, format::CLAUSES + 2 * c);
+    let count = index(tables, format::CLAUSE_COUNT + 2 * c);
     Run {
         first,
         end: first + count,
@@ -30,7 +32,7 @@ pub fn rule_names(tables: &[u8], terms: &[u8], r: usize, x: u32) -> bool
     requires { ⌜ Laid (now tables) (now terms) × (r < wordAt (now tables) 2) ⌝ }
     ensures { λ b. ⌜ b ≡ namedIn x (ruleOf (wordAt (now (tables .entry))) (wordAt (now (terms .entry))) r .terms) ⌝ }
 {
-    names(tables, terms, 1542 + 5 * r, x)
+    names(tables, terms, format::RULES + 5 * r, x)
 }
 
 // Whether one of a clause's rules names the variable.

@@ -41,16 +41,22 @@ impl Counts {
 // The shares of the rules so far joined with those of one more.
 fn join_rule(shares: Shares, tables: &[u8], terms: &[u8], bits: &[u8], r: usize, x: u32) -> Shares
     requires { ⌜ Ready (now tables) (now terms) (now bits) × (r < wordAt (now tables) 2) ⌝ }
-    ensures { λ t. ⌜ sharesIn t ≡ cappedShares (joinedShares (sharesIn shares) (cappedShares (sharesOf (bitsIn (now (bits .entry))) x (ruleOf (wordAt (now (tables .entry))) (wordAt (now (terms .entry))) r)))) ⌝ }
+    ensures { λ t. ⌜ sharesIn t
+        ≡ cappedShares
+        (joinedShares (sharesIn shares)
+        (cappedShares (sharesOf (bitsIn (now (bits .entry))) x (ruleOf (wordAt (now (tables .entry))) (wordAt (now (terms .entry))) r)))) ⌝ }
 {
-    let s = read_state_from(tables, terms, bits, 1542 + 5 * r, x);
+    let s = read_state_from(tables, terms, bits, format::RULES + 5 * r, x);
     shares.joined(s.shares())
 }
 
 // The shares of a clause.
 fn clause_shares(tables: &[u8], terms: &[u8], bits: &[u8], c: usize, x: u32) -> Shares
     requires { ⌜ Ready (now tables) (now terms) (now bits) × (c < wordAt (now tables) 1) ⌝ }
-    ensures { λ r. ⌜ sharesIn r ≡ cappedShares (joinedAlong (sharesOf (bitsIn (now (bits .entry))) x) startShares (clauseOf (wordAt (now (tables .entry))) (wordAt (now (terms .entry))) c)) ⌝ }
+    ensures { λ r. ⌜ sharesIn r
+        ≡ cappedShares
+        (joinedAlong (sharesOf (bitsIn (now (bits .entry))) x) startShares
+        (clauseOf (wordAt (now (tables .entry))) (wordAt (now (terms .entry))) c)) ⌝ }
 {
     let rules = rules_of(tables, c);
     let end = rules.end;
@@ -66,7 +72,9 @@ fn clause_shares(tables: &[u8], terms: &[u8], bits: &[u8], c: usize, x: u32) -> 
 // What a flip spoils and mends of a clause: nothing where the clause does not name the variable, so no binomial is worked out there.
 fn clause_counts(tables: &[u8], terms: &[u8], bits: &[u8], c: usize, x: u32) -> Counts
     requires { ⌜ Ready (now tables) (now terms) (now bits) × (c < wordAt (now tables) 1) ⌝ }
-    ensures { λ r. ⌜ CountsAre (capped (clauseBreak (bitsIn (now (bits .entry))) x (clauseOf (wordAt (now (tables .entry))) (wordAt (now (terms .entry))) c))) (capped (clauseMake (bitsIn (now (bits .entry))) x (clauseOf (wordAt (now (tables .entry))) (wordAt (now (terms .entry))) c))) r ⌝ }
+    ensures { λ r. ⌜ CountsAre
+        (capped (clauseBreak (bitsIn (now (bits .entry))) x (clauseOf (wordAt (now (tables .entry))) (wordAt (now (terms .entry))) c)))
+        (capped (clauseMake (bitsIn (now (bits .entry))) x (clauseOf (wordAt (now (tables .entry))) (wordAt (now (terms .entry))) c))) r ⌝ }
 {
     if !clause_names(tables, terms, c, x) {
         return Counts::NONE;
@@ -80,7 +88,8 @@ fn clause_counts(tables: &[u8], terms: &[u8], bits: &[u8], c: usize, x: u32) -> 
 // The sum over the clauses.
 fn counts_of(tables: &[u8], terms: &[u8], bits: &[u8], x: u32) -> Counts
     requires { ⌜ Ready (now tables) (now terms) (now bits) ⌝ }
-    ensures { λ r. ⌜ CountsAre (capped (breakSum (planOfTables (now (tables .entry)) (now (terms .entry))) (bitsIn (now (bits .entry))) x)) (capped (makeSum (planOfTables (now (tables .entry)) (now (terms .entry))) (bitsIn (now (bits .entry))) x)) r ⌝ }
+    ensures { λ r. ⌜ CountsAre (capped (breakSum (planOfTables (now (tables .entry)) (now (terms .entry))) (bitsIn (now (bits .entry))) x))
+        (capped (makeSum (planOfTables (now (tables .entry)) (now (terms .entry))) (bitsIn (now (bits .entry))) x)) r ⌝ }
 {
     let clauses = index(tables, 1);
     let mut sum = Counts::NONE;
@@ -95,7 +104,11 @@ fn counts_of(tables: &[u8], terms: &[u8], bits: &[u8], x: u32) -> Counts
 // Of a variable from 1 to n.
 pub fn counts_core(tables: &[u8], terms: &[u8], assignment: &[u8], x: u32) -> Counts
     requires { ⌜ Ready (now tables) (now terms) (now assignment) × (0 < x) × (x ≤ planOfTables (now tables) (now terms) .variables) ⌝ }
-    ensures { λ r. ⌜ CountsAre (cappedBreak (planOfTables (now (tables .entry)) (now (terms .entry))) (bitsOf (planOfTables (now (tables .entry)) (now (terms .entry)) .variables) (now (assignment .entry))) x) (cappedMake (planOfTables (now (tables .entry)) (now (terms .entry))) (bitsOf (planOfTables (now (tables .entry)) (now (terms .entry)) .variables) (now (assignment .entry))) x) r ⌝ }
+    ensures { λ r. ⌜ CountsAre
+        (cappedBreak (planOfTables (now (tables .entry)) (now (terms .entry)))
+        (bitsOf (planOfTables (now (tables .entry)) (now (terms .entry)) .variables) (now (assignment .entry))) x)
+        (cappedMake (planOfTables (now (tables .entry)) (now (terms .entry)))
+        (bitsOf (planOfTables (now (tables .entry)) (now (terms .entry)) .variables) (now (assignment .entry))) x) r ⌝ }
 {
     let n = index(tables, 0);
     counts_of(tables, terms, &assignment[..n], x)

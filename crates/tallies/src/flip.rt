@@ -28,7 +28,11 @@ fn turn(assignment: &mut [u8], x: u32)
 
 // The tallies of an assignment after one variable was turned over, from those before.
 fn follow(tables: &[u8], terms: &[u8], assignment: &[u8], tallies: &mut [u8], x: u32)
-    requires { ⌜ Ready (now tables) (now terms) (now assignment) × (take tallySize (now tallies) ≡ tallyBytes (freshCount (planOfTables (now tables) (now terms)) (flipped (bitsOf (planOfTables (now tables) (now terms) .variables) (now assignment)) x))) ⌝ }
+    requires { ⌜ Ready (now tables) (now terms) (now assignment)
+        × (take tallySize (now tallies)
+        ≡ tallyBytes
+        (freshCount (planOfTables (now tables) (now terms))
+        (flipped (bitsOf (planOfTables (now tables) (now terms) .variables) (now assignment)) x))) ⌝ }
     ensures { λ _. ⌜ now (tallies .exit) ≡ counted (now (tables .entry)) (now (terms .entry)) (now (assignment .entry)) (now (tallies .entry)) ⌝ }
 {
     let n = index(tables, 0);
@@ -38,7 +42,8 @@ fn follow(tables: &[u8], terms: &[u8], assignment: &[u8], tallies: &mut [u8], x:
 // Only P of the rules that name the variable, the counts of their clauses and the total are written.
 pub fn flip_core(tables: &[u8], terms: &[u8], assignment: &mut [u8], tallies: &mut [u8], x: u32)
     requires { ⌜ Flippable (now tables) (now terms) (now assignment) (now tallies) x ⌝ }
-    ensures { λ _. ⌜ (now (assignment .exit) ≡ turned (now (assignment .entry)) x) × (now (tallies .exit) ≡ counted (now (tables .entry)) (now (terms .entry)) (turned (now (assignment .entry)) x) (now (tallies .entry))) ⌝ }
+    ensures { λ _. ⌜ (now (assignment .exit) ≡ turned (now (assignment .entry)) x)
+        × (now (tallies .exit) ≡ counted (now (tables .entry)) (now (terms .entry)) (turned (now (assignment .entry)) x) (now (tallies .entry))) ⌝ }
 {
     turn(assignment, x);
     follow(tables, terms, assignment, tallies, x);

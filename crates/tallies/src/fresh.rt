@@ -24,7 +24,7 @@ fn check_rule(tables: &[u8], terms: &[u8], bits: &[u8], tallies: &[u8], r: usize
     requires { ⌜ Ready (now tables) (now terms) (now bits) × (tallySize ≤ length (now tallies)) × (r < wordAt (now tables) 2) ⌝ }
     ensures { λ k. ⌜ FoundAt (now (tables .entry)) (now (terms .entry)) (now (bits .entry)) (now (tallies .entry)) r k ⌝ }
 {
-    let s = read_state(tables, terms, bits, 1542 + 5 * r);
+    let s = read_state(tables, terms, bits, format::RULES + 5 * r);
     if word(tallies, r) == s.p {
         Found::Same(bit(s.holds()))
     } else {
@@ -35,7 +35,8 @@ fn check_rule(tables: &[u8], terms: &[u8], bits: &[u8], tallies: &[u8], r: usize
 // Whether the words of a clause are right: those of its rules and its count.
 fn clause_fresh(tables: &[u8], terms: &[u8], bits: &[u8], tallies: &[u8], c: usize) -> bool
     requires { ⌜ Ready (now tables) (now terms) (now bits) × (tallySize ≤ length (now tallies)) × (c < wordAt (now tables) 1) ⌝ }
-    ensures { λ b. ⌜ Decides b (ClauseCounted (now (tables .entry)) (now (terms .entry)) (now (bits .entry)) c (now (tallies .entry)) (now (tallies .entry))) ⌝ }
+    ensures { λ b. ⌜ Decides b
+        (ClauseCounted (now (tables .entry)) (now (terms .entry)) (now (bits .entry)) c (now (tallies .entry)) (now (tallies .entry))) ⌝ }
 {
     let rules = rules_of(tables, c);
     let end = rules.end;
@@ -48,13 +49,16 @@ fn clause_fresh(tables: &[u8], terms: &[u8], bits: &[u8], tallies: &[u8], c: usi
         holding += h;
         r += 1;
     }
-    word(tallies, 1025 + c) == holding
+    word(tallies, format::HOLDING + c) == holding
 }
 
 // Whether those of all clauses are, and the total: then all words are, where unused entries are 0.
 fn clauses_fresh(tables: &[u8], terms: &[u8], bits: &[u8], tallies: &[u8]) -> bool
-    requires { ⌜ Ready (now tables) (now terms) (now bits) × (tallySize ≤ length (now tallies)) × Unused (planOfTables (now tables) (now terms)) (now tallies) ⌝ }
-    ensures { λ b. ⌜ Decides b (take tallySize (now (tallies .entry)) ≡ tallyBytes (freshCount (planOfTables (now (tables .entry)) (now (terms .entry))) (bitsIn (now (bits .entry))))) ⌝ }
+    requires { ⌜ Ready (now tables) (now terms) (now bits) × (tallySize ≤ length (now tallies))
+        × Unused (planOfTables (now tables) (now terms)) (now tallies) ⌝ }
+    ensures { λ b. ⌜ Decides b
+        (take tallySize (now (tallies .entry))
+        ≡ tallyBytes (freshCount (planOfTables (now (tables .entry)) (now (terms .entry))) (bitsIn (now (bits .entry))))) ⌝ }
 {
     let clauses = index(tables, 1);
     let mut unsatisfied: u32 = 0;
@@ -63,10 +67,10 @@ fn clauses_fresh(tables: &[u8], terms: &[u8], bits: &[u8], tallies: &[u8]) -> bo
         if !clause_fresh(tables, terms, bits, tallies, c) {
             return false;
         }
-        unsatisfied += bit(word(tallies, 1025 + c) == 0);
+        unsatisfied += bit(word(tallies, format::HOLDING + c) == 0);
         c += 1;
     }
-    word(tallies, 1538) == unsatisfied
+    word(tallies, format::UNSATISFIED) == unsatisfied
 }
 
 // Whether the words from one on and before another are 0.
@@ -87,15 +91,19 @@ fn zeros(s: &[u8], from: usize, end: usize) -> bool
 // Unused entries are looked at first: it costs least.
 pub fn fresh(tables: &[u8], terms: &[u8], assignment: &[u8], tallies: &[u8]) -> bool
     requires { ⌜ Ready (now tables) (now terms) (now assignment) × (tallySize ≤ length (now tallies)) ⌝ }
-    ensures { λ b. ⌜ b ≡ sameBytes (take tallySize (now (tallies .entry))) (tallyBytes (freshCount (planOfTables (now (tables .entry)) (now (terms .entry))) (bitsOf (planOfTables (now (tables .entry)) (now (terms .entry)) .variables) (now (assignment .entry))))) ⌝ }
+    ensures { λ b. ⌜ b
+        ≡ sameBytes (take tallySize (now (tallies .entry)))
+        (tallyBytes
+        (freshCount (planOfTables (now (tables .entry)) (now (terms .entry)))
+        (bitsOf (planOfTables (now (tables .entry)) (now (terms .entry)) .variables) (now (assignment .entry))))) ⌝ }
 {
     let n = index(tables, 0);
     let clauses = index(tables, 1);
     let rules = index(tables, 2);
-    if !zeros(tallies, rules, 1025) {
+    if !zeros(tallies, rules, format::HOLDING) {
         return false;
     }
-    if !zeros(tallies, 1025 + clauses, 1538) {
+    if !zeros(tallies, format::HOLDING + clauses, format::UNSATISFIED) {
         return false;
     }
     clauses_fresh(tables, terms, &assignment[..n], tallies)

@@ -47,7 +47,8 @@ fn put_if(due: bool, tallies: &mut [u8], i: usize, v: u32)
 // A rule that does not name the variable is not due, unless every rule is.
 fn is_due(tables: &[u8], terms: &[u8], r: usize, x: u32, every: bool) -> bool
     requires { ⌜ Laid (now tables) (now terms) × (r < wordAt (now tables) 2) ⌝ }
-    ensures { λ b. ⌜ (b ≡ false → (every ≡ false) × (namedIn x (ruleOf (wordAt (now (tables .entry))) (wordAt (now (terms .entry))) r .terms) ≡ false)) ⌝ }
+    ensures { λ b. ⌜ (b ≡ false
+        → (every ≡ false) × (namedIn x (ruleOf (wordAt (now (tables .entry))) (wordAt (now (terms .entry))) r .terms) ≡ false)) ⌝ }
 {
     if every {
         return true;
@@ -69,7 +70,7 @@ fn recount_rule(
     ensures { λ b. ⌜ RuleCounted (now (tables .entry)) (now (terms .entry)) (now (bits .entry)) r b (now (tallies .entry)) (now (tallies .exit)) ⌝ }
 {
     let due = is_due(tables, terms, r, x, every);
-    let s = read_state(tables, terms, bits, 1542 + 5 * r);
+    let s = read_state(tables, terms, bits, format::RULES + 5 * r);
     put_if(due, tallies, r, s.p);
     s.holds()
 }
@@ -95,13 +96,14 @@ fn recount_rules(
         holding += bit(recount_rule(tables, terms, bits, tallies, r, x, every));
         r += 1;
     }
-    put(tallies, 1025 + c, holding);
+    put(tallies, format::HOLDING + c, holding);
 }
 
 // A clause that does not name the variable is passed over, unless every clause is due.
 fn is_passed(tables: &[u8], terms: &[u8], c: usize, x: u32, every: bool) -> bool
     requires { ⌜ Laid (now tables) (now terms) × (c < wordAt (now tables) 1) ⌝ }
-    ensures { λ r. ⌜ (r ≡ true → (every ≡ false) × (names (clauseOf (wordAt (now (tables .entry))) (wordAt (now (terms .entry))) c) x ≡ false)) ⌝ }
+    ensures { λ r. ⌜ (r ≡ true
+        → (every ≡ false) × (names (clauseOf (wordAt (now (tables .entry))) (wordAt (now (terms .entry))) c) x ≡ false)) ⌝ }
 {
     if every {
         return false;
@@ -130,15 +132,17 @@ fn recount_clause(
 // All clauses, and how many of them hold no rule.
 pub fn recount(tables: &[u8], terms: &[u8], bits: &[u8], tallies: &mut [u8], x: u32, every: bool)
     requires { ⌜ Countable (now tables) (now terms) (now bits) (now tallies) x every × Unused (planOfTables (now tables) (now terms)) (now tallies) ⌝ }
-    ensures { λ _. ⌜ now (tallies .exit) ≡ tallyBytes (freshCount (planOfTables (now (tables .entry)) (now (terms .entry))) (bitsIn (now (bits .entry)))) ++ drop tallySize (now (tallies .entry)) ⌝ }
+    ensures { λ _. ⌜ now (tallies .exit)
+        ≡ tallyBytes (freshCount (planOfTables (now (tables .entry)) (now (terms .entry))) (bitsIn (now (bits .entry)))) ++ drop tallySize
+        (now (tallies .entry)) ⌝ }
 {
     let clauses = index(tables, 1);
     let mut unsatisfied: u32 = 0;
     let mut c = 0;
     while c < clauses {
         recount_clause(tables, terms, bits, tallies, c, x, every);
-        unsatisfied += bit(word(tallies, 1025 + c) == 0);
+        unsatisfied += bit(word(tallies, format::HOLDING + c) == 0);
         c += 1;
     }
-    put(tallies, 1538, unsatisfied);
+    put(tallies, format::UNSATISFIED, unsatisfied);
 }

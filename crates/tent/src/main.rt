@@ -23,8 +23,8 @@ fn main() {
     let mut plan = [0u8; 65537];
     let mut walk = [0u8; 65537];
     let mut numbers = [0u8; 65537];
-    let mut tables = [0u8; 26668];
-    let mut terms = [0u8; 52096];
+    let mut tables = [0u8; format::TABLES];
+    let mut terms = [0u8; format::TERMS];
     let mut out = [0u8; 2048];
     let p = read(b"plan.bin", &mut plan);
     let w = read(b"walk.bin", &mut walk);

@@ -41,7 +41,8 @@ fn is_found(ending: u32) -> bool
 
 // The lines of a search's answer. Answers their length, as each function here does.
 fn write_answer(tables: &[u8], assignment: &[u8], r: Found, out: &mut [u8]) -> usize
-    requires { ⌜ (4 ≤ length (now tables)) × (wordAt (now tables) 0 ≤ 512) × (wordAt (now tables) 0 ≤ length (now assignment)) × (2_048 ≤ length (now out)) ⌝ }
+    requires { ⌜ (4 ≤ length (now tables)) × (wordAt (now tables) 0 ≤ 512) × (wordAt (now tables) 0 ≤ length (now assignment))
+        × (2_048 ≤ length (now out)) ⌝ }
     ensures { λ k. ⌜ (now (out .exit) ≡ front (resultLine (endingOf (r .ending)) (r .cost) (r .finds) (r .flips) (r .used) ++ assignmentLine (hasPlan (r .ending)) (wordAt (now (tables .entry)) 0) (now (assignment .entry))) (now (out .entry)))
         × (k ≡ length (resultLine (endingOf (r .ending)) (r .cost) (r .finds) (r .flips) (r .used) ++ assignmentLine (hasPlan (r .ending)) (wordAt (now (tables .entry)) 0) (now (assignment .entry)))) ⌝ }
 {
@@ -69,13 +70,14 @@ fn search_plan(
     mode: u32,
     out: &mut [u8],
 ) -> usize
-    requires { ⌜ T (isLoaded (now tables) (now terms)) × (tableSize ≤ length (now tables)) × (termSize ≤ length (now terms)) × (settingsRefusal (record { noise = noise; tries = tries; flips = flips; mode = mode }) ≡ 0) × (2_048 ≤ length (now out)) ⌝ }
+    requires { ⌜ T (isLoaded (now tables) (now terms)) × (tableSize ≤ length (now tables)) × (termSize ≤ length (now terms))
+        × (settingsRefusal (record { noise = noise; tries = tries; flips = flips; mode = mode }) ≡ 0) × (2_048 ≤ length (now out)) ⌝ }
     ensures { λ k. ⌜ (now (out .exit) ≡ front (answerText (searchOf (settings (record { noise = noise; tries = tries; flips = flips; mode = mode })) (planOfTables (now (tables .entry)) (now (terms .entry))) (numbersOf (now (numbers .entry))))) (now (out .entry)))
         × (k ≡ length (answerText (searchOf (settings (record { noise = noise; tries = tries; flips = flips; mode = mode })) (planOfTables (now (tables .entry)) (now (terms .entry))) (numbersOf (now (numbers .entry)))))) ⌝ }
 {
     let mut assignment = [0u8; 512];
-    let mut work_tables = [0u8; 26668];
-    let mut work_terms = [0u8; 52096];
+    let mut work_tables = [0u8; format::TABLES];
+    let mut work_terms = [0u8; format::TERMS];
     let mut work_assignment = [0u8; 512];
     let mut work_tallies = [0u8; 6156];
     let mut work_marks = [0u8; 512];
@@ -99,7 +101,8 @@ fn search_plan(
 
 // The settings and the list of numbers, once the plan is loaded.
 fn respond_loaded(tables: &[u8], terms: &[u8], walk: &[u8], numbers: &[u8], out: &mut [u8]) -> usize
-    requires { ⌜ T (isLoaded (now tables) (now terms)) × (tableSize ≤ length (now tables)) × (termSize ≤ length (now terms)) × (2_048 ≤ length (now out)) ⌝ }
+    requires { ⌜ T (isLoaded (now tables) (now terms)) × (tableSize ≤ length (now tables)) × (termSize ≤ length (now terms))
+        × (2_048 ≤ length (now out)) ⌝ }
     ensures { λ k. ⌜ (now (out .exit) ≡ front (withSettings (planOfTables (now (tables .entry)) (now (terms .entry))) (now (numbers .entry)) (readWalk (now (walk .entry)))) (now (out .entry)))
         × (k ≡ length (withSettings (planOfTables (now (tables .entry)) (now (terms .entry))) (now (numbers .entry)) (readWalk (now (walk .entry))))) ⌝ }
 {

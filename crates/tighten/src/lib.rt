@@ -10,7 +10,7 @@ ghost use Rattle.words.specs.Words.{wordAt};
 ghost use Rattle.format.specs.Limits.{maxBound};
 ghost use Rattle.tallies.specs.Layout.{bitsOf};
 ghost use Rattle.objective.specs.Sums.{Summable, costIn, bits};
-ghost use Rattle.tries.specs.Steps.{settingsOf, modeOf};
+ghost use Rattle.tries.specs.Steps.{settingsOf, modeOf, work};
 ghost use Rattle.tighten.specs.Bounds.{basis, Room, Leaves, Stands, CallsUnder, LbsComes, Concludes, answerOf, standIn, StoppedAt};
 use counting::tightening::lbs_bound;
 use counting::tightening::linear_bound;
@@ -54,7 +54,9 @@ pub struct Searched {
 // Copies a find out, and answers what it costs.
 pub fn keep_find(tables: &[u8], found: &[u8], assignment: &mut [u8]) -> i64
     requires { ⌜ Summable (now tables) × (wordAt (now tables) 0 ≤ length (now found)) × (wordAt (now tables) 0 ≤ length (now assignment)) ⌝ }
-    ensures { λ r. ⌜ (r ≡ costIn (now (tables .entry)) (bits (wordAt (now (tables .entry)) 0) (now (found .entry)))) × (now (assignment .exit) ≡ take (wordAt (now (tables .entry)) 0) (now (found .entry)) ++ drop (wordAt (now (tables .entry)) 0) (now (assignment .entry))) ⌝ }
+    ensures { λ r. ⌜ (r ≡ costIn (now (tables .entry)) (bits (wordAt (now (tables .entry)) 0) (now (found .entry))))
+        × (now (assignment .exit)
+        ≡ take (wordAt (now (tables .entry)) 0) (now (found .entry)) ++ drop (wordAt (now (tables .entry)) 0) (now (assignment .entry))) ⌝ }
 {
     let n = index(tables, 0);
     copy(found, assignment, n);
@@ -74,8 +76,13 @@ fn call_under(
     tallies: &mut [u8],
     marks: &mut [u8],
 ) -> Called
-    requires { ⌜ Room (basis (now tables) (now terms)) (now tables) (now terms) (now assignment) (record { assignment = now tried; tallies = now tallies; marks = now marks }) × Stands (basis (now tables) (now terms)) (now numbers) (now assignment) at × (natAbs bound ≤ maxBound) ⌝ }
-    ensures { λ r. ⌜ CallsUnder (settingsOf s) (basis (now (tables .entry)) (now (terms .entry))) bound (now (numbers .entry)) at r (now (assignment .entry)) (now (assignment .exit)) × Leaves (basis (now (tables .entry)) (now (terms .entry))) (now (tables .entry)) (now (terms .entry)) (now (tables .exit)) (now (assignment .entry)) (now (assignment .exit)) (record { assignment = now (tried .entry); tallies = now (tallies .entry); marks = now (marks .entry) }) (record { assignment = now (tried .exit); tallies = now (tallies .exit); marks = now (marks .exit) }) ⌝ }
+    requires { ⌜ Room (basis (now tables) (now terms)) (now tables) (now terms) (now assignment) (work (now tried) (now tallies) (now marks))
+        × Stands (basis (now tables) (now terms)) (now numbers) (now assignment) at × (natAbs bound ≤ maxBound) ⌝ }
+    ensures { λ r. ⌜ CallsUnder (settingsOf s) (basis (now (tables .entry)) (now (terms .entry))) bound (now (numbers .entry)) at r
+        (now (assignment .entry)) (now (assignment .exit))
+        × Leaves (basis (now (tables .entry)) (now (terms .entry))) (now (tables .entry)) (now (terms .entry)) (now (tables .exit)) (now (assignment .entry))
+        (now (assignment .exit)) (work (now (tried .entry)) (now (tallies .entry)) (now (marks .entry)))
+        (work (now (tried .exit)) (now (tallies .exit)) (now (marks .exit))) ⌝ }
 {
     set_bound(tables, bound);
     let t = call(
@@ -144,8 +151,15 @@ fn linear(
     tallies: &mut [u8],
     marks: &mut [u8],
 ) -> Searched
-    requires { ⌜ Room (basis (now tables) (now terms)) (now tables) (now terms) (now assignment) (record { assignment = now tried; tallies = now tallies; marks = now marks }) × Stands (basis (now tables) (now terms)) (now numbers) (now assignment) from × (floor ≡ floorCost (basis (now tables) (now terms))) ⌝ }
-    ensures { λ r. ⌜ Concludes (linearSearch (settingsOf s)) (basis (now (tables .entry)) (now (terms .entry))) (now (numbers .entry)) from (bitsOf ((basis (now (tables .entry)) (now (terms .entry))) .variables) (now (assignment .entry))) (answerOf (r .ending) (r .stand) (reached (bitsOf ((basis (now (tables .entry)) (now (terms .entry))) .variables) (now (assignment .exit))))) × Stands (basis (now (tables .entry)) (now (terms .entry))) (now (numbers .entry)) (now (assignment .exit)) (r .stand) × Leaves (basis (now (tables .entry)) (now (terms .entry))) (now (tables .entry)) (now (terms .entry)) (now (tables .exit)) (now (assignment .entry)) (now (assignment .exit)) (record { assignment = now (tried .entry); tallies = now (tallies .entry); marks = now (marks .entry) }) (record { assignment = now (tried .exit); tallies = now (tallies .exit); marks = now (marks .exit) }) ⌝ }
+    requires { ⌜ Room (basis (now tables) (now terms)) (now tables) (now terms) (now assignment) (work (now tried) (now tallies) (now marks))
+        × Stands (basis (now tables) (now terms)) (now numbers) (now assignment) from × (floor ≡ floorCost (basis (now tables) (now terms))) ⌝ }
+    ensures { λ r. ⌜ Concludes (linearSearch (settingsOf s)) (basis (now (tables .entry)) (now (terms .entry))) (now (numbers .entry)) from
+        (bitsOf ((basis (now (tables .entry)) (now (terms .entry))) .variables) (now (assignment .entry)))
+        (answerOf (r .ending) (r .stand) (reached (bitsOf ((basis (now (tables .entry)) (now (terms .entry))) .variables) (now (assignment .exit)))))
+        × Stands (basis (now (tables .entry)) (now (terms .entry))) (now (numbers .entry)) (now (assignment .exit)) (r .stand)
+        × Leaves (basis (now (tables .entry)) (now (terms .entry))) (now (tables .entry)) (now (terms .entry)) (now (tables .exit)) (now (assignment .entry))
+        (now (assignment .exit)) (work (now (tried .entry)) (now (tallies .entry)) (now (marks .entry)))
+        (work (now (tried .exit)) (now (tallies .exit)) (now (marks .exit))) ⌝ }
 {
     let mut at = from;
     while floor < at.cost {
@@ -185,8 +199,15 @@ fn lbs(
     tallies: &mut [u8],
     marks: &mut [u8],
 ) -> Called
-    requires { ⌜ Room (basis (now tables) (now terms)) (now tables) (now terms) (now assignment) (record { assignment = now tried; tallies = now tallies; marks = now marks }) × Stands (basis (now tables) (now terms)) (now numbers) (now assignment) from × (floor ≡ floorCost (basis (now tables) (now terms))) ⌝ }
-    ensures { λ r. ⌜ LbsComes (settingsOf s) (basis (now (tables .entry)) (now (terms .entry))) (now (numbers .entry)) from (bitsOf ((basis (now (tables .entry)) (now (terms .entry))) .variables) (now (assignment .entry))) (bitsOf ((basis (now (tables .entry)) (now (terms .entry))) .variables) (now (assignment .exit))) r × Stands (basis (now (tables .entry)) (now (terms .entry))) (now (numbers .entry)) (now (assignment .exit)) (standIn r) × Leaves (basis (now (tables .entry)) (now (terms .entry))) (now (tables .entry)) (now (terms .entry)) (now (tables .exit)) (now (assignment .entry)) (now (assignment .exit)) (record { assignment = now (tried .entry); tallies = now (tallies .entry); marks = now (marks .entry) }) (record { assignment = now (tried .exit); tallies = now (tallies .exit); marks = now (marks .exit) }) ⌝ }
+    requires { ⌜ Room (basis (now tables) (now terms)) (now tables) (now terms) (now assignment) (work (now tried) (now tallies) (now marks))
+        × Stands (basis (now tables) (now terms)) (now numbers) (now assignment) from × (floor ≡ floorCost (basis (now tables) (now terms))) ⌝ }
+    ensures { λ r. ⌜ LbsComes (settingsOf s) (basis (now (tables .entry)) (now (terms .entry))) (now (numbers .entry)) from
+        (bitsOf ((basis (now (tables .entry)) (now (terms .entry))) .variables) (now (assignment .entry)))
+        (bitsOf ((basis (now (tables .entry)) (now (terms .entry))) .variables) (now (assignment .exit))) r
+        × Stands (basis (now (tables .entry)) (now (terms .entry))) (now (numbers .entry)) (now (assignment .exit)) (standIn r)
+        × Leaves (basis (now (tables .entry)) (now (terms .entry))) (now (tables .entry)) (now (terms .entry)) (now (tables .exit)) (now (assignment .entry))
+        (now (assignment .exit)) (work (now (tried .entry)) (now (tallies .entry)) (now (marks .entry)))
+        (work (now (tried .exit)) (now (tallies .exit)) (now (marks .exit))) ⌝ }
 {
     let mut at = from;
     while floor < at.cost {
@@ -223,8 +244,15 @@ pub fn tighten(
     tallies: &mut [u8],
     marks: &mut [u8],
 ) -> Searched
-    requires { ⌜ Room (basis (now tables) (now terms)) (now tables) (now terms) (now assignment) (record { assignment = now tried; tallies = now tallies; marks = now marks }) × Stands (basis (now tables) (now terms)) (now numbers) (now assignment) from × (floor ≡ floorCost (basis (now tables) (now terms))) ⌝ }
-    ensures { λ r. ⌜ Concludes (tightenBy (modeOf (s .mode)) (settingsOf s)) (basis (now (tables .entry)) (now (terms .entry))) (now (numbers .entry)) from (bitsOf ((basis (now (tables .entry)) (now (terms .entry))) .variables) (now (assignment .entry))) (answerOf (r .ending) (r .stand) (reached (bitsOf ((basis (now (tables .entry)) (now (terms .entry))) .variables) (now (assignment .exit))))) × Stands (basis (now (tables .entry)) (now (terms .entry))) (now (numbers .entry)) (now (assignment .exit)) (r .stand) × Leaves (basis (now (tables .entry)) (now (terms .entry))) (now (tables .entry)) (now (terms .entry)) (now (tables .exit)) (now (assignment .entry)) (now (assignment .exit)) (record { assignment = now (tried .entry); tallies = now (tallies .entry); marks = now (marks .entry) }) (record { assignment = now (tried .exit); tallies = now (tallies .exit); marks = now (marks .exit) }) ⌝ }
+    requires { ⌜ Room (basis (now tables) (now terms)) (now tables) (now terms) (now assignment) (work (now tried) (now tallies) (now marks))
+        × Stands (basis (now tables) (now terms)) (now numbers) (now assignment) from × (floor ≡ floorCost (basis (now tables) (now terms))) ⌝ }
+    ensures { λ r. ⌜ Concludes (tightenBy (modeOf (s .mode)) (settingsOf s)) (basis (now (tables .entry)) (now (terms .entry))) (now (numbers .entry)) from
+        (bitsOf ((basis (now (tables .entry)) (now (terms .entry))) .variables) (now (assignment .entry)))
+        (answerOf (r .ending) (r .stand) (reached (bitsOf ((basis (now (tables .entry)) (now (terms .entry))) .variables) (now (assignment .exit)))))
+        × Stands (basis (now (tables .entry)) (now (terms .entry))) (now (numbers .entry)) (now (assignment .exit)) (r .stand)
+        × Leaves (basis (now (tables .entry)) (now (terms .entry))) (now (tables .entry)) (now (terms .entry)) (now (tables .exit)) (now (assignment .entry))
+        (now (assignment .exit)) (work (now (tried .entry)) (now (tallies .entry)) (now (marks .entry)))
+        (work (now (tried .exit)) (now (tallies .exit)) (now (marks .exit))) ⌝ }
 {
     if s.mode == 0 {
         return linear(

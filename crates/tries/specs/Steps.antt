@@ -27,6 +27,9 @@ pub record Work : Type 0 where
   pub tallies : List ℕ
   pub marks : List ℕ
 
+abbrev pub work : List ℕ → List ℕ → List ℕ → Work
+work assignment tallies marks = record { assignment = assignment; tallies = tallies; marks = marks }
+
 -- The variables of the plan that two tables hold, as an assignment gives them.
 abbrev pub bitsIn : List ℕ → List ℕ → Work → Assignment
 bitsIn tables terms w = bitsOf (planOfTables tables terms .variables) (w .assignment)

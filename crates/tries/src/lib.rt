@@ -3,7 +3,7 @@ ghost use Prim.Native.Nat.{_+_, _/_, _≤_};
 ghost use lib.ListN.{length};
 ghost use Rattle.plpb.specs.Search.{flipping, try, call as called};
 ghost use Rattle.format.specs.Tables.{planOfTables};
-ghost use Rattle.tries.specs.Steps.{Startable, Walking, Tries, bitsIn, settingsOf};
+ghost use Rattle.tries.specs.Steps.{Startable, Walking, Tries, bitsIn, settingsOf, work};
 
 mod moves;
 
@@ -41,14 +41,20 @@ fn make_flips(
     tallies: &mut [u8],
     marks: &mut [u8],
 ) -> Tried
-    requires { ⌜ Walking (now tables) (now terms) (record { assignment = now assignment; tallies = now tallies; marks = now marks }) × (begun ≤ length (now numbers) / 4) × (before ≤ begun) ⌝ }
-    ensures { λ r. ⌜ Tries (flipping (settingsOf s) (planOfTables (now (tables .entry)) (now (terms .entry))) (s .flips) (bitsIn (now (tables .entry)) (now (terms .entry)) (record { assignment = now (assignment .entry); tallies = now (tallies .entry); marks = now (marks .entry) }))) (now (tables .entry)) (now (terms .entry)) (now (numbers .entry)) begun before begun r (record { assignment = now (assignment .entry); tallies = now (tallies .entry); marks = now (marks .entry) }) (record { assignment = now (assignment .exit); tallies = now (tallies .exit); marks = now (marks .exit) }) ⌝ }
+    requires { ⌜ Walking (now tables) (now terms) (work (now assignment) (now tallies) (now marks)) × (begun ≤ length (now numbers) / 4)
+        × (before ≤ begun) ⌝ }
+    ensures { λ r. ⌜ Tries
+        (flipping (settingsOf s) (planOfTables (now (tables .entry)) (now (terms .entry))) (s .flips)
+        (bitsIn (now (tables .entry)) (now (terms .entry)) (work (now (assignment .entry)) (now (tallies .entry)) (now (marks .entry)))))
+        (now (tables .entry)) (now (terms .entry)) (now (numbers .entry)) begun before begun r
+        (work (now (assignment .entry)) (now (tallies .entry)) (now (marks .entry)))
+        (work (now (assignment .exit)) (now (tallies .exit)) (now (marks .exit))) ⌝ }
 {
     let mut used = begun;
     let mut made = before;
     let mut left = s.flips;
     while 0 < left {
-        if word(tallies, 1538) == 0 {
+        if word(tallies, format::UNSATISFIED) == 0 {
             return Tried::Reached(used, made);
         }
         let m = make_move(tables, terms, numbers, used, s, assignment, tallies, marks);
@@ -74,8 +80,11 @@ fn try_once(
     tallies: &mut [u8],
     marks: &mut [u8],
 ) -> Tried
-    requires { ⌜ Startable (now tables) (now terms) (record { assignment = now assignment; tallies = now tallies; marks = now marks }) × (used ≤ length (now numbers) / 4) × (made ≤ used) ⌝ }
-    ensures { λ r. ⌜ Tries (try (settingsOf s) (planOfTables (now (tables .entry)) (now (terms .entry)))) (now (tables .entry)) (now (terms .entry)) (now (numbers .entry)) used made (used + 1) r (record { assignment = now (assignment .entry); tallies = now (tallies .entry); marks = now (marks .entry) }) (record { assignment = now (assignment .exit); tallies = now (tallies .exit); marks = now (marks .exit) }) ⌝ }
+    requires { ⌜ Startable (now tables) (now terms) (work (now assignment) (now tallies) (now marks)) × (used ≤ length (now numbers) / 4)
+        × (made ≤ used) ⌝ }
+    ensures { λ r. ⌜ Tries (try (settingsOf s) (planOfTables (now (tables .entry)) (now (terms .entry)))) (now (tables .entry)) (now (terms .entry))
+        (now (numbers .entry)) used made (used + 1) r (work (now (assignment .entry)) (now (tallies .entry)) (now (marks .entry)))
+        (work (now (assignment .exit)) (now (tallies .exit)) (now (marks .exit))) ⌝ }
 {
     let n = index(tables, 0);
     let Started::Taken(after) = start(numbers, used, n, assignment) else {
@@ -107,8 +116,11 @@ pub fn call(
     tallies: &mut [u8],
     marks: &mut [u8],
 ) -> Tried
-    requires { ⌜ Startable (now tables) (now terms) (record { assignment = now assignment; tallies = now tallies; marks = now marks }) × (begun ≤ length (now numbers) / 4) × (before ≤ begun) ⌝ }
-    ensures { λ r. ⌜ Tries (called (settingsOf s) (planOfTables (now (tables .entry)) (now (terms .entry)))) (now (tables .entry)) (now (terms .entry)) (now (numbers .entry)) begun before (begun + 1) r (record { assignment = now (assignment .entry); tallies = now (tallies .entry); marks = now (marks .entry) }) (record { assignment = now (assignment .exit); tallies = now (tallies .exit); marks = now (marks .exit) }) ⌝ }
+    requires { ⌜ Startable (now tables) (now terms) (work (now assignment) (now tallies) (now marks)) × (begun ≤ length (now numbers) / 4)
+        × (before ≤ begun) ⌝ }
+    ensures { λ r. ⌜ Tries (called (settingsOf s) (planOfTables (now (tables .entry)) (now (terms .entry)))) (now (tables .entry)) (now (terms .entry))
+        (now (numbers .entry)) begun before (begun + 1) r (work (now (assignment .entry)) (now (tallies .entry)) (now (marks .entry)))
+        (work (now (assignment .exit)) (now (tallies .exit)) (now (marks .exit))) ⌝ }
 {
     let mut used = begun;
     let mut made = before;

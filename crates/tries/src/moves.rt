@@ -4,7 +4,8 @@ ghost use Prim.Native.Nat.{_/_, _≤_, _<_};
 ghost use lib.ListN.{length};
 ghost use Rattle.plpb.specs.Tallies.{unsatisfied};
 ghost use Rattle.words.specs.Words.{wordAt};
-ghost use Rattle.tries.specs.Steps.{Walking, Moves, InClause, settingsOf};
+ghost use Rattle.tries.specs.Steps.{Walking, Moves, InClause, settingsOf, work};
+ghost use Rattle.format.specs.Layout.{unsatisfiedAt};
 use crate::Settings;
 use choice::choose::Chosen;
 use choice::choose::choose;
@@ -32,8 +33,11 @@ fn flip_in(
     tallies: &mut [u8],
     marks: &mut [u8],
 ) -> Moved
-    requires { ⌜ Walking (now tables) (now terms) (record { assignment = now assignment; tallies = now tallies; marks = now marks }) × (c < wordAt (now tables) 1) × (used ≤ length (now numbers) / 4) ⌝ }
-    ensures { λ r. ⌜ InClause (settingsOf s) (now (tables .entry)) (now (terms .entry)) (now (numbers .entry)) used c r (record { assignment = now (assignment .entry); tallies = now (tallies .entry); marks = now (marks .entry) }) (record { assignment = now (assignment .exit); tallies = now (tallies .exit); marks = now (marks .exit) }) ⌝ }
+    requires { ⌜ Walking (now tables) (now terms) (work (now assignment) (now tallies) (now marks)) × (c < wordAt (now tables) 1)
+        × (used ≤ length (now numbers) / 4) ⌝ }
+    ensures { λ r. ⌜ InClause (settingsOf s) (now (tables .entry)) (now (terms .entry)) (now (numbers .entry)) used c r
+        (work (now (assignment .entry)) (now (tallies .entry)) (now (marks .entry)))
+        (work (now (assignment .exit)) (now (tallies .exit)) (now (marks .exit))) ⌝ }
 {
     let v = choose(tables, terms, assignment, numbers, used, s.noise, c, marks);
     match v {
@@ -62,14 +66,17 @@ pub fn make_move(
     tallies: &mut [u8],
     marks: &mut [u8],
 ) -> Moved
-    requires { ⌜ Walking (now tables) (now terms) (record { assignment = now assignment; tallies = now tallies; marks = now marks }) × (0 < wordAt (now tallies) 1538) × (used ≤ length (now numbers) / 4) ⌝ }
-    ensures { λ r. ⌜ Moves (settingsOf s) (now (tables .entry)) (now (terms .entry)) (now (numbers .entry)) used r (record { assignment = now (assignment .entry); tallies = now (tallies .entry); marks = now (marks .entry) }) (record { assignment = now (assignment .exit); tallies = now (tallies .exit); marks = now (marks .exit) }) ⌝ }
+    requires { ⌜ Walking (now tables) (now terms) (work (now assignment) (now tallies) (now marks)) × (0 < wordAt (now tallies) unsatisfiedAt)
+        × (used ≤ length (now numbers) / 4) ⌝ }
+    ensures { λ r. ⌜ Moves (settingsOf s) (now (tables .entry)) (now (terms .entry)) (now (numbers .entry)) used r
+        (work (now (assignment .entry)) (now (tallies .entry)) (now (marks .entry)))
+        (work (now (assignment .exit)) (now (tallies .exit)) (now (marks .exit))) ⌝ }
 {
-    let unsatisfied = index(tallies, 1538);
+    let unsatisfied = index(tallies, format::UNSATISFIED);
     let p = pick(numbers, used, unsatisfied);
     match p {
         Picked::At(k, after) => {
-            let c = nth_zero(tallies, 1025, index(tables, 1), k);
+            let c = nth_zero(tallies, format::HOLDING, index(tables, 1), k);
             flip_in(
                 tables,
                 terms,

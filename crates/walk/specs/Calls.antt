@@ -37,6 +37,20 @@ pub record Lent : Type 0 where
   pub workTallies : List ℕ
   pub workMarks : List ℕ
 
+abbrev pub lentAll : (tables terms numbers assignment workTables workTerms workAssignment workTallies workMarks : List ℕ) → Lent
+lentAll tables terms numbers assignment workTables workTerms workAssignment workTallies workMarks =
+    record {
+      tables = tables;
+      terms = terms;
+      numbers = numbers;
+      assignment = assignment;
+      workTables = workTables;
+      workTerms = workTerms;
+      workAssignment = workAssignment;
+      workTallies = workTallies;
+      workMarks = workMarks;
+    }
+
 abbrev pub markSize : ℕ
 markSize = 512
 

@@ -1,7 +1,8 @@
 // What a search tests of what it is lent and set, in the order of document 01: 21, 22, 11, 12, 13, 14.
 ghost use mathlib.Core.Path.{_≡_};
-ghost use Rattle.walk.specs.Calls.{searchRefusal, settingsRefusal};
+ghost use Rattle.walk.specs.Calls.{searchRefusal, settingsRefusal, lentAll};
 ghost use Rattle.walk.specs.Whole.{tablesSmall, workSmall};
+ghost use Rattle.tries.specs.Steps.{work};
 use loaded::good;
 use tries::Settings;
 
@@ -9,10 +10,10 @@ use tries::Settings;
 fn tables_small(tables: &[u8], terms: &[u8], assignment: &[u8]) -> bool
     ensures { λ r. ⌜ r ≡ tablesSmall (now (tables .entry)) (now (terms .entry)) (now (assignment .entry)) ⌝ }
 {
-    if tables.len() < 26668 {
+    if tables.len() < format::TABLES {
         return true;
     }
-    if terms.len() < 52096 {
+    if terms.len() < format::TERMS {
         return true;
     }
     assignment.len() < 512
@@ -43,7 +44,8 @@ pub fn settings_refusal(s: Settings) -> u32
 }
 
 fn work_small(tables: &[u8], terms: &[u8], assignment: &[u8], tallies: &[u8], marks: &[u8]) -> bool
-    ensures { λ r. ⌜ r ≡ workSmall (now (tables .entry)) (now (terms .entry)) (record { assignment = now (assignment .entry); tallies = now (tallies .entry); marks = now (marks .entry) }) ⌝ }
+    ensures { λ r. ⌜ r
+        ≡ workSmall (now (tables .entry)) (now (terms .entry)) (work (now (assignment .entry)) (now (tallies .entry)) (now (marks .entry))) ⌝ }
 {
     if tables_small(tables, terms, assignment) {
         return true;
@@ -66,7 +68,11 @@ pub fn search_refusal(
     work_tallies: &[u8],
     work_marks: &[u8],
 ) -> u32
-    ensures { λ r. ⌜ r ≡ searchRefusal (record { tables = now (tables .entry); terms = now (terms .entry); numbers = now (numbers .entry); assignment = now (assignment .entry); workTables = now («work_tables» .entry); workTerms = now («work_terms» .entry); workAssignment = now («work_assignment» .entry); workTallies = now («work_tallies» .entry); workMarks = now («work_marks» .entry) }) (record { noise = s .noise; tries = s .tries; flips = s .flips; mode = s .mode }) ⌝ }
+    ensures { λ r. ⌜ r
+        ≡ searchRefusal
+        (lentAll (now (tables .entry)) (now (terms .entry)) (now (numbers .entry)) (now (assignment .entry)) (now («work_tables» .entry))
+        (now («work_terms» .entry)) (now («work_assignment» .entry)) (now («work_tallies» .entry)) (now («work_marks» .entry)))
+        (record { noise = s .noise; tries = s .tries; flips = s .flips; mode = s .mode }) ⌝ }
 {
     if tables_small(tables, terms, assignment) {
         return 21;

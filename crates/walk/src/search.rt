@@ -5,8 +5,8 @@ ghost use Prim.Native.Nat.{_≤_};
 ghost use lib.ListN.{length, drop, replicate};
 ghost use Rattle.format.specs.Tables.{planOfTables, tableSize, termSize};
 ghost use Rattle.tallies.specs.Layout.{assignmentSize, tallySize};
-ghost use Rattle.walk.specs.Calls.{markSize, endingNumber, Searches, HandsOut};
-ghost use Rattle.tries.specs.Steps.{settingsOf};
+ghost use Rattle.walk.specs.Calls.{markSize, endingNumber, Searches, HandsOut, lentAll};
+ghost use Rattle.tries.specs.Steps.{settingsOf, work};
 ghost use Rattle.tighten.specs.Bounds.{endingOf};
 ghost use Rattle.walk.specs.Whole.{Empty, FirstFind, FromFind, Searchable, Whole};
 use crate::lent::search_refusal;
@@ -62,8 +62,12 @@ fn from_find(
     tallies: &mut [u8],
     marks: &mut [u8],
 ) -> Searched
-    requires { ⌜ FirstFind (now tables) (now terms) (now numbers) used flips (now assignment) (record { assignment = now tried; tallies = now tallies; marks = now marks }) ⌝ }
-    ensures { λ r. ⌜ FromFind (settingsOf s) (now (tables .entry)) (now (terms .entry)) (now (numbers .entry)) used flips r (now (assignment .entry)) (now (assignment .exit)) (record { assignment = now (tried .entry); tallies = now (tallies .entry); marks = now (marks .entry) }) (record { assignment = now (tried .exit); tallies = now (tallies .exit); marks = now (marks .exit) }) × (drop tableSize (now (tables .exit)) ≡ drop tableSize (now (tables .entry))) × (drop termSize (now (terms .exit)) ≡ drop termSize (now (terms .entry))) ⌝ }
+    requires { ⌜ FirstFind (now tables) (now terms) (now numbers) used flips (now assignment) (work (now tried) (now tallies) (now marks)) ⌝ }
+    ensures { λ r. ⌜ FromFind (settingsOf s) (now (tables .entry)) (now (terms .entry)) (now (numbers .entry)) used flips r (now (assignment .entry))
+        (now (assignment .exit)) (work (now (tried .entry)) (now (tallies .entry)) (now (marks .entry)))
+        (work (now (tried .exit)) (now (tallies .exit)) (now (marks .exit)))
+        × (drop tableSize (now (tables .exit)) ≡ drop tableSize (now (tables .entry)))
+        × (drop termSize (now (terms .exit)) ≡ drop termSize (now (terms .entry))) ⌝ }
 {
     let v = keep_find(tables, tried, assignment);
     let floor = floor_cost(tables);
@@ -107,11 +111,15 @@ fn search_core(
     tallies: &mut [u8],
     marks: &mut [u8],
 ) -> Searched
-    requires { ⌜ Searchable (now plan) (now «plan_terms») (now assignment) (now tables) (now terms) (record { assignment = now tried; tallies = now tallies; marks = now marks }) ⌝ }
-    ensures { λ r. ⌜ Whole (settingsOf s) (planOfTables (now (plan .entry)) (now («plan_terms» .entry))) (now (numbers .entry)) r (now (assignment .entry)) (now (assignment .exit)) (record { assignment = now (tried .entry); tallies = now (tallies .entry); marks = now (marks .entry) }) (record { assignment = now (tried .exit); tallies = now (tallies .exit); marks = now (marks .exit) }) × (drop tableSize (now (tables .exit)) ≡ drop tableSize (now (tables .entry))) × (drop termSize (now (terms .exit)) ≡ drop termSize (now (terms .entry))) ⌝ }
+    requires { ⌜ Searchable (now plan) (now «plan_terms») (now assignment) (now tables) (now terms) (work (now tried) (now tallies) (now marks)) ⌝ }
+    ensures { λ r. ⌜ Whole (settingsOf s) (planOfTables (now (plan .entry)) (now («plan_terms» .entry))) (now (numbers .entry)) r
+        (now (assignment .entry)) (now (assignment .exit)) (work (now (tried .entry)) (now (tallies .entry)) (now (marks .entry)))
+        (work (now (tried .exit)) (now (tallies .exit)) (now (marks .exit)))
+        × (drop tableSize (now (tables .exit)) ≡ drop tableSize (now (tables .entry)))
+        × (drop termSize (now (terms .exit)) ≡ drop termSize (now (terms .entry))) ⌝ }
 {
-    copy(plan, tables, 26668);
-    copy(plan_terms, terms, 52096);
+    copy(plan, tables, format::TABLES);
+    copy(plan_terms, terms, format::TERMS);
     let t = call(tables, terms, numbers, 0, 0, s, tried, tallies, marks);
     match t {
         Tried::Reached(used, flips) => {
@@ -149,15 +157,16 @@ fn clear_work(
     tallies: &mut [u8],
     marks: &mut [u8],
 )
-    requires { ⌜ (tableSize ≤ length (now tables)) × (termSize ≤ length (now terms)) × (assignmentSize ≤ length (now tried)) × (tallySize ≤ length (now tallies)) × (markSize ≤ length (now marks)) ⌝ }
+    requires { ⌜ (tableSize ≤ length (now tables)) × (termSize ≤ length (now terms)) × (assignmentSize ≤ length (now tried))
+        × (tallySize ≤ length (now tallies)) × (markSize ≤ length (now marks)) ⌝ }
     ensures { λ _. ⌜ now (tables .exit) ≡ replicate tableSize 0 ++ drop tableSize (now (tables .entry)) ⌝ }
     ensures { λ _. ⌜ now (terms .exit) ≡ replicate termSize 0 ++ drop termSize (now (terms .entry)) ⌝ }
     ensures { λ _. ⌜ now (tried .exit) ≡ replicate assignmentSize 0 ++ drop assignmentSize (now (tried .entry)) ⌝ }
     ensures { λ _. ⌜ now (tallies .exit) ≡ replicate tallySize 0 ++ drop tallySize (now (tallies .entry)) ⌝ }
     ensures { λ _. ⌜ now (marks .exit) ≡ replicate markSize 0 ++ drop markSize (now (marks .entry)) ⌝ }
 {
-    clear_first(tables, 26668);
-    clear_first(terms, 52096);
+    clear_first(tables, format::TABLES);
+    clear_first(terms, format::TERMS);
     clear_first(tried, 512);
     clear_first(tallies, 6156);
     clear_first(marks, 512);
@@ -190,8 +199,16 @@ pub fn search(
     work_tallies: &mut [u8],
     work_marks: &mut [u8],
 ) -> Answer
-    ensures { λ r. ⌜ Searches (record { tables = now (tables .entry); terms = now (terms .entry); numbers = now (numbers .entry); assignment = now (assignment .entry); workTables = now («work_tables» .entry); workTerms = now («work_terms» .entry); workAssignment = now («work_assignment» .entry); workTallies = now («work_tallies» .entry); workMarks = now («work_marks» .entry) }) (record { noise = noise; tries = tries; flips = flips; mode = mode }) r (record { tables = now (tables .entry); terms = now (terms .entry); numbers = now (numbers .entry); assignment = now (assignment .exit); workTables = now («work_tables» .exit); workTerms = now («work_terms» .exit); workAssignment = now («work_assignment» .exit); workTallies = now («work_tallies» .exit); workMarks = now («work_marks» .exit) }) ⌝ }
-    ensures { λ r. ⌜ HandsOut (record { tables = now (tables .entry); terms = now (terms .entry); numbers = now (numbers .entry); assignment = now (assignment .entry); workTables = now («work_tables» .entry); workTerms = now («work_terms» .entry); workAssignment = now («work_assignment» .entry); workTallies = now («work_tallies» .entry); workMarks = now («work_marks» .entry) }) r (now (assignment .exit)) ⌝ }
+    ensures { λ r. ⌜ Searches
+        (lentAll (now (tables .entry)) (now (terms .entry)) (now (numbers .entry)) (now (assignment .entry)) (now («work_tables» .entry))
+        (now («work_terms» .entry)) (now («work_assignment» .entry)) (now («work_tallies» .entry)) (now («work_marks» .entry)))
+        (record { noise = noise; tries = tries; flips = flips; mode = mode }) r
+        (lentAll (now (tables .entry)) (now (terms .entry)) (now (numbers .entry)) (now (assignment .exit)) (now («work_tables» .exit))
+        (now («work_terms» .exit)) (now («work_assignment» .exit)) (now («work_tallies» .exit)) (now («work_marks» .exit))) ⌝ }
+    ensures { λ r. ⌜ HandsOut
+        (lentAll (now (tables .entry)) (now (terms .entry)) (now (numbers .entry)) (now (assignment .entry)) (now («work_tables» .entry))
+        (now («work_terms» .entry)) (now («work_assignment» .entry)) (now («work_tallies» .entry)) (now («work_marks» .entry))) r
+        (now (assignment .exit)) ⌝ }
 {
     let s = Settings {
         noise,
