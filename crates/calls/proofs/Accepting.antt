@@ -15,13 +15,14 @@ use Rattle.format.specs.Tables.{sameBytes}
 use Rattle.format.proofs.IsLoaded.{isLoaded-tables, same-equal}
 use Rattle.tallies.specs.Layout.{tallySize, bitsOf}
 use Rattle.tallies.specs.Calls.{Lent, plan, freshBytes, openRefusal, openTallies, callRefusal, turned, flipAssignment, flipTallies, countsBreak, countsMake}
-use Rattle.tallies.specs.Core.{Flippable, counted}
+use Rattle.tallies.specs.Core.{Flippable, recounted}
 use Rattle.calls.proofs.Opening.{first-words}
 use Rattle.tallies.proofs.Refusals.{Opens, opens, takes, only-variable}
 use Rattle.tallies.proofs.Callers.{takes-flippable}
+use Rattle.format.specs.Layout.{tableSize}
 
 module _ (l : Lent) where
-  pub loaded-tables : Opens l → 26_668 ≤ length (l .tables)
+  pub loaded-tables : Opens l → tableSize ≤ length (l .tables)
   loaded-tables o = isLoaded-tables (l .tables) (l .terms) (o .loaded)
 
   pub open-refused : (k : ℕ) → k ≡ openRefusal l → (k ≡ 0 → ⊥) → l .tallies ≡ openTallies l
@@ -29,7 +30,7 @@ module _ (l : Lent) where
   open-refused zero e n = absurd (n refl)
   open-refused (suc k) e n = rw (sym e, eqb·suc-zero k)
 
-  pub open-accepted : openRefusal l ≡ 0 → counted (l .tables) (l .terms) (l .assignment) (l .tallies) ≡ openTallies l
+  pub open-accepted : openRefusal l ≡ 0 → recounted (l .tables) (l .terms) (l .assignment) (l .tallies) ≡ openTallies l
   unfolding openTallies freshBytes plan
   open-accepted e = rw e
 
@@ -79,7 +80,7 @@ module _ (l : Lent) (x : ℕ) where
 
   pub flip-accepted : callRefusal l x ≡ 0
       → (turned (l .assignment) x ≡ flipAssignment l x)
-      × (counted (l .tables) (l .terms) (turned (l .assignment) x) (l .tallies) ≡ flipTallies l x)
+      × (recounted (l .tables) (l .terms) (turned (l .assignment) x) (l .tallies) ≡ flipTallies l x)
   unfolding flipAssignment flipTallies freshBytes plan
   flip-accepted e = (rw e, rw e)
 

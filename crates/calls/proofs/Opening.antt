@@ -15,26 +15,27 @@ use Rattle.format.proofs.Lawful.{plan-parts}
 use Rattle.format.proofs.IsLoaded.{isLoaded-lawful}
 use Rattle.tallies.specs.Layout.{areBits}
 use Rattle.tallies.specs.Calls.{Lent, plan, tooSmall, openRefusal}
+use Rattle.format.specs.Layout.{tableSize, tallySize, termSize}
 
 module _ (l : Lent) where
-  pub small-tables : length (l .tables) < 26_668 → true ≡ tooSmall l
+  pub small-tables : length (l .tables) < tableSize → true ≡ tooSmall l
   unfolding tooSmall _or_
-  small-tables h = rw (lt-ltb (length (l .tables)) 26_668 h)
+  small-tables h = rw (lt-ltb (length (l .tables)) tableSize h)
 
-  pub small-terms : 26_668 ≤ length (l .tables) → length (l .terms) < 52_096 → true ≡ tooSmall l
+  pub small-terms : tableSize ≤ length (l .tables) → length (l .terms) < termSize → true ≡ tooSmall l
   unfolding tooSmall _or_
-  small-terms a h = rw (le-ltb (length (l .tables)) 26_668 a, lt-ltb (length (l .terms)) 52_096 h)
+  small-terms a h = rw (le-ltb (length (l .tables)) tableSize a, lt-ltb (length (l .terms)) termSize h)
 
-  pub small-assignment : 26_668 ≤ length (l .tables) → 52_096 ≤ length (l .terms) → length (l .assignment) < 512 → true ≡ tooSmall l
+  pub small-assignment : tableSize ≤ length (l .tables) → termSize ≤ length (l .terms) → length (l .assignment) < 512 → true ≡ tooSmall l
   unfolding tooSmall _or_
   small-assignment a b h =
-      rw (le-ltb (length (l .tables)) 26_668 a, le-ltb (length (l .terms)) 52_096 b, lt-ltb (length (l .assignment)) 512 h)
+      rw (le-ltb (length (l .tables)) tableSize a, le-ltb (length (l .terms)) termSize b, lt-ltb (length (l .assignment)) 512 h)
 
-  pub small-tallies : 26_668 ≤ length (l .tables) → 52_096 ≤ length (l .terms) → 512 ≤ length (l .assignment)
-      → ltb (length (l .tallies)) 6_156 ≡ tooSmall l
+  pub small-tallies : tableSize ≤ length (l .tables) → termSize ≤ length (l .terms) → 512 ≤ length (l .assignment)
+      → ltb (length (l .tallies)) tallySize ≡ tooSmall l
   unfolding tooSmall _or_
   small-tallies a b c =
-      rw (le-ltb (length (l .tables)) 26_668 a, le-ltb (length (l .terms)) 52_096 b, le-ltb (length (l .assignment)) 512 c)
+      rw (le-ltb (length (l .tables)) tableSize a, le-ltb (length (l .terms)) termSize b, le-ltb (length (l .assignment)) 512 c)
 
   pub first-words : plan l .variables ≡ wordAt (l .tables) 0
   unfolding plan planOfTables planIn
@@ -46,11 +47,11 @@ module _ (l : Lent) where
       let t : T (not (tooSmall l)) = rw e tt in
       nltb→le (length (l .assignment)) 512 (and-right _ _ (rw not-or at (and-left _ _ (rw not-or at t))))
 
-  pub large-tables : tooSmall l ≡ false → 26_668 ≤ length (l .tables)
+  pub large-tables : tooSmall l ≡ false → tableSize ≤ length (l .tables)
   unfolding tooSmall
   large-tables e =
       let t : T (not (tooSmall l)) = rw e tt in
-      nltb→le (length (l .tables)) 26_668 (and-left _ _ (rw not-or at (and-left _ _ (rw not-or at (and-left _ _ (rw not-or at t))))))
+      nltb→le (length (l .tables)) tableSize (and-left _ _ (rw not-or at (and-left _ _ (rw not-or at (and-left _ _ (rw not-or at t))))))
 
   pub refused-21 : tooSmall l ≡ true → 21 ≡ openRefusal l
   unfolding openRefusal refuse

@@ -22,7 +22,7 @@ fn too_small(tables: &[u8], terms: &[u8], assignment: &[u8], tallies: &[u8]) -> 
     if assignment.len() < 512 {
         return true;
     }
-    tallies.len() < 6156
+    tallies.len() < format::TALLIES
 }
 
 // Whether the first n bytes are 0 or 1.

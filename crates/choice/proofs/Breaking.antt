@@ -28,11 +28,12 @@ use Rattle.tallies.proofs.Unnamed.{no-break}
 use Rattle.choice.specs.declared.breaks.Effect.{Effect}
 use Rattle.choice.specs.Breaks.{lentBits, spoilsPart, falseAfter, EffectOf, breaksAlong}
 use Rattle.choice.proofs.Thresholds.{clause-breaks, plan-breaks}
+use Rattle.format.specs.Layout.{clauseCountAt, clauseFirstAt, ruleFirstAt}
 
 -- ---- one rule
 
 -- A rule's state as it is read is that under the assignment that is lent.
-pub lent-state : {tables terms assignment : List ℕ} {r x : ℕ} {s : State} → Ready tables terms assignment → r < wordAt tables 2 → StateOf (bitsIn assignment) x (ruleAt (wordAt tables) (wordAt terms) (1_542 + 5 * r)) s → StateOf (lentBits tables terms assignment) x (ruleOf (wordAt tables) (wordAt terms) r) s
+pub lent-state : {tables terms assignment : List ℕ} {r x : ℕ} {s : State} → Ready tables terms assignment → r < wordAt tables 2 → StateOf (bitsIn assignment) x (ruleAt (wordAt tables) (wordAt terms) (ruleFirstAt r)) s → StateOf (lentBits tables terms assignment) x (ruleOf (wordAt tables) (wordAt terms) r) s
 unfolding bitsOf bitsIn
 lent-state {tables} {terms} {assignment} {r} y h s =
     table-rule-state tables terms assignment (planOfTables tables terms .variables) r (rule-lawful tables terms (y .laid) r h) s
@@ -75,10 +76,10 @@ module _ (a : Assignment) (x : ℕ) where
     rules-end l = sym (rw (along-end h r e l) (along-none seen))
 
   -- A clause's rules as the table has them, and a clause that is passed over.
-  pub rules-break : (f g : ℕ → ℕ) (c : ℕ) {first end : ℕ} {b : Bool} → first ≡ f (516 + 2 * c) → end ≡ f (516 + 2 * c) + f (517 + 2 * c) → b ≡ breaksAlong a x false (map (ruleOf f g) (row first (end - first))) → b ≡ ltb 0 (clauseBreak a x (clauseOf f g c))
+  pub rules-break : (f g : ℕ → ℕ) (c : ℕ) {first end : ℕ} {b : Bool} → first ≡ f (clauseFirstAt c) → end ≡ f (clauseFirstAt c) + f (clauseCountAt c) → b ≡ breaksAlong a x false (map (ruleOf f g) (row first (end - first))) → b ≡ ltb 0 (clauseBreak a x (clauseOf f g c))
   unfolding clauseOf
   rules-break f g c p q h =
-      rw (h, p, q, along-start (ruleOf f g) (f (516 + 2 * c)) (f (517 + 2 * c))) (sym (clause-breaks a x (map (ruleOf f g) (row (f (516 + 2 * c)) (f (517 + 2 * c))))))
+      rw (h, p, q, along-start (ruleOf f g) (f (clauseFirstAt c)) (f (clauseCountAt c))) (sym (clause-breaks a x (map (ruleOf f g) (row (f (clauseFirstAt c)) (f (clauseCountAt c))))))
 
   pub unnamed-breaks : (c : Clause) {b : Bool} → b ≡ names c x → not b ≡ true → false ≡ ltb 0 (clauseBreak a x c)
   unnamed-breaks c p n = sym (ap (ltb 0) (no-break a x c (sym p ∙ sym (not-not _) ∙ ap not n)))

@@ -1,34 +1,27 @@
--- Laws of the choice: what a pick among marked variables answers, who is marked at each step, and that no pick is among none.
+-- Laws of the choice: what a pick among marked variables answers, who is marked at each step.
 -- Assumes nothing.
 use Prim.Native.Nat.{ℕ, zero, suc, _+_, _-_, _/_, _≤_, _<_, min}
-use native.Mathlib.Nat.{eq-or-lt-of-le}
 use native.Mathlib.Decide.{decLe}
 use native.Mathlib.Omega.{arith}
 use mathlib.Core.Path.{_≡_, refl, sym, ap, _∙_}
-use mathlib.Core.Logic.{⊎-elim}
 use mathlib.Core.Bool.{Bool, true, false, not, cond}
 use mathlib.Core.List.{List, [], _∷_, _++_}
 use lib.Dec.{T, ltb, eqb}
 use lib.ListN.{length, getD, drop, List·getD-append}
 use lib.Seq.{drop-at}
 use borrow.Author.Tests.{eq-eqb, ne-eqb}
-use Rattle.plpb.specs.Lists.{_or_, keep, any, all, isEmpty, row}
-use Rattle.plpb.specs.Plan.{Term, Rule, Clause, Plan, Assignment, namedIn, names}
+use Rattle.plpb.specs.Lists.{keep, isEmpty, row}
+use Rattle.plpb.specs.Plan.{Clause, Plan, Assignment, names}
 use Rattle.plpb.specs.Count.{cap, cappedBreak}
 use Rattle.plpb.specs.Numbers.{takePick}
-use Rattle.plpb.specs.Walk.{Walk, ends, run}
+use Rattle.plpb.specs.Walk.{Walk, at, ends, run}
+use Rattle.plpb.specs.Settings.{Settings}
+use Rattle.plpb.specs.Try.{Try}
 use Rattle.plpb.specs.Choice.{choosable, pickFrom, leastBreak, withBreak, noisyChoice, choice}
-use Rattle.plpb.proofs.Lists.{and-left, and-right, true-or}
-use Rattle.plpb.proofs.Walks.{at}
-use Rattle.format.specs.Limits.{ruleLawful}
-use Rattle.format.proofs.Bools.{T-true}
-use Rattle.format.proofs.Lawful.{clauseLawful, rule-parts}
-use Rattle.rules.proofs.Terms.{termLegal, lawful-legal, legal-low, legal-high}
-use Rattle.rules.proofs.Tables.{rule-terms}
 use Rattle.words.specs.Words.{wordAt}
 use Rattle.format.specs.Tables.{planOfTables}
 use Rattle.tallies.specs.Core.{Laid}
-use Rattle.tallies.proofs.Laid.{parts, variables-word}
+use Rattle.tallies.proofs.Laid.{variables-word}
 use Rattle.numbers.specs.declared.Picked.{Picked}
 use Rattle.numbers.specs.declared.Picked.the-variants as picked
 use Rattle.numbers.specs.Numbers.{numbersOf}
@@ -41,8 +34,8 @@ use Rattle.numbers.proofs.Runs.{pickFrom-taken, pickFrom-short, empty-by-length
 use Rattle.choice.specs.declared.choose.Chosen.{Chosen}
 use Rattle.choice.specs.declared.choose.Chosen.the-variants as chosen
 use Rattle.choice.specs.Marks.{clauseMarks, hasBreak, Parted}
-use Rattle.choice.specs.Outcome.{outcomeOf, usedBy, Among, Chooses, PickMarked, ToChoose}
-use Rattle.choice.proofs.Marking.{length-marks, mark-at, clause-lawful}
+use Rattle.choice.specs.Outcome.{outcomeOf, usedBy, Among, Chooses, PickMarked, MarksChoosable, ToChoose}
+use Rattle.choice.proofs.Marking.{length-marks, mark-at}
 use Rattle.choice.proofs.Least.{count-small}
 
 -- ---- a pick among marked variables
@@ -99,23 +92,23 @@ module _ (numbers : List ℕ) {used : ℕ} {r : Picked} (e : takenOf r ≡ takeP
       let u = pick-uses 1_000 (numbersOf numbers) used (picked-at e t) in
       record { few = h .few; bytes = h .bytes; some = h .some; listed = omega (arith, u .1, length-numbersOf numbers) }
 
-  module _ (p : Plan) (noise : ℕ) (a : Assignment) (xs : List ℕ) {n k after : ℕ} {b : Bool} {q : Chosen} (t : r ≡ picked.At k after) (l : b ≡ ltb k noise) where
-    pub by-least : b ≡ true → Chooses (pickFrom 0 (withBreak p a (leastBreak p a xs) xs)) (numbersOf numbers) after n q → Chooses (noisyChoice p noise a xs) (numbersOf numbers) used n q
+  module _ (s : Settings) (p : Plan) (a : Try) (xs : List ℕ) {n k after : ℕ} {b : Bool} {q : Chosen} (t : r ≡ picked.At k after) (l : b ≡ ltb k (s .noise)) where
+    pub by-least : b ≡ true → Chooses (pickFrom 0 (withBreak p (a .bits) (leastBreak p (a .bits) xs) xs)) (numbersOf numbers) after n q → Chooses (noisyChoice s p a xs) (numbersOf numbers) used n q
     by-least g c =
         let u = pick-uses 1_000 (numbersOf numbers) used (picked-at e t) in
-        later (λ f fs. noisy-least p noise a xs (numbersOf numbers) (at used f fs) (picked-at e t) (sym l ∙ g)) (omega (arith, u .0)) c
+        later (λ f fs. noisy-least s p a xs (numbersOf numbers) (at used f fs) (picked-at e t) (sym l ∙ g)) (omega (arith, u .0)) c
 
-    pub by-any : b ≡ false → Chooses (pickFrom 0 xs) (numbersOf numbers) after n q → Chooses (noisyChoice p noise a xs) (numbersOf numbers) used n q
+    pub by-any : b ≡ false → Chooses (pickFrom 0 xs) (numbersOf numbers) after n q → Chooses (noisyChoice s p a xs) (numbersOf numbers) used n q
     by-any g c =
         let u = pick-uses 1_000 (numbersOf numbers) used (picked-at e t) in
-        later (λ f fs. noisy-any p noise a xs (numbersOf numbers) (at used f fs) (picked-at e t) (sym l ∙ g)) (omega (arith, u .0)) c
+        later (λ f fs. noisy-any s p a xs (numbersOf numbers) (at used f fs) (picked-at e t) (sym l ∙ g)) (omega (arith, u .0)) c
 
-  pub noisy-gone : (p : Plan) (noise : ℕ) (a : Assignment) (xs : List ℕ) {n after : ℕ} → r ≡ picked.Short after → used ≤ length numbers / 4 → Chooses (noisyChoice p noise a xs) (numbersOf numbers) used n (chosen.Short after)
+  pub noisy-gone : (s : Settings) (p : Plan) (a : Try) (xs : List ℕ) {n after : ℕ} → r ≡ picked.Short after → used ≤ length numbers / 4 → Chooses (noisyChoice s p a xs) (numbersOf numbers) used n (chosen.Short after)
   unfolding outcomeOf usedBy Among
-  noisy-gone p noise a xs t h =
+  noisy-gone s p a xs t h =
       let u = pick-gone 1_000 (numbersOf numbers) used (picked-short e t) in
       record {
-        outcome = λ f fs. noisy-short p noise a xs (numbersOf numbers) (at used f fs) (picked-short e t);
+        outcome = λ f fs. noisy-short s p a xs (numbersOf numbers) (at used f fs) (picked-short e t);
         among = tt;
         uses = u .0;
         within = u .1 (rw (length-numbersOf numbers) h);
@@ -171,10 +164,10 @@ module _ (p : Plan) (a : Assignment) {used n v : ℕ} {s t : List ℕ} {few : �
 
 -- ---- a clause's variables
 
-keep-all : (q : ℕ → Bool) (xs : List ℕ) → length (keep q xs) ≡ 0 → keep (λ x. not (q x)) xs ≡ xs
+keep-candidates : (q : ℕ → Bool) (xs : List ℕ) → length (keep q xs) ≡ 0 → keep (λ x. not (q x)) xs ≡ xs
 unfolding keep
-keep-all q [] h = refl
-keep-all q (x ∷ xs) h = at (q x) h (keep-all q xs)
+keep-candidates q [] h = refl
+keep-candidates q (x ∷ xs) h = at (q x) h (keep-candidates q xs)
   where
     at : (b : Bool) → length (cond b (x ∷ keep q xs) (keep q xs)) ≡ 0 → (length (keep q xs) ≡ 0 → keep (λ y. not (q y)) xs ≡ xs) → cond (not b) (x ∷ keep (λ y. not (q y)) xs) (keep (λ y. not (q y)) xs) ≡ x ∷ xs
     at true k ih = absurd (omega arith)
@@ -197,87 +190,58 @@ module _ (c : Clause) (n : ℕ) (s : List ℕ) {t : List ℕ} (h : t ≡ clauseM
           (ap (λ m. eqb m 1) (List·getD-append (clauseMarks c n) (drop n s) 0 i (rw (length-marks n c) l) ∙ mark-at n c i l)
           ∙ one-marked (names c (suc i)))
 
--- Some variable of a row passes a test that one of it passes.
-row-some : (q : ℕ → Bool) (i k x : ℕ) → q x ≡ true → i ≤ x → x < i + k → 0 < length (keep q (row i k))
-unfolding keep row
-row-some q i zero x t l h = absurd (omega arith)
-row-some q i (suc k) x t l h =
-    ⊎-elim (λ e. let here : q i ≡ true = ap q e ∙ t in rw here (omega arith)) (λ m. longer (q i) i (keep q (row (suc i) k)) (row-some q (suc i) k x t m (omega arith))) (eq-or-lt-of-le l)
-
--- A lawful clause has a variable: its first rule has a term.
-first-named : (c : Clause) (q : Rule) (u : Term) (us : List Term) → q .terms ≡ u ∷ us → names (q ∷ c) (u .variable) ≡ true
-unfolding names namedIn any
-first-named c q u us e = rw (e, eq-eqb (u .variable) (u .variable) refl, true-or (any (λ t. eqb (t .variable) (u .variable)) us)) (true-or _)
-
-lawful-some : (n : ℕ) (c : Clause) → T (clauseLawful n c) → 0 < length (keep (names c) (row 1 n))
-unfolding clauseLawful isEmpty all
-lawful-some n [] t = absurd (and-left false (all (ruleLawful n) []) t)
-lawful-some n (q ∷ qs) t = first (q .terms) refl
-  where
-    lawful : T (ruleLawful n q)
-    lawful = and-left _ _ (and-right true (all (ruleLawful n) (q ∷ qs)) t)
-
-    first : (ts : List Term) → q .terms ≡ ts → 0 < length (keep (names (q ∷ qs)) (row 1 n))
-    first [] e = absurd (omega (arith, rule-parts n q (T-true _ lawful) .some, ap length e))
-    first (u ∷ us) e =
-        let l : T (termLegal n u) = and-left _ _ (rw e at (lawful-legal n (q .terms) (rule-terms n q lawful))) in
-        row-some (names (q ∷ qs)) 1 n (u .variable) (first-named qs q u us e) (legal-low n u l) (omega (arith, legal-high n u l))
+-- The variables of a clause are marked 1, and none other.
+pub choosable-marked : (p : Plan) (c : Clause) (s : List ℕ) {t : List ℕ} {n k : ℕ} → n ≡ p .variables
+    → t ≡ clauseMarks c (p .variables) ++ drop (p .variables) s → k ≡ length (marked t n 1) → MarksChoosable p c s t k
+unfolding choosable
+choosable-marked p c s {t} e h k =
+    let told = clause-told c (p .variables) s h in
+    record { marks = told; counted = k ∙ ap (λ m. length (marked t m 1)) e ∙ ap length told; beyond = clause-beyond c (p .variables) s h }
 
 -- ---- the choice
 
-module _ {tables terms : List ℕ} (y : Laid tables terms) (noise : ℕ) (a : Assignment) {c : ℕ} (h : c < wordAt tables 1)
-    {n : ℕ} (e : n ≡ wordAt tables 0) (s : List ℕ) {t u : List ℕ} {free : ℕ}
-    (m : t ≡ clauseMarks (getD (planOfTables tables terms .clauses) c []) (planOfTables tables terms .variables) ++ drop (planOfTables tables terms .variables) s)
-    (r : Parted (planOfTables tables terms .variables) (hasBreak (planOfTables tables terms) a 0) t u free) where
-  abbrev clause : Clause
-  clause = getD (planOfTables tables terms .clauses) c []
-
+module _ {tables terms : List ℕ} (y : Laid tables terms) (a : Try) {n : ℕ} (e : n ≡ wordAt tables 0) {t u : List ℕ} {free : ℕ}
+    (r : Parted (planOfTables tables terms .variables) (hasBreak (planOfTables tables terms) (a .bits) 0) t u free) where
   abbrev plan : Plan
   plan = planOfTables tables terms
+
+  abbrev candidates : List ℕ
+  candidates = marked t (plan .variables) 1
 
   size : n ≡ plan .variables
   size = e ∙ sym (variables-word tables terms y)
 
-  to-choose : marked t (plan .variables) 1 ≡ choosable plan clause
-  unfolding choosable
-  to-choose = clause-told clause (plan .variables) s m
-
-  pub marks-beyond : drop (planOfTables tables terms .variables) u ≡ drop (planOfTables tables terms .variables) s
-  marks-beyond = r .beyond ∙ clause-beyond clause (plan .variables) s m
-
-  freely : marked u (plan .variables) 2 ≡ withBreak plan a 0 (choosable plan clause)
+  freely : marked u (plan .variables) 2 ≡ withBreak plan (a .bits) 0 candidates
   unfolding withBreak hasBreak
-  freely = r .passing ∙ ap (keep (λ x. eqb (cappedBreak plan a x) 0)) to-choose
+  freely = r .passing
 
-  count : free ≡ length (withBreak plan a 0 (choosable plan clause))
+  count : free ≡ length (withBreak plan (a .bits) 0 candidates)
   count = r .counted ∙ ap length freely
 
-  -- Some break nothing.
-  module _ (some : 0 < free) where
-    pub free-pickable : {numbers : List ℕ} {used : ℕ} → planOfTables tables terms .variables ≤ length u → used ≤ length numbers / 4 → PickMarked numbers used u n 2 free
-    free-pickable bytes listed =
-        record { few = omega (arith, size, parts tables terms y .high); bytes = omega (arith, size, bytes); counted = rw size (r .counted); some = some; listed = listed }
+  module _ {numbers : List ℕ} {used : ℕ} (h : ToChoose numbers used (planOfTables tables terms .variables) t) where
+    -- Some break nothing.
+    pub free-pickable : 0 < free → PickMarked numbers used u n 2 free
+    free-pickable some =
+        record { few = omega (arith, size, h .few); bytes = omega (arith, size, h .bytes, r .size); counted = rw size (r .counted); some = some; listed = h .listed }
 
-    pub free-chosen : {ns : List ℕ} {used : ℕ} {q : Chosen} → Chooses (pickFrom 0 (marked u n 2)) ns used n q → Chooses (choice (planOfTables tables terms) noise a (getD (planOfTables tables terms .clauses) c [])) ns used (planOfTables tables terms .variables) q
-    free-chosen {ns} {used} {q} k =
-        let xs = withBreak plan a 0 (choosable plan clause) in
-        let z : isEmpty xs ≡ false = empty-by-length xs ∙ ne-eqb (length xs) 0 (λ o. omega (arith, count)) in
-        later (λ f fs. choice-free plan noise a clause ns (at used f fs) z) (omega arith) (rw (size, freely) at k)
+    -- None does: those to choose from are as they were.
+    candidates-stay : free ≤ 0 → marked u (plan .variables) 1 ≡ candidates
+    candidates-stay none = r .others ∙ keep-candidates (hasBreak plan (a .bits) 0) candidates (omega (arith, none, r .counted, ap length (r .passing)))
 
-  -- None does: those to choose from are as they were.
-  module _ (none : free ≤ 0) where
-    all-stay : marked u (plan .variables) 1 ≡ choosable plan clause
-    all-stay =
-        r .others
-        ∙ keep-all (hasBreak plan a 0) (marked t (plan .variables) 1) (omega (arith, none, r .counted, ap length (r .passing)))
-        ∙ to-choose
+    pub noisy-ready : free ≤ 0 → ToChoose numbers used n u
+    noisy-ready none =
+        record { few = omega (arith, size, h .few); bytes = omega (arith, size, h .bytes, r .size); some = rw (size, candidates-stay none) (h .some); listed = h .listed }
 
-    pub noisy-ready : {numbers : List ℕ} {used : ℕ} → planOfTables tables terms .variables ≤ length u → used ≤ length numbers / 4 → ToChoose numbers used n u
-    noisy-ready bytes listed =
-        record { few = omega (arith, size, parts tables terms y .high); bytes = omega (arith, size, bytes); some = rw (size, all-stay) (unfold choosable in lawful-some (plan .variables) clause (clause-lawful y h)); listed = listed }
-
-    pub noisy-chosen : {ns : List ℕ} {used : ℕ} {q : Chosen} → Chooses (noisyChoice (planOfTables tables terms) noise a (marked u n 1)) ns used n q → Chooses (choice (planOfTables tables terms) noise a (getD (planOfTables tables terms .clauses) c [])) ns used (planOfTables tables terms .variables) q
-    noisy-chosen {ns} {used} {q} k =
-        let xs = withBreak plan a 0 (choosable plan clause) in
+    pub noisy-chosen : (k : Settings) → free ≤ 0 → {q : Chosen} → Chooses (noisyChoice k (planOfTables tables terms) a (marked u n 1)) (numbersOf numbers) used n q
+        → Chooses (choice k (planOfTables tables terms) a (marked t (planOfTables tables terms .variables) 1)) (numbersOf numbers) used (planOfTables tables terms .variables) q
+    noisy-chosen k none g =
+        let xs = withBreak plan (a .bits) 0 candidates in
         let z : isEmpty xs ≡ true = empty-by-length xs ∙ eq-eqb (length xs) 0 (omega (arith, count)) in
-        later (λ f fs. choice-noisy plan noise a clause ns (at used f fs) z) (omega arith) (rw (size, all-stay) at k)
+        later (λ f fs. choice-noisy k plan a candidates (numbersOf numbers) (at used f fs) z) (omega arith) (rw (size, candidates-stay none) at g)
+
+  pub free-chosen : (k : Settings) → 0 < free → {ns : List ℕ} {used : ℕ} {q : Chosen} → Chooses (pickFrom 0 (marked u n 2)) ns used n q
+      → Chooses (choice k (planOfTables tables terms) a (marked t (planOfTables tables terms .variables) 1)) ns used (planOfTables tables terms .variables) q
+  free-chosen k some {ns} {used} g =
+      let xs = withBreak plan (a .bits) 0 candidates in
+      let z : isEmpty xs ≡ false = empty-by-length xs ∙ ne-eqb (length xs) 0 (λ o. omega (arith, count)) in
+      later (λ f fs. choice-free k plan a candidates ns (at used f fs) z) (omega arith) (rw (size, freely) at g)

@@ -41,6 +41,7 @@ use Rattle.choice.proofs.Thresholds.{clause-breaks}
 use Rattle.choice.proofs.Breaking.{lent-state, none-breaks}
 use Rattle.choice.proofs.Marking.{clause-lawful}
 use Rattle.choice.proofs.Parting.{more-written}
+use Rattle.format.specs.Layout.{clauseCountAt, clauseFirstAt, ruleCountAt, ruleFirstAt, ruleRoom}
 
 -- ---- one mark
 
@@ -169,7 +170,7 @@ terms-named : (x : ℕ) (b : Bool) (ts : List Term) → any (λ t. eqb (t .varia
 unfolding namedIn
 terms-named x b ts = any-and (λ t. eqb (t .variable) x) b ts
 
-pub rule-lowered : (q : ℕ → Bool) (f g : ℕ → ℕ) (r : ℕ) {first count : ℕ} {s t : List ℕ} → first ≡ f (1_542 + 5 * r) → count ≡ f (1_543 + 5 * r) → Lowered (λ x. any (λ (u : Term). eqb (u .variable) x and q x) (termsAt g first count)) s t → Lowered (λ x. namedIn x (ruleOf f g r .terms) and q x) s t
+pub rule-lowered : (q : ℕ → Bool) (f g : ℕ → ℕ) (r : ℕ) {first count : ℕ} {s t : List ℕ} → first ≡ f (ruleFirstAt r) → count ≡ f (ruleCountAt r) → Lowered (λ x. any (λ (u : Term). eqb (u .variable) x and q x) (termsAt g first count)) s t → Lowered (λ x. namedIn x (ruleOf f g r .terms) and q x) s t
 unfolding ruleOf termsAt
 rule-lowered q f g r e d w =
     lowered-by (λ x. ap₂ (λ i k. any (λ (u : Term). eqb (u .variable) x and q x) (termsAt g i k)) e d ∙ terms-named x (q x) (ruleOf f g r .terms)) w
@@ -208,7 +209,7 @@ module _ (a : Assignment) (x : ℕ) (h : Standing → Bool) (none : h out ≡ fa
           only-first (h (standingOf a t)) rest (none-above (t .variable) ts (and-right _ _ r) (omega arith))
       at false e ih = not-first (h (standingOf a t)) rest ∙ ih
 
-module _ {tables terms assignment : List ℕ} (y : Ready tables terms assignment) {r : ℕ} (l : r < wordAt tables 2) {s : State} (q : StateOf (bitsIn assignment) 0 (ruleAt (wordAt tables) (wordAt terms) (1_542 + 5 * r)) s) where
+module _ {tables terms assignment : List ℕ} (y : Ready tables terms assignment) {r : ℕ} (l : r < wordAt tables 2) {s : State} (q : StateOf (bitsIn assignment) 0 (ruleAt (wordAt tables) (wordAt terms) (ruleFirstAt r)) s) where
   single-told : (x : ℕ) → any (spoilsAt (bitsIn assignment) s x) (ruleOf (wordAt tables) (wordAt terms) r .terms) ≡ spoilsPart (lentBits tables terms assignment) x (ruleOf (wordAt tables) (wordAt terms) r)
   unfolding spoilsAt spoilsBy spoilsPart sharesOf shares rising bitsOf bitsIn
   single-told x =
@@ -221,7 +222,7 @@ module _ {tables terms assignment : List ℕ} (y : Ready tables terms assignment
       (standing-same n (bitsIn assignment) (lentBits tables terms assignment) (first-bits n assignment) x (rule .terms) (lawful-legal n (rule .terms) (rule-terms n rule lawful)))
       ∙ rw (here .falses, here .trues, here .lower, here .upper) refl
 
-  pub single-lowered : {first count : ℕ} {u v : List ℕ} → first ≡ wordAt tables (1_542 + 5 * r) → count ≡ wordAt tables (1_543 + 5 * r) → Lowered (λ x. any (spoilsAt (bitsIn assignment) s x) (termsAt (wordAt terms) first count)) u v → Lowered (λ x. spoilsPart (lentBits tables terms assignment) x (ruleOf (wordAt tables) (wordAt terms) r)) u v
+  pub single-lowered : {first count : ℕ} {u v : List ℕ} → first ≡ wordAt tables (ruleFirstAt r) → count ≡ wordAt tables (ruleCountAt r) → Lowered (λ x. any (spoilsAt (bitsIn assignment) s x) (termsAt (wordAt terms) first count)) u v → Lowered (λ x. spoilsPart (lentBits tables terms assignment) x (ruleOf (wordAt tables) (wordAt terms) r)) u v
   unfolding ruleOf termsAt
   single-lowered e d w =
       lowered-by (λ x. ap₂ (λ i k. any (spoilsAt (bitsIn assignment) s x) (termsAt (wordAt terms) i k)) e d ∙ single-told x) w
@@ -232,10 +233,10 @@ unfolding _and_ _or_
 spoiled-false zero g = and-false (ltb 0 (0 + g) and true)
 spoiled-false (suc e) g = rw (lt-ltb 0 (suc e + g) (omega arith), lt-ltb 0 (suc e) (omega arith)) refl
 
-pub single-breaks : (a : Assignment) (x : ℕ) (f g : ℕ → ℕ) (c : ℕ) {first end : ℕ} → first ≡ f (516 + 2 * c) → end ≡ f (516 + 2 * c) + f (517 + 2 * c) → end - first ≡ 1 → spoilsPart a x (ruleOf f g first) ≡ ltb 0 (clauseBreak a x (clauseOf f g c))
+pub single-breaks : (a : Assignment) (x : ℕ) (f g : ℕ → ℕ) (c : ℕ) {first end : ℕ} → first ≡ f (clauseFirstAt c) → end ≡ f (clauseFirstAt c) + f (clauseCountAt c) → end - first ≡ 1 → spoilsPart a x (ruleOf f g first) ≡ ltb 0 (clauseBreak a x (clauseOf f g c))
 unfolding clauseOf row breaksAlong all any falseAfter spoilsPart
 single-breaks a x f g c {first} {end} p q one =
-    let k : f (517 + 2 * c) ≡ 1 = omega arith in
+    let k : f (clauseCountAt c) ≡ 1 = omega arith in
     sym (rw (k, ← p) (clause-breaks a x (ruleOf f g first ∷ []) ∙ unfold _or_ in spoiled-false (sharesOf a x (ruleOf f g first) .e) (sharesOf a x (ruleOf f g first) .g)))
 
 -- ---- a clause of several rules
@@ -249,10 +250,10 @@ named-breaks a x c = at (names c x) refl
     at true e = refl
     at false e = sym (ap (ltb 0) (no-break a x c e))
 
-pub rules-break : (a : Assignment) (x : ℕ) (f g : ℕ → ℕ) (c : ℕ) {first end : ℕ} → first ≡ f (516 + 2 * c) → end ≡ f (516 + 2 * c) + f (517 + 2 * c) → any (λ (q : Rule). namedIn x (q .terms) and ltb 0 (clauseBreak a x (clauseOf f g c))) (map (ruleOf f g) (row first (end - first))) ≡ ltb 0 (clauseBreak a x (clauseOf f g c))
+pub rules-break : (a : Assignment) (x : ℕ) (f g : ℕ → ℕ) (c : ℕ) {first end : ℕ} → first ≡ f (clauseFirstAt c) → end ≡ f (clauseFirstAt c) + f (clauseCountAt c) → any (λ (q : Rule). namedIn x (q .terms) and ltb 0 (clauseBreak a x (clauseOf f g c))) (map (ruleOf f g) (row first (end - first))) ≡ ltb 0 (clauseBreak a x (clauseOf f g c))
 unfolding clauseOf names
 rules-break a x f g c p q =
-    rw (p, q, along-start (ruleOf f g) (f (516 + 2 * c)) (f (517 + 2 * c)))
+    rw (p, q, along-start (ruleOf f g) (f (clauseFirstAt c)) (f (clauseCountAt c)))
     (any-and (λ (r : Rule). namedIn x (r .terms)) (ltb 0 (clauseBreak a x (clauseOf f g c))) (clauseOf f g c) ∙ named-breaks a x (clauseOf f g c))
 
 -- No clause names a variable that the plan does not have.
@@ -281,11 +282,11 @@ module _ (n x : ℕ) (above : n < x) where
 
 module _ {tables terms : List ℕ} (y : Laid tables terms) {c : ℕ} (h : c < wordAt tables 1) where
   -- A clause has a rule.
-  pub first-few : {first end : ℕ} → first ≡ wordAt tables (516 + 2 * c) → end ≡ wordAt tables (516 + 2 * c) + wordAt tables (517 + 2 * c) → (first < 1_025) × (end ≤ 1_025)
+  pub first-few : {first end : ℕ} → first ≡ wordAt tables (clauseFirstAt c) → end ≡ wordAt tables (clauseFirstAt c) + wordAt tables (clauseCountAt c) → (first < ruleRoom) × (end ≤ ruleRoom)
   unfolding clauseOf
   first-few p q =
       let some : 0 < length (clauseOf (wordAt tables) (wordAt terms) c) = rw (clause-here tables terms y c h) at (clause-some _ _ (T-true _ (clause-lawful y h))) in
-      let size = length-map (row (wordAt tables (516 + 2 * c)) (wordAt tables (517 + 2 * c))) (ruleOf (wordAt tables) (wordAt terms)) ∙ length-row (wordAt tables (516 + 2 * c)) (wordAt tables (517 + 2 * c)) in
+      let size = length-map (row (wordAt tables (clauseFirstAt c)) (wordAt tables (clauseCountAt c))) (ruleOf (wordAt tables) (wordAt terms)) ∙ length-row (wordAt tables (clauseFirstAt c)) (wordAt tables (clauseCountAt c)) in
       let inside = rules-inside tables terms y c h in
       let few = rules-few tables terms y in
       (omega (arith, p, some, size, inside, few), omega (arith, q, inside, few))

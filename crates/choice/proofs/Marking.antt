@@ -25,6 +25,7 @@ use Rattle.tallies.specs.Core.{Laid, Ready}
 use Rattle.tallies.proofs.Laid.{getD-row, parts, variables-word, clauses-word, clause-here, rule-ready}
 use Rattle.tallies.proofs.Along.{along-start, along-step, along-end}
 use Rattle.choice.specs.Marks.{markTerms, markRules, clauseMarks}
+use Rattle.format.specs.Layout.{clauseCountAt, clauseFirstAt, ruleCountAt, ruleFirstAt}
 
 -- ---- as many as before
 
@@ -66,12 +67,12 @@ module _ (g : ℕ → ℕ) (i e : ℕ) (s : List ℕ) where
 
 -- ---- rule by rule
 
-pub rule-body : {tables terms marks : List ℕ} {r first count : ℕ} → Ready tables terms marks → r < wordAt tables 2 → first ≡ wordAt tables (1_542 + 5 * r) → count ≡ wordAt tables (1_543 + 5 * r) → Readable terms marks first count
+pub rule-body : {tables terms marks : List ℕ} {r first count : ℕ} → Ready tables terms marks → r < wordAt tables 2 → first ≡ wordAt tables (ruleFirstAt r) → count ≡ wordAt tables (ruleCountAt r) → Readable terms marks first count
 rule-body {tables} {terms} {marks} {r} y h p q =
-    let one : 1_542 + 5 * r + 1 ≡ 1_543 + 5 * r = omega arith in
+    let one : ruleFirstAt r + 1 ≡ ruleCountAt r = omega arith in
     rw (p, q) (rw one at (rule-ready tables terms marks y r h .body))
 
-pub rule-marked : (f g : ℕ → ℕ) (r : ℕ) (s : List ℕ) {first count : ℕ} {t : List ℕ} → first ≡ f (1_542 + 5 * r) → count ≡ f (1_543 + 5 * r) → t ≡ markTerms (termsAt g first count) s → t ≡ markTerms (ruleOf f g r .terms) s
+pub rule-marked : (f g : ℕ → ℕ) (r : ℕ) (s : List ℕ) {first count : ℕ} {t : List ℕ} → first ≡ f (ruleFirstAt r) → count ≡ f (ruleCountAt r) → t ≡ markTerms (termsAt g first count) s → t ≡ markTerms (ruleOf f g r .terms) s
 unfolding ruleOf termsAt
 rule-marked f g r s p q h = h ∙ ap₂ (λ i k. markTerms (termsAt g i k) s) p q
 
@@ -180,15 +181,15 @@ module _ {tables terms : List ℕ} (y : Laid tables terms) {c : ℕ} (h : c < wo
   rules-legal : T (all (ruleLawful (planOfTables tables terms .variables)) (getD (planOfTables tables terms .clauses) c []))
   rules-legal = unfold clauseLawful in and-right _ _ clause-lawful
 
-  clause-rules : {first end : ℕ} → first ≡ wordAt tables (516 + 2 * c) → end ≡ wordAt tables (516 + 2 * c) + wordAt tables (517 + 2 * c) → map (ruleOf (wordAt tables) (wordAt terms)) (row first (end - first)) ≡ getD (planOfTables tables terms .clauses) c []
+  clause-rules : {first end : ℕ} → first ≡ wordAt tables (clauseFirstAt c) → end ≡ wordAt tables (clauseFirstAt c) + wordAt tables (clauseCountAt c) → map (ruleOf (wordAt tables) (wordAt terms)) (row first (end - first)) ≡ getD (planOfTables tables terms .clauses) c []
   unfolding clauseOf
   clause-rules p q =
-      rw (p, q) (along-start (ruleOf (wordAt tables) (wordAt terms)) (wordAt tables (516 + 2 * c)) (wordAt tables (517 + 2 * c)) ∙ sym (clause-here tables terms y c h))
+      rw (p, q) (along-start (ruleOf (wordAt tables) (wordAt terms)) (wordAt tables (clauseFirstAt c)) (wordAt tables (clauseCountAt c)) ∙ sym (clause-here tables terms y c h))
 
   pub clause-marked :
       {n first end : ℕ} (s : List ℕ) {u t : List ℕ} → planOfTables tables terms .variables ≤ length s → n ≡ wordAt tables 0
       → u ≡ replicate (length (take n s)) 0
-      → first ≡ wordAt tables (516 + 2 * c) → end ≡ wordAt tables (516 + 2 * c) + wordAt tables (517 + 2 * c)
+      → first ≡ wordAt tables (clauseFirstAt c) → end ≡ wordAt tables (clauseFirstAt c) + wordAt tables (clauseCountAt c)
       → t ≡ markRules (map (ruleOf (wordAt tables) (wordAt terms)) (row first (end - first))) (u ++ drop n s)
       → t ≡ clauseMarks (getD (planOfTables tables terms .clauses) c []) (planOfTables tables terms .variables) ++ drop (planOfTables tables terms .variables) s
   clause-marked {n} {first} {end} s {u} {t} long e cleared p q m =

@@ -13,15 +13,14 @@ use lib.ListN.{length}
 use borrow.Author.Tests.{lt-ltb, le-ltb, leb-true, leb-false, ltb-true, ltb-false, eq-eqb, ne-eqb, eqb-true, eqb-false}
 use Rattle.plpb.specs.Lists.{_and_, _or_, any, all, sumBy}
 use Rattle.plpb.specs.Plan.{Bound, absent, present, Rule, Clause, Plan, Assignment, numbersRise}
-use Rattle.plpb.specs.Equations.{binom, over, Standing, out, on, off, shares, sharesOf, product, clauseBreak, breakSum}
+use Rattle.plpb.specs.Equations.{binom, over, Standing, out, on, off, shares, sharesOf, product, clauseBreak, breakSum, lost, gained}
 use Rattle.plpb.specs.Count.{capped, cappedBreak}
 use Rattle.plpb.specs.Expansion.{breakCount}
 use Rattle.plpb.proofs.Capped.{capped-zero, capped-none}
 use Rattle.plpb.proofs.Lists.{not-and}
-use Rattle.plpb.proofs.Binomial.{binom-mono-upper}
-use Rattle.plpb.proofs.Choices.{binom-none, binom-some}
-use Rattle.plpb.proofs.Normal.{belowSize}
-use Rattle.plpb.proofs.Equations.{lost, gained, break-formula}
+use Rattle.plpb.proofs.Binomial.{binom-vanishes, binom-mono-upper, binom-positive}
+use Rattle.plpb.specs.Normal.{belowSize}
+use Rattle.plpb.proofs.Equations.{break-formula}
 use Rattle.counting.specs.Bound.{boundOf}
 use Rattle.rules.specs.declared.state.State.{State}
 use Rattle.rules.specs.Places.{standingIn}
@@ -32,7 +31,7 @@ use Rattle.choice.specs.Breaks.{spoilsPart, falseAfter, breaksAlong}
 
 more-chosen : (m n j : ℕ) → m ≤ n → j ≤ n → binom m (j + 1) < binom (n + 1) (j + 1)
 unfolding binom
-more-chosen m n j h l = rw (add-one j, add-one n) (omega (arith, binom-mono-upper (suc j) h, binom-some n j l))
+more-chosen m n j h l = rw (add-one j, add-one n) (omega (arith, binom-mono-upper (suc j) h, binom-positive n j l))
 
 pub grows-absent : (m w : ℕ) → false ≡ ltb 0 (over (m + w) absent - over m absent)
 unfolding over
@@ -55,7 +54,7 @@ module _ (m w k : ℕ) where
       at true e =
           let l : k ≤ m + w = leb-true k (m + w) e in
           sym (lt-ltb 0 (binom (m + w) k - binom m k) (omega (arith, rw (sub-add-cancel low, sub-add-cancel (le-trans low l)) at (more-chosen m (m + w - 1) (k - 1) (omega arith) (omega arith)))))
-      at false e = sym (le-ltb 0 (binom (m + w) k - binom m k) (omega (arith, binom-none (m + w) k (leb-false k (m + w) e))))
+      at false e = sym (le-ltb 0 (binom (m + w) k - binom m k) (omega (arith, binom-vanishes (m + w) k (leb-false k (m + w) e))))
 
 -- ---- a rule after the flip
 
@@ -66,8 +65,8 @@ some-chosen n absent = refl
 some-chosen n (present k) = at (ltb n k) refl
   where
     at : (b : Bool) → ltb n k ≡ b → ltb 0 (binom n k) ≡ not b
-    at true e = le-ltb 0 (binom n k) (omega (arith, binom-none n k (ltb-true n k e)))
-    at false e = lt-ltb 0 (binom n k) (binom-some n k (ltb-false n k e))
+    at true e = le-ltb 0 (binom n k) (omega (arith, binom-vanishes n k (ltb-true n k e)))
+    at false e = lt-ltb 0 (binom n k) (binom-positive n k (ltb-false n k e))
 
 some-suc : (n : ℕ) → ltb 0 (suc n) ≡ true
 some-suc n = lt-ltb 0 (suc n) (omega arith)

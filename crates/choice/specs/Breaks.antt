@@ -8,6 +8,7 @@ use lib.Dec.{ltb}
 use Rattle.plpb.specs.Lists.{_and_, _or_, any, all}
 use Rattle.plpb.specs.Plan.{Rule, Assignment}
 use Rattle.plpb.specs.Equations.{sharesOf}
+use Rattle.plpb.specs.Try.{Try}
 use Rattle.format.specs.Tables.{planOfTables}
 use Rattle.tallies.specs.Layout.{bitsOf}
 use Rattle.choice.specs.declared.breaks.Effect.{Effect}
@@ -15,6 +16,10 @@ use Rattle.choice.specs.declared.breaks.Effect.{Effect}
 -- The assignment that is lent: a byte for each variable of the plan that two tables hold.
 abbrev pub lentBits : List ℕ → List ℕ → List ℕ → Assignment
 lentBits tables terms assignment = bitsOf (planOfTables tables terms .variables) assignment
+
+-- .. which a try holds.
+abbrev pub lentTry : List ℕ → List ℕ → List ℕ → Try
+lentTry tables terms assignment = record { bits = lentBits tables terms assignment }
 
 -- The flip spoils some part of a rule: 0 < e.
 unfoldable pub spoilsPart : Assignment → ℕ → Rule → Bool

@@ -3,10 +3,10 @@
 use Prim.Native.Nat.{ℕ, _/_, _≤_, _<_}
 use mathlib.Core.Path.{_≡_}
 use mathlib.Core.List.{List}
-use lib.ListN.{length}
-use Rattle.plpb.specs.Plan.{Assignment}
-use Rattle.plpb.specs.Walk.{Walk, Outcome, ends, short, run}
-use Rattle.plpb.proofs.Walks.{at}
+use lib.ListN.{length, drop}
+use Rattle.plpb.specs.Plan.{Clause, Plan, Assignment}
+use Rattle.plpb.specs.Walk.{Walk, at, Outcome, ends, short, run}
+use Rattle.plpb.specs.Choice.{choosable}
 use Rattle.numbers.specs.Finding.{marked}
 use Rattle.choice.specs.declared.choose.Chosen.{Chosen}
 use Rattle.choice.specs.declared.choose.Chosen.the-variants as chosen
@@ -40,7 +40,13 @@ pub record PickMarked (numbers : List ℕ) (used : ℕ) (marks : List ℕ) (n va
   pub some : 0 < m
   pub listed : used ≤ length numbers / 4
 
--- What the noisy choice needs: there is a variable to choose from.
+-- A clause's variables are marked for the choice, and counted.
+pub record MarksChoosable (p : Plan) (c : Clause) (entry exit : List ℕ) (count : ℕ) : Type 0 where
+  pub marks : marked exit (p .variables) 1 ≡ choosable p c
+  pub counted : count ≡ length (choosable p c)
+  pub beyond : drop (p .variables) exit ≡ drop (p .variables) entry
+
+-- What a choice needs: there is a variable to choose from.
 pub record ToChoose (numbers : List ℕ) (used n : ℕ) (marks : List ℕ) : Type 0 where
   pub few : n ≤ 512
   pub bytes : n ≤ length marks

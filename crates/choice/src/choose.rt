@@ -1,24 +1,23 @@
 // The choice of a variable of a clause (Algorithm 2, SKC): among those whose flip breaks nothing, else by the noise among the least counts or among all.
 ghost use mathlib.Core.Path.{_≡_};
-ghost use mathlib.Core.List.{[]};
-ghost use Prim.Native.Nat.{_/_, _≤_, _<_};
+ghost use Prim.Native.Nat.{_≤_, _<_};
 ghost use lib.Dec.{ltb};
 ghost use lib.ListN.{length, getD, drop};
 ghost use Rattle.plpb.specs.Choice.{pickFrom, leastBreak, withBreak, noisyChoice, choice};
-ghost use Rattle.words.specs.Words.{wordAt};
 ghost use Rattle.format.specs.Tables.{planOfTables};
 ghost use Rattle.tallies.specs.Core.{Ready};
 ghost use Rattle.numbers.specs.Numbers.{numbersOf};
 ghost use Rattle.numbers.specs.Finding.{marked};
-ghost use Rattle.choice.specs.Breaks.{lentBits};
+ghost use Rattle.settings.specs.Settings.{settingsOf};
+ghost use Rattle.choice.specs.Breaks.{lentBits, lentTry};
 ghost use Rattle.choice.specs.Outcome.{Chooses, PickMarked, ToChoose};
-use crate::marks::mark_clause;
 use crate::marks::mark_free;
 use crate::marks::mark_least;
 use numbers::Picked;
 use numbers::count_marked;
 use numbers::nth;
 use numbers::pick;
+use settings::Settings;
 use words::index;
 
 // The variable, and how many numbers are used after the choice; or how many are used where too few are left for it.
@@ -94,22 +93,22 @@ fn choose_noisy(
     assignment: &[u8],
     numbers: &[u8],
     used: usize,
-    noise: u32,
+    s: Settings,
     n: usize,
     marks: &mut [u8],
 ) -> Chosen
     requires { ⌜ Ready (now tables) (now terms) (now assignment) × (n ≡ planOfTables (now tables) (now terms) .variables)
         × ToChoose (now numbers) used n (now marks) ⌝ }
     ensures { λ r. ⌜ Chooses
-        (noisyChoice (planOfTables (now (tables .entry)) (now (terms .entry))) noise
-        (lentBits (now (tables .entry)) (now (terms .entry)) (now (assignment .entry))) (marked (now (marks .entry)) n 1))
+        (noisyChoice (settingsOf s) (planOfTables (now (tables .entry)) (now (terms .entry)))
+        (lentTry (now (tables .entry)) (now (terms .entry)) (now (assignment .entry))) (marked (now (marks .entry)) n 1))
         (numbersOf (now (numbers .entry))) used n r
         × (drop n (now (marks .exit)) ≡ drop n (now (marks .entry))) ⌝ }
 {
     let p = pick(numbers, used, 1000);
     match p {
         Picked::At(r, after) => {
-            if is_below(r, noise) {
+            if is_below(r, s.noise) {
                 choose_least(tables, terms, assignment, numbers, after, n, marks)
             } else {
                 choose_any(numbers, after, n, marks)
@@ -119,32 +118,30 @@ fn choose_noisy(
     }
 }
 
-// Among the variables of a clause, each once. Of the marks only those of the plan's variables change.
+// Among the variables marked 1. Of the marks only those of the plan's variables change.
 pub fn choose(
     tables: &[u8],
     terms: &[u8],
     assignment: &[u8],
     numbers: &[u8],
     used: usize,
-    noise: u32,
-    c: usize,
+    s: Settings,
     marks: &mut [u8],
 ) -> Chosen
-    requires { ⌜ Ready (now tables) (now terms) (now assignment) × Ready (now tables) (now terms) (now marks) × (c < wordAt (now tables) 1)
-        × (used ≤ length (now numbers) / 4) ⌝ }
+    requires { ⌜ Ready (now tables) (now terms) (now assignment)
+        × ToChoose (now numbers) used (planOfTables (now tables) (now terms) .variables) (now marks) ⌝ }
     ensures { λ r. ⌜ Chooses
-        (choice (planOfTables (now (tables .entry)) (now (terms .entry))) noise
-        (lentBits (now (tables .entry)) (now (terms .entry)) (now (assignment .entry)))
-        (getD (planOfTables (now (tables .entry)) (now (terms .entry)) .clauses) c [])) (numbersOf (now (numbers .entry))) used
+        (choice (settingsOf s) (planOfTables (now (tables .entry)) (now (terms .entry)))
+        (lentTry (now (tables .entry)) (now (terms .entry)) (now (assignment .entry)))
+        (marked (now (marks .entry)) (planOfTables (now (tables .entry)) (now (terms .entry)) .variables) 1)) (numbersOf (now (numbers .entry))) used
         (planOfTables (now (tables .entry)) (now (terms .entry)) .variables) r
         × (drop (planOfTables (now (tables .entry)) (now (terms .entry)) .variables) (now (marks .exit))
         ≡ drop (planOfTables (now (tables .entry)) (now (terms .entry)) .variables) (now (marks .entry))) ⌝ }
 {
     let n = index(tables, 0);
-    mark_clause(tables, terms, c, marks);
     let free = mark_free(tables, terms, assignment, marks);
     if 0 < free {
         return pick_marked(numbers, used, marks, n, 2, free);
     }
-    choose_noisy(tables, terms, assignment, numbers, used, noise, n, marks)
+    choose_noisy(tables, terms, assignment, numbers, used, s, n, marks)
 }

@@ -15,7 +15,7 @@ ghost use Rattle.tallies.specs.Core.{Ready};
 ghost use Rattle.choice.specs.Breaks.{lentBits, spoilsPart};
 ghost use Rattle.choice.specs.Marks.{Written, hasBreak, parting};
 ghost use Rattle.choice.specs.Free.{raising, lowerIf, Lowered, spoilsBy, spoilsAt, breaksAt};
-ghost use Rattle.format.specs.Layout.{clauseCount, clauseFirst, ruleFirst, tableSize};
+ghost use Rattle.format.specs.Layout.{clauseCountAt, clauseFirstAt, lastCountAt, lastFirstAt, ruleFirstAt, ruleRoom, tableSize};
 use crate::breaks::clause_breaks;
 use crate::breaks::spoils;
 use crate::marks::variable_at;
@@ -208,15 +208,15 @@ fn is_short(from: u32, last: u32, count: u32, n: u32) -> bool
 
 // Whether the rules of a clause have fewer terms than there are variables: the terms of rules stand one after another.
 fn has_few_terms(tables: &[u8], first: usize, end: usize) -> bool
-    requires { ⌜ (tableSize ≤ length (now tables)) × (first < 1025) × (end ≤ 1025) ⌝ }
+    requires { ⌜ (tableSize ≤ length (now tables)) × (first < ruleRoom) × (end ≤ ruleRoom) ⌝ }
     ensures { λ r. ⌜ r
-        ≡ ltb (wordAt (now (tables .entry)) (1537 + 5 * end) + wordAt (now (tables .entry)) (1538 + 5 * end))
-        (wordAt (now (tables .entry)) (ruleFirst first) + wordAt (now (tables .entry)) 0) ⌝ }
+        ≡ ltb (wordAt (now (tables .entry)) (lastFirstAt end) + wordAt (now (tables .entry)) (lastCountAt end))
+        (wordAt (now (tables .entry)) (ruleFirstAt first) + wordAt (now (tables .entry)) 0) ⌝ }
 {
     is_short(
         word(tables, format::RULES + 5 * first),
-        word(tables, 1537 + 5 * end),
-        word(tables, 1538 + 5 * end),
+        word(tables, format::LAST_FIRST + 5 * end),
+        word(tables, format::LAST_COUNT + 5 * end),
         word(tables, 0),
     )
 }
@@ -232,7 +232,7 @@ fn lower_several(
     marks: &mut [u8],
 )
     requires { ⌜ Ready (now tables) (now terms) (now assignment) × (c < wordAt (now tables) 1) × Ready (now tables) (now terms) (now marks)
-        × (first ≡ wordAt (now tables) (clauseFirst c)) × (end ≡ wordAt (now tables) (clauseFirst c) + wordAt (now tables) (clauseCount c)) ⌝ }
+        × (first ≡ wordAt (now tables) (clauseFirstAt c)) × (end ≡ wordAt (now tables) (clauseFirstAt c) + wordAt (now tables) (clauseCountAt c)) ⌝ }
     ensures { λ _. ⌜ Lowered (breaksAt (now (tables .entry)) (now (terms .entry)) (now (assignment .entry)) c) (now (marks .entry)) (now (marks .exit)) ⌝ }
 {
     if has_few_terms(tables, first, end) {

@@ -12,6 +12,7 @@ ghost use Rattle.rules.specs.Terms.{termsAt, Readable};
 ghost use Rattle.tallies.specs.Core.{Ready};
 ghost use Rattle.numbers.specs.Finding.{marked};
 ghost use Rattle.choice.specs.Breaks.{lentBits};
+ghost use Rattle.choice.specs.Outcome.{MarksChoosable};
 ghost use Rattle.choice.specs.Marks.{markTerms, markRules, clauseMarks, hasBreak, parting, lowering, Written, Parted, LeastSoFar};
 use crate::free::free_marks;
 use counting::count::Count;
@@ -58,7 +59,7 @@ fn mark_rules(tables: &[u8], terms: &[u8], first: usize, end: usize, marks: &mut
 }
 
 // Marks the variables that a clause names with 1 and the others with 0: each once, however many of its rules name it.
-pub fn mark_clause(tables: &[u8], terms: &[u8], c: usize, marks: &mut [u8])
+fn mark_clause(tables: &[u8], terms: &[u8], c: usize, marks: &mut [u8])
     requires { ⌜ Ready (now tables) (now terms) (now marks) × (c < wordAt (now tables) 1) ⌝ }
     ensures { λ _. ⌜ now (marks .exit)
         ≡ clauseMarks (getD (planOfTables (now (tables .entry)) (now (terms .entry)) .clauses) c [])
@@ -69,6 +70,16 @@ pub fn mark_clause(tables: &[u8], terms: &[u8], c: usize, marks: &mut [u8])
     clear(&mut marks[..n]);
     let rules = rules_of(tables, c);
     mark_rules(tables, terms, rules.first, rules.end, marks);
+}
+
+// Marks the variables that may be chosen of a clause, and answers how many they are.
+pub fn mark_choosable(tables: &[u8], terms: &[u8], c: usize, marks: &mut [u8]) -> usize
+    requires { ⌜ Ready (now tables) (now terms) (now marks) × (c < wordAt (now tables) 1) ⌝ }
+    ensures { λ r. ⌜ MarksChoosable (planOfTables (now (tables .entry)) (now (terms .entry)))
+        (getD (planOfTables (now (tables .entry)) (now (terms .entry)) .clauses) c []) (now (marks .entry)) (now (marks .exit)) r ⌝ }
+{
+    mark_clause(tables, terms, c, marks);
+    count_marked(marks, index(tables, 0), 1)
 }
 
 // The number of the variable whose mark stands at a place.

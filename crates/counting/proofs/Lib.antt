@@ -1,5 +1,4 @@
 pub mod Difference
-pub mod Examples
 pub mod Joining
 pub mod Signed
 pub mod Words

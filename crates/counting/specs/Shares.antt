@@ -1,25 +1,11 @@
 -- The shares of a rule and of a clause, as the code has them: capped, and joined rule by rule.
 -- Assumes nothing.
-use Prim.Native.Nat.{ℕ, _+_, _*_, _≤_}
+use Prim.Native.Nat.{_+_, _*_}
 use mathlib.Core.List.{List, [], _∷_}
 use Rattle.plpb.specs.Count.{capped}
-use Rattle.plpb.specs.Equations.{Standing as StandingOf, out, on, off, Shares as SharesOf}
+use Rattle.plpb.specs.Equations.{Shares as SharesOf}
 use Rattle.counting.specs.declared.shares.Shares.{Shares}
-use Rattle.counting.specs.declared.shares.Standing.{Standing}
-use Rattle.counting.specs.declared.shares.Standing.the-variants.{Out, On, Off}
 use Rattle.counting.specs.Count.{number}
-
--- The standing of plpb that a Standing of the code says.
-abbrev pub standingOf : Standing → StandingOf
-standingOf Out = out
-standingOf (On w) = on w
-standingOf (Off w) = off w
-
--- A literal's weight is part of the sum that it counts in: P where it is true, N where it is false.
-abbrev pub weightWithin : StandingOf → ℕ → ℕ → Type 0
-weightWithin out n p = Unit {0}
-weightWithin (on w) n p = w ≤ p
-weightWithin (off w) n p = w ≤ n
 
 -- The three numbers that a Shares of the code says.
 abbrev pub sharesIn : Shares → SharesOf

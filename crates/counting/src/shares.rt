@@ -5,7 +5,7 @@ ghost use Rattle.plpb.specs.Count.{capped};
 ghost use Rattle.plpb.specs.Equations.{out, on, off, shares};
 ghost use Rattle.counting.specs.Bound.{boundOf};
 ghost use Rattle.counting.specs.Count.{number};
-ghost use Rattle.counting.specs.Shares.{sharesIn, cappedShares, joinedShares, standingOf, weightWithin};
+ghost use Rattle.counting.specs.Shares.{sharesIn, cappedShares, joinedShares};
 use crate::bound::Bound;
 use crate::bound::over;
 use crate::bound::over_difference;
@@ -51,25 +51,6 @@ pub fn literal_false(w: u64, n: u64, p: u64, a: Bound, b: Bound) -> Shares
         e: over_difference(p, w, b),
         f: over_difference(n - w, w, a),
         g: over(p, b).plus(over(n - w, a)),
-    }
-}
-
-// How a variable stands in a rule, with its weight: it does not occur, or its literal is true, or its literal is false.
-pub enum Standing {
-    Out,
-    On(u64),
-    Off(u64),
-}
-
-// The case that the variable's standing asks for.
-pub fn of_rule(standing: Standing, n: u64, p: u64, a: Bound, b: Bound) -> Shares
-    requires { ⌜ (n + p < 4294967296) × weightWithin (standingOf standing) n p ⌝ }
-    ensures { λ r. ⌜ sharesIn r ≡ cappedShares (shares (standingOf standing) n p (boundOf a) (boundOf b)) ⌝ }
-{
-    match standing {
-        Standing::Out => literal_absent(n, p, a, b),
-        Standing::On(w) => literal_true(w, n, p, a, b),
-        Standing::Off(w) => literal_false(w, n, p, a, b),
     }
 }
 

@@ -14,7 +14,6 @@ use borrow.Author.Tests.{ne-eqb}
 use Rattle.plpb.specs.Search.{Ending, floor, ended, none, short-found, short-none}
 use Rattle.words.specs.Writes.{front, put}
 use Rattle.words.proofs.Writes.{front-put, put-put}
-use Rattle.walk.specs.Calls.{endingNumber}
 use Rattle.folder.specs.Text.{text, decimal, signedDecimal, line, endingOf, endingWord, resultLine, assignmentLine, refusalLine}
 use Rattle.folder.proofs.Decimal.{twenty}
 use Rattle.folder.proofs.Signs.{read, Negative, Natural}
@@ -54,15 +53,6 @@ module _ (o : List ℕ) (at : ℕ) (v : ℤ) (n end : ℕ) (size : n ≡ natAbs 
       let m : n ≡ h .0 = size ∙ ap natAbs (h .1) in
       let is : decimal n ≡ signedDecimal v = rw (h .1, m) in
       (e ∙ ap (λ (x : List ℕ). put at (x ++ (end ∷ [])) o) is, q ∙ ap (λ (x : List ℕ). at + length (x ++ (end ∷ []))) is)
-
--- The endings by their numbers.
-pub ending-back : (e : Ending) → endingOf (endingNumber e) ≡ e
-unfolding endingOf endingNumber
-ending-back floor = refl
-ending-back ended = refl
-ending-back none = refl
-ending-back short-found = refl
-ending-back short-none = refl
 
 pub ending-last : (n : ℕ) → (n ≡ 1 → ⊥) → (n ≡ 2 → ⊥) → (n ≡ 3 → ⊥) → (n ≡ 4 → ⊥) → endingOf n ≡ short-none
 unfolding endingOf

@@ -10,7 +10,8 @@ use lib.ListN.{length, getD}
 use borrow.Author.Tests.{eq-eqb, ne-eqb, lt-ltb, le-ltb, ltb-false, eqb-true, not-false}
 use Rattle.words.specs.Words.{numAt}
 use Rattle.format.specs.File.{refuse, tagAt, lengthAt}
-use Rattle.walk.specs.Calls.{Asked, settingsRefusal}
+use Rattle.settings.specs.declared.Settings.{Settings as Asked}
+use Rattle.settings.specs.Settings.{settingsRefusal}
 use Rattle.folder.specs.Files.{askedIn, walkFault, judged, readWalk, walked}
 use Rattle.folder.specs.declared.files.Walked.the-variants.{Settings, Refused}
 
@@ -95,6 +96,6 @@ judged-fault k n e h =
     let l : 0 < settingsRefusal k = omega (arith, h, e) in
     rw (lt-ltb _ _ l) (ap (λ (m : ℕ). Refused m 0) e)
 
-pub judged-lawful : (k : Asked) → settingsRefusal k ≡ 0 → Settings (k .noise) (k .tries) (k .flips) (k .mode) ≡ walked (judged k)
+pub judged-lawful : (k : Asked) → settingsRefusal k ≡ 0 → Settings k ≡ walked (judged k)
 unfolding judged walked
 judged-lawful k e = rw e

@@ -8,7 +8,8 @@ use lib.Dec.{ltb, eqb}
 use lib.ListN.{length}
 use Rattle.words.specs.Words.{numAt}
 use Rattle.format.specs.File.{Reading, refused, accepted, refuse, tagAt, lengthAt}
-use Rattle.walk.specs.Calls.{Asked, settingsRefusal}
+use Rattle.settings.specs.declared.Settings.{Settings as Asked}
+use Rattle.settings.specs.Settings.{settingsRefusal}
 use Rattle.folder.specs.declared.files.Walked.{Walked}
 use Rattle.folder.specs.declared.files.Walked.the-variants.{Settings, Refused}
 
@@ -37,7 +38,7 @@ readWalk s =
 -- What a reading comes to.
 unfoldable pub walked : Reading Asked → Walked
 walked (refused number offset) = Refused number offset
-walked (accepted k) = Settings (k .noise) (k .tries) (k .flips) (k .mode)
+walked (accepted k) = Settings k
 
 -- "Numbers.bin: 8 when its length is no multiple of 4."
 unfoldable pub numbersRefusal : List ℕ → ℕ

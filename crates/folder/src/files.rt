@@ -1,17 +1,12 @@
 // walk.bin and numbers.bin judged.
 ghost use mathlib.Core.Path.{_≡_};
 ghost use Rattle.folder.specs.Files.{walkFault, judged, readWalk, walked, numbersRefusal};
-use tries::Settings;
-use walk::lent::settings_refusal;
+use settings::Settings;
+use settings::settings_refusal;
 
 // The settings, or the refusal's number and offset.
 pub enum Walked {
-    Settings {
-        noise: u32,
-        tries: u32,
-        flips: u32,
-        mode: u32,
-    },
+    Settings(Settings),
     Refused(u32, usize),
 }
 
@@ -34,30 +29,14 @@ fn head_fault(file: &[u8]) -> u32
     0
 }
 
-fn judge_settings(noise: u32, tries: u32, flips: u32, mode: u32) -> Walked
-    ensures { λ r. ⌜ r ≡ walked (judged (record { noise = noise; tries = tries; flips = flips; mode = mode })) ⌝ }
+fn judge_settings(s: Settings) -> Walked
+    ensures { λ r. ⌜ r ≡ walked (judged s) ⌝ }
 {
-    let fault = settings_refusal(Settings {
-        noise,
-        tries,
-        flips,
-        mode,
-    });
+    let fault = settings_refusal(s);
     if fault != 0 {
         return Walked::Refused(fault, 0);
     }
-    Walked::Settings {
-        noise,
-        tries,
-        flips,
-        mode,
-    }
-}
-
-fn byte_word(b: u8) -> u32
-    ensures { λ r. ⌜ r ≡ b ⌝ }
-{
-    b as u32
+    Walked::Settings(s)
 }
 
 // What walk.bin comes to.
@@ -71,12 +50,12 @@ pub fn judge_walk(file: &[u8]) -> Walked
     if 12 < file.len() {
         return Walked::Refused(7, 12);
     }
-    judge_settings(
-        words::read_u16(file, 3),
-        words::read_u16(file, 5),
-        words::read_u32(file, 7),
-        byte_word(file[11]),
-    )
+    judge_settings(Settings {
+        noise: words::read_u16(file, 3),
+        tries: words::read_u16(file, 5),
+        flips: words::read_u32(file, 7),
+        mode: words::byte_word(file[11]),
+    })
 }
 
 // "Numbers.bin: 8 when its length is no multiple of 4." 0 where nothing is refused.

@@ -13,24 +13,12 @@ const SPACE: u8 = 32;
 
 const LINE_FEED: u8 = 10;
 
-// Writes bytes over the first ones of a buffer.
-fn copy(out: &mut [u8], bytes: &[u8])
-    requires { ⌜ length (now bytes) ≤ length (now out) ⌝ }
-    ensures { λ _. ⌜ now (out .exit) ≡ front (now (bytes .entry)) (now (out .entry)) ⌝ }
-{
-    let mut i = 0;
-    while i < bytes.len() {
-        out[i] = bytes[i];
-        i += 1;
-    }
-}
-
 // A line's first item, and what ends it. Answers the next place.
 fn put_word(out: &mut [u8], word: &[u8], end: u8) -> usize
     requires { ⌜ length (now word) < length (now out) ⌝ }
     ensures { λ r. ⌜ (now (out .exit) ≡ front (now (word .entry) ++ (end ∷ [])) (now (out .entry))) × (r ≡ length (now (word .entry)) + 1) ⌝ }
 {
-    copy(out, word);
+    words::copy(word, out, word.len());
     let at = word.len();
     out[at] = end;
     at + 1

@@ -14,14 +14,14 @@ use Rattle.plpb.specs.Tallies.{rulesOf}
 use Rattle.words.specs.Words.{numAt, bytesOf}
 use Rattle.words.proofs.Words.{Below, bytes-below, length-bytesOf}
 use Rattle.format.specs.Limits.{termCount, lawful}
-use Rattle.format.specs.File.{atObjective, State, mayStand, tagAt, lengthAt, lengthLawful, termsIn, termsAt, fieldTerms, pastLimits, next, stageAfter, Contents, accepted, addField, readFrom, begin, planOf, read}
+use Rattle.format.specs.File.{atObjective, State, mayStand, tagAt, lengthAt, lengthLawful, termsIn, termsAt, fieldTerms, pastLimits, next, stageAfter, Contents, accepted, addField, readFrom, begin, planOf, read, behind}
 use Rattle.format.specs.Writer.{field, termBytes, write}
 use Rattle.format.proofs.Bools.{and-left, and-right}
 use Rattle.format.proofs.Lawful.{LawfulTerms, terms-parts, clauseLawful, LawfulPlan, plan-whole}
 use Rattle.format.proofs.Fields.{Clean}
 use Rattle.format.proofs.Sizes.{termsOf}
 use Rattle.format.proofs.WrittenRule.{length-terms}
-use Rattle.format.proofs.Order.{fieldsFrom, no-rules, rules, behind}
+use Rattle.format.proofs.Order.{fieldsFrom, no-rules, rules}
 use Rattle.format.proofs.Peel.{length-termsAt, peel, peel-terms, peel-field}
 use Rattle.format.proofs.Held.{not-refused, accepted-clean, mapped, accepted-behind, Held, Within, held}
 

@@ -1,6 +1,6 @@
 -- Laws of 'and' and of tests as types: each holds by the cases of its first argument.
 use Prim.Native.Nat.{ℕ}
-use mathlib.Core.Path.{_≡_, refl, ap}
+use mathlib.Core.Path.{_≡_, refl, sym, ap}
 use mathlib.Core.Bool.{Bool, true, false, cond}
 use native.Mathlib.Omega.{arith}
 use lib.Dec.{T}
@@ -46,3 +46,9 @@ pub and-assoc : (a b c : Bool) → (a and b and c) ≡ (a and (b and c))
 unfolding _and_
 and-assoc true b c = refl
 and-assoc false b c = refl
+
+-- Two tests that hold together are one.
+pub same-test : (a b : Bool) → (a ≡ true → b ≡ true) → (b ≡ true → a ≡ true) → a ≡ b
+same-test true b p q = sym (p refl)
+same-test false true p q = q refl
+same-test false false p q = refl

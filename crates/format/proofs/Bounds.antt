@@ -41,11 +41,6 @@ upper-back (present l) absent h = refl
 upper-back absent (present u) h = refl
 upper-back (present l) (present u) h = refl
 
-pub bound-small : (b : Bound ℤ) → boundLawful b ≡ true → natAbs (boundNumber b) ≤ maxBound
-unfolding boundLawful boundNumber
-bound-small absent h = omega arith
-bound-small (present b) h = leb-true _ _ h
-
 -- A lawful mode with two numbers: what the bounds are, in one record.
 pub record Meant (m : ℕ) (l u : ℤ) : Type 0 where
   pub lawful : bothLawful (boundOf 2 m l) (boundOf 1 m u) ≡ true

@@ -10,7 +10,7 @@ use borrow.Author.Tests.{leb-true, eqb-true, le-leb, eq-eqb}
 use Rattle.plpb.specs.Lists.{concat, row}
 use Rattle.format.proofs.Bools.{and-left, and-right, and-join}
 use Rattle.format.proofs.Lists.{row-split}
-use Rattle.format.proofs.Good.{linkGood, chainFrom}
+use Rattle.format.specs.Good.{linkGood, chainFrom}
 
 -- A good entry: it begins at a place, and ends at e or before.
 pub record Link (first count e at : ℕ) : Type 0 where

@@ -16,18 +16,19 @@ use Rattle.plpb.specs.Tallies.{rulesOf}
 use Rattle.words.specs.Words.{signed, unsigned}
 use Rattle.words.proofs.Words.{unsigned-signed}
 use Rattle.format.specs.Limits.{ruleLawful, termCount}
-use Rattle.format.specs.Tables.{coefficient, clauseEntries, ruleEntries, termEntries, allTerms, termOf, ruleOf, clauseOf, objectiveOf, planIn}
+use Rattle.format.specs.Tables.{coefficient, clauseEntries, ruleEntries, termEntries, allTerms, termOf, ruleOf, clauseOf, objectiveOf, planIn, sparse, named, isSome}
 use Rattle.format.proofs.Lists.{length-spread, all-row}
 use Rattle.format.proofs.Bounds.{bounds-tested, bounds-meant}
 use Rattle.format.proofs.Lawful.{LawfulTerms, rule-whole, clauseLawful, clause-whole, LawfulPlan}
-use Rattle.format.proofs.Good.{chainFrom}
+use Rattle.format.specs.Good.{chainFrom}
 use Rattle.format.proofs.Spells.{Spells}
 use Rattle.format.proofs.Sections.{Sections, length-allTerms}
 use Rattle.format.proofs.Entries.{Entry, entry-join}
 use Rattle.format.proofs.WordBounds.{wordLimit}
-use Rattle.format.proofs.Objective.{sparse, named, isSome, sparse-rising, sparse-within, sparse-coefficient, coefficient-above}
+use Rattle.format.proofs.Objective.{sparse-rising, sparse-within, sparse-coefficient, coefficient-above}
 use Rattle.format.proofs.Chains.{chain-link, chain-rest, chain-concat}
 use Rattle.format.proofs.Sound.{Sound, clause-within, rule-bounds, rule-sound}
+use Rattle.format.specs.Layout.{clauseCountAt, clauseFirstAt, clausesAt, ruleCountAt, ruleFirstAt, ruleLowerAt, ruleUpperAt}
 
 le-or-lt : (a b : ℕ) → (a ≤ b) ⊎ (b < a)
 le-or-lt a b = elim (decLe a b) [ yes l ↦ inl l | no n ↦ inr (lt-of-not-le n) ]
@@ -41,27 +42,27 @@ terms-again g w i (suc k) =
     (refl, (rw (add-one (2 * i)) (sym (unsigned-signed _ (w (suc (2 * i))))), rw m (terms-again g w (suc i) k)))
 
 module _ (f g : ℕ → ℕ) (wf : (i : ℕ) → f i < wordLimit) (wg : (i : ℕ) → g i < wordLimit) (s : Sound f g) where
-  length-clause : (c : ℕ) → length (clauseOf f g c) ≡ f (517 + 2 * c)
+  length-clause : (c : ℕ) → length (clauseOf f g c) ≡ f (clauseCountAt c)
   unfolding clauseOf
-  length-clause c = length-spread (ruleOf f g) (f (516 + 2 * c)) (f (517 + 2 * c))
+  length-clause c = length-spread (ruleOf f g) (f (clauseFirstAt c)) (f (clauseCountAt c))
 
-  length-rule : (r : ℕ) → length (ruleOf f g r .terms) ≡ f (1_543 + 5 * r)
+  length-rule : (r : ℕ) → length (ruleOf f g r .terms) ≡ f (ruleCountAt r)
   unfolding ruleOf
-  length-rule r = length-spread (termOf g) (f (1_542 + 5 * r)) (f (1_543 + 5 * r))
+  length-rule r = length-spread (termOf g) (f (ruleFirstAt r)) (f (ruleCountAt r))
 
   clauses-again :
-      (at i k : ℕ) → at ≤ f 2 → chainFrom (λ c. f (516 + 2 * c)) (λ c. f (517 + 2 * c)) (f 2) at i k ≡ true
-      → Spells f (516 + 2 * i) (clauseEntries at (map (clauseOf f g) (row i k)))
+      (at i k : ℕ) → at ≤ f 2 → chainFrom (λ c. f (clauseFirstAt c)) (λ c. f (clauseCountAt c)) (f 2) at i k ≡ true
+      → Spells f (clauseFirstAt i) (clauseEntries at (map (clauseOf f g) (row i k)))
   unfolding Spells clauseEntries row
   clauses-again at i zero r c = tt
   clauses-again at i (suc k) r c =
-      let a : suc (516 + 2 * i) ≡ 517 + 2 * i = omega arith in
-      let b : suc (suc (516 + 2 * i)) ≡ 516 + 2 * suc i = omega arith in
+      let a : suc (clauseFirstAt i) ≡ clauseCountAt i = omega arith in
+      let b : suc (suc (clauseFirstAt i)) ≡ clausesAt + 2 * suc i = omega arith in
       let l = chain-link _ _ (f 2) at i k r c in
-      let n : length (clauseOf f g i) ≡ f (517 + 2 * i) = length-clause i in
-      (l .start, (rw (a, n), rw (b, n) (clauses-again (at + f (517 + 2 * i)) (suc i) k (l .fits) (chain-rest _ _ (f 2) at i k c))))
+      let n : length (clauseOf f g i) ≡ f (clauseCountAt i) = length-clause i in
+      (l .start, (rw (a, n), rw (b, n) (clauses-again (at + f (clauseCountAt i)) (suc i) k (l .fits) (chain-rest _ _ (f 2) at i k c))))
 
-  entry-again : (i : ℕ) → i < f 2 → Entry f i (f (1_542 + 5 * i)) (ruleOf f g i)
+  entry-again : (i : ℕ) → i < f 2 → Entry f i (f (ruleFirstAt i)) (ruleOf f g i)
   unfolding ruleOf
   entry-again i l =
       let m = bounds-meant _ _ _ (bounds-tested _ _ _ (rule-bounds f g s i l)) in
@@ -69,18 +70,18 @@ module _ (f g : ℕ → ℕ) (wf : (i : ℕ) → f i < wordLimit) (wg : (i : ℕ
         start = refl;
         count = sym (length-rule i);
         modeWord = sym (m .modeBack);
-        lower = sym (ap unsigned (m .lowerBack) ∙ unsigned-signed _ (wf (1_545 + 5 * i)));
-        upper = sym (ap unsigned (m .upperBack) ∙ unsigned-signed _ (wf (1_546 + 5 * i)));
+        lower = sym (ap unsigned (m .lowerBack) ∙ unsigned-signed _ (wf (ruleLowerAt i)));
+        upper = sym (ap unsigned (m .upperBack) ∙ unsigned-signed _ (wf (ruleUpperAt i)));
       }
 
   rules-again :
-      (at i k : ℕ) → at ≤ f 3 → i + k ≤ f 2 → chainFrom (λ r. f (1_542 + 5 * r)) (λ r. f (1_543 + 5 * r)) (f 3) at i k ≡ true
-      → Spells f (1_542 + 5 * i) (ruleEntries at (map (ruleOf f g) (row i k)))
+      (at i k : ℕ) → at ≤ f 3 → i + k ≤ f 2 → chainFrom (λ r. f (ruleFirstAt r)) (λ r. f (ruleCountAt r)) (f 3) at i k ≡ true
+      → Spells f (ruleFirstAt i) (ruleEntries at (map (ruleOf f g) (row i k)))
   unfolding row Spells ruleEntries
   rules-again at i zero r b c = tt
   rules-again at i (suc k) r b c =
       let l = chain-link _ _ (f 3) at i k r c in
-      let rest = rules-again (at + f (1_543 + 5 * i)) (suc i) k (l .fits) (omega arith) (chain-rest _ _ (f 3) at i k c) in
+      let rest = rules-again (at + f (ruleCountAt i)) (suc i) k (l .fits) (omega arith) (chain-rest _ _ (f 3) at i k c) in
       entry-join f i at (ruleOf f g i) (map (ruleOf f g) (row (suc i) k)) (rw (l .start) at (entry-again i (omega arith))) (rw (length-rule i) rest)
 
   -- All rules and all terms of the plan read back.
@@ -131,7 +132,7 @@ module _ (f g : ℕ → ℕ) (wf : (i : ℕ) → f i < wordLimit) (wg : (i : ℕ
   clause-sound c l =
       let (some, fits) = clause-within f g s c l in
       clause-whole (f 0) (clauseOf f g c) (omega (arith, length-clause c))
-      (all-row (ruleLawful (f 0)) (ruleOf f g) (f (516 + 2 * c)) (f (517 + 2 * c)) (λ r a b. rule-whole (f 0) (ruleOf f g r) (rule-sound f g s r (omega arith))))
+      (all-row (ruleLawful (f 0)) (ruleOf f g) (f (clauseFirstAt c)) (f (clauseCountAt c)) (λ r a b. rule-whole (f 0) (ruleOf f g r) (rule-sound f g s r (omega arith))))
 
   -- The plan is lawful, and its tables are these.
   pub plan-sound : LawfulPlan (planIn f g)

@@ -11,7 +11,7 @@ use Rattle.words.proofs.Words.{Below, wordAt-lt}
 use Rattle.format.specs.Limits.{lawful}
 use Rattle.format.specs.Writer.{write}
 use Rattle.format.specs.Tables.{tableSize, termSize, Holds, Loaded, planIn, planOfTables}
-use Rattle.format.proofs.Good.{goodBy}
+use Rattle.format.specs.Good.{goodBy}
 use Rattle.format.proofs.Lawful.{LawfulPlan, plan-parts, plan-whole, room-for}
 use Rattle.format.proofs.Sections.{Sections}
 use Rattle.format.proofs.Sound.{good-sound, sound-good}

@@ -14,7 +14,7 @@ use Rattle.plpb.specs.Plan.{Rule}
 use Rattle.words.specs.Words.{numAt, bytesOf, signed, unsigned}
 use Rattle.words.proofs.Words.{Below}
 use Rattle.format.specs.Limits.{ruleLawful, lawful}
-use Rattle.format.specs.File.{State, tagAt, lengthAt, lengthLawful, termsIn, termsAt, modeAt, lowerAt, upperAt, fieldTerms, pastLimits, wrongBounds, fault, next, stageAfter, ruleAt, Contents, Reading, refused, accepted, addField, mapReading, finish, readFrom}
+use Rattle.format.specs.File.{State, tagAt, lengthAt, lengthLawful, termsIn, termsAt, modeAt, lowerAt, upperAt, fieldTerms, pastLimits, wrongBounds, fault, next, stageAfter, ruleAt, Contents, Reading, refused, accepted, addField, mapReading, finish, readFrom, behind}
 use Rattle.format.specs.Writer.{field, ruleField, clauseFields}
 use Rattle.format.proofs.Bools.{and-left, and-right, and-join, true-T}
 use Rattle.format.proofs.Lists.{sumBy-append}
@@ -23,7 +23,7 @@ use Rattle.format.proofs.Lawful.{terms-parts, rule-whole, clauseLawful,
 use Rattle.format.proofs.Fields.{Clean, fault-clean, read-on, read-end}
 use Rattle.format.proofs.Sizes.{termsOf}
 use Rattle.format.proofs.WrittenRule.{bodyOf, length-body}
-use Rattle.format.proofs.Order.{fieldsFrom, follows, nonempty, Standing, begins, rules, ends, behind, standing}
+use Rattle.format.proofs.Order.{fieldsFrom, follows, nonempty, Standing, begins, rules, ends, standing}
 use Rattle.format.proofs.Peel.{length-termsAt, peel-byte, peel-signed, peel-terms, peel-field}
 
 pub not-refused : {A : Type 0} (n o : ℕ) (a : A) → _≡_ {A = Reading A} (refused n o) (accepted a) → ⊥

@@ -2,7 +2,7 @@
 -- leaves, and of no others. Of bytes of full size it is the test by words; of shorter lists it is false.
 -- Assumes nothing.
 use Prim.Native.Nat.{ℕ, _≤_, _<_}
-use mathlib.Core.Path.{_≡_, refl, sym, ap, ap₂}
+use mathlib.Core.Path.{_≡_, refl, ap, ap₂}
 use mathlib.Core.Bool.{Bool, true, false}
 use mathlib.Core.List.{List, [], _∷_}
 use mathlib.Core.Logic.{_↔_}
@@ -16,14 +16,14 @@ use Rattle.words.proofs.Words.{Below, length-wordBytes}
 use Rattle.format.specs.Limits.{lawful}
 use Rattle.format.specs.Writer.{write}
 use Rattle.format.specs.Tables.{tableWords, termWords, tableSize, termSize, Holds, Loaded, planOfTables, sameBytes, isLoaded}
-use Rattle.format.proofs.Bools.{T-true, true-T, and-left, and-right, and-join}
+use Rattle.format.proofs.Bools.{same-test, T-true, true-T, and-left, and-right, and-join}
 use Rattle.format.proofs.Lawful.{RoomyPlan, plan-parts, room-for, lawful-roomy}
 use Rattle.format.proofs.Sections.{length-tableWords, length-termWords}
 use Rattle.format.proofs.ReadBack.{read-back}
 use Rattle.format.proofs.WriteBytes.{write-bytes}
 use Rattle.format.proofs.RoundTrip.{read-write}
 use Rattle.format.proofs.Accepted.{accepted-lawful}
-use Rattle.format.proofs.Good.{goodBy}
+use Rattle.format.specs.Good.{goodBy}
 use Rattle.format.proofs.GoodTables.{good-loaded, loaded-good}
 
 -- The test of two lists for the same elements.
@@ -38,12 +38,6 @@ pub same-self : (xs : List ℕ) → sameBytes xs xs ≡ true
 unfolding sameBytes
 same-self [] = refl
 same-self (x ∷ xs) = and-join _ _ (eq-eqb x x refl) (same-self xs)
-
--- Two tests that hold together are one.
-same-test : (a b : Bool) → (a ≡ true → b ≡ true) → (b ≡ true → a ≡ true) → a ≡ b
-same-test true b p q = sym (p refl)
-same-test false true p q = q refl
-same-test false false p q = refl
 
 never : (b : Bool) → (b ≡ true → ⊥) → b ≡ false
 never true p = absurd (p refl)

@@ -14,6 +14,7 @@ use Rattle.plpb.specs.Tallies.{rulesOf}
 use Rattle.format.specs.Limits.{maxVariables, weightLawful, termsLawful, ruleLawful, termCount, within, lawful, roomy}
 use Rattle.format.proofs.Bools.{and-left, and-right, and-join, T-true, true-T}
 use Rattle.format.proofs.Bounds.{bothLawful}
+use Rattle.format.specs.Layout.{clauseRoom, ruleRoom, termRoom}
 
 -- A term whose number and weight are in range.
 unfoldable pub termWithin : ℕ → Term → Bool
@@ -132,7 +133,7 @@ abbrev pub LawfulPlan : Plan → Type 0
 LawfulPlan p = Within 512 1_024 6_000 p
 
 abbrev pub RoomyPlan : Plan → Type 0
-RoomyPlan p = Within 513 1_025 6_512 p
+RoomyPlan p = Within clauseRoom ruleRoom termRoom p
 
 pub plan-parts : (p : Plan) → T (lawful p) → LawfulPlan p
 unfolding lawful
@@ -144,11 +145,11 @@ plan-whole p l = within-whole 512 1_024 6_000 p l
 
 pub roomy-parts : (p : Plan) → T (roomy p) → RoomyPlan p
 unfolding roomy
-roomy-parts p t = within-parts 513 1_025 6_512 p t
+roomy-parts p t = within-parts clauseRoom ruleRoom termRoom p t
 
 pub roomy-whole : (p : Plan) → RoomyPlan p → T (roomy p)
 unfolding roomy
-roomy-whole p l = within-whole 513 1_025 6_512 p l
+roomy-whole p l = within-whole clauseRoom ruleRoom termRoom p l
 
 pub room-for : (p : Plan) → LawfulPlan p → RoomyPlan p
 room-for p l =

@@ -33,3 +33,5 @@ pub mod GoodPlan
 pub mod PlanGood
 pub mod GoodTables
 pub mod IsLoaded
+pub mod Within
+pub mod Assignment

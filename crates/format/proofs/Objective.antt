@@ -1,18 +1,17 @@
 -- A sum's terms and its coefficients by variable say the same: by induction over the variables, from the lowest.
 use Prim.Native.Nat.{ℕ, zero, suc, _+_, _≤_, _<_, zero-le}
 use mathlib.Core.Path.{_≡_, refl, sym, ap, ap₂, _∙_}
-use mathlib.Core.Bool.{Bool, true}
-use mathlib.Core.List.{List, [], _∷_, map}
+use mathlib.Core.Bool.{true}
+use mathlib.Core.List.{List, [], _∷_}
 use mathlib.Core.Logic.{⊎-elim}
 use native.Mathlib.Nat.{eq-or-lt-of-le}
 use native.Mathlib.Omega.{arith}
-use lib.Dec.{ltb}
 use lib.IntN.{ℤ, pos, natAbs}
 use borrow.Author.Tests.{leb-true, ltb-true, le-leb, lt-ltb, le-ltb, eq-eqb, ne-eqb}
 use Rattle.plpb.specs.Lists.{all, keep, row}
 use Rattle.plpb.specs.Plan.{Term, risingAbove}
 use Rattle.format.specs.Limits.{weightLawful}
-use Rattle.format.specs.Tables.{coefficient}
+use Rattle.format.specs.Tables.{coefficient, named, isSome, sparse}
 use Rattle.format.proofs.Bools.{and-left, and-right, and-join}
 use Rattle.format.proofs.Bounds.{natAbs-zero}
 use Rattle.format.proofs.Lawful.{termWithin, weight-some}
@@ -31,16 +30,6 @@ coefficient-above n x [] w h = refl
 coefficient-above n x (t ∷ ts) w h =
     let a : t .variable ≤ n = leb-true _ _ (and-left _ _ (and-left _ _ w)) in
     rw (ne-eqb (t .variable) x (λ e. omega arith)) (coefficient-above n x ts (and-right _ _ w) h)
-
-unfoldable pub named : (ℕ → ℤ) → ℕ → Term
-named h x = record { variable = x; weight = h x }
-
-unfoldable pub isSome : Term → Bool
-isSome t = ltb 0 (natAbs (t .weight))
-
--- The terms of the variables above v, k in number.
-unfoldable pub sparse : (ℕ → ℤ) → ℕ → ℕ → List Term
-sparse h v k = keep isSome (map (named h) (row (suc v) k))
 
 module _ (h : ℕ → ℤ) where
   nothing : (v : ℕ) → sparse h v 0 ≡ []

@@ -8,7 +8,7 @@ use lib.ListN.{length}
 use borrow.Author.Tests.{eqb-true}
 use Rattle.plpb.specs.Lists.{_or_, concat}
 use Rattle.plpb.specs.Plan.{Rule, Clause}
-use Rattle.format.specs.File.{Stage, atCount, atObjective, atClause, atRule, afterRule, mayStand}
+use Rattle.format.specs.File.{Stage, atCount, atObjective, atClause, atRule, afterRule, mayStand, behind}
 use Rattle.format.specs.Writer.{field, ruleField, clauseFields}
 use Rattle.format.proofs.Bools.{true-T}
 use mathlib.Core.Logic.{_⊎_, inl, inr, ⊎-elim}
@@ -68,13 +68,6 @@ pub either : (a b : Bool) → (a or b) ≡ true → (a ≡ true) ⊎ (b ≡ true
 unfolding _or_
 either true b h = inl refl
 either false b h = inr h
-
-unfoldable pub behind : Stage → Bool
-behind atCount = false
-behind atObjective = false
-behind atClause = true
-behind atRule = true
-behind afterRule = true
 
 pub standing : (g : Stage) (tag : ℕ) → behind g ≡ true → mayStand g tag ≡ true → Standing g tag
 unfolding behind mayStand follows

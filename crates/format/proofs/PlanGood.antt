@@ -17,7 +17,8 @@ use Rattle.format.specs.Tables.{clauseEntries, ruleEntries, allTerms, te
 use Rattle.format.proofs.Bools.{and-left, and-right, and-join}
 use Rattle.format.proofs.Bounds.{bounds-tested, bounds-written}
 use Rattle.format.proofs.Lawful.{LawfulRule, rule-parts, clauseLawful, clause-some, LawfulPlan, room-for}
-use Rattle.format.proofs.Good.{everyFrom, every-at, chainFrom, ruleGood}
+use Rattle.format.specs.Good.{everyFrom, chainFrom, ruleGood}
+use Rattle.format.proofs.Good.{every-at}
 use Rattle.format.proofs.Spells.{Spells, spells-left, spells-right, spells-map}
 use Rattle.format.proofs.Sections.{Sections, length-allTerms}
 use Rattle.format.proofs.WordBounds.{rules-lawful, coefficient-small}
@@ -26,25 +27,26 @@ use Rattle.format.proofs.Entries.{Entry, entry-here, entries-behind}
 use Rattle.format.proofs.ReadBack.{terms-spelt, cost-back}
 use Rattle.format.proofs.Chains.{chain-join, chain-close}
 use Rattle.format.proofs.Sound.{Sound, terms-good}
+use Rattle.format.specs.Layout.{clauseCountAt, clauseFirstAt, clausesAt, ruleCountAt, ruleFirstAt}
 
 clause-chain :
-    (f : ℕ → ℕ) (n e at i : ℕ) (cs : List Clause) → Spells f (516 + 2 * i) (clauseEntries at cs) → all (clauseLawful n) cs ≡ true
-    → at + length (concat cs) ≡ e → chainFrom (λ c. f (516 + 2 * c)) (λ c. f (517 + 2 * c)) e at i (length cs) ≡ true
+    (f : ℕ → ℕ) (n e at i : ℕ) (cs : List Clause) → Spells f (clauseFirstAt i) (clauseEntries at cs) → all (clauseLawful n) cs ≡ true
+    → at + length (concat cs) ≡ e → chainFrom (λ c. f (clauseFirstAt c)) (λ c. f (clauseCountAt c)) e at i (length cs) ≡ true
 unfolding Spells clauseEntries all concat
 clause-chain f n e at i [] s l m = chain-close _ _ e at i (omega arith)
 clause-chain f n e at i (c ∷ cs) s l m =
-    let a : suc (516 + 2 * i) ≡ 517 + 2 * i = omega arith in
-    let b : suc (suc (516 + 2 * i)) ≡ 516 + 2 * suc i = omega arith in
-    let count : f (517 + 2 * i) ≡ length c = rw a at (s .1 .0) in
+    let a : suc (clauseFirstAt i) ≡ clauseCountAt i = omega arith in
+    let b : suc (suc (clauseFirstAt i)) ≡ clausesAt + 2 * suc i = omega arith in
+    let count : f (clauseCountAt i) ≡ length c = rw a at (s .1 .0) in
     let some = clause-some n c (and-left _ _ l) in
     let whole = length-append c (concat cs) in
     chain-join _ _ e at i (length cs) (record { start = s .0; some = omega arith; fits = omega arith })
     (rw count (clause-chain f n e (at + length c) (suc i) cs (rw b at (s .1 .1)) (and-right _ _ l) (omega arith)))
 
 rule-chain :
-    (f : ℕ → ℕ) (n e at i : ℕ) (rs : List Rule) → Spells f (1_542 + 5 * i) (ruleEntries at rs) → all (ruleLawful n) rs ≡ true
+    (f : ℕ → ℕ) (n e at i : ℕ) (rs : List Rule) → Spells f (ruleFirstAt i) (ruleEntries at rs) → all (ruleLawful n) rs ≡ true
     → at + length (concat (map (λ r. r .terms) rs)) ≡ e
-    → chainFrom (λ r. f (1_542 + 5 * r)) (λ r. f (1_543 + 5 * r)) e at i (length rs) ≡ true
+    → chainFrom (λ r. f (ruleFirstAt r)) (λ r. f (ruleCountAt r)) e at i (length rs) ≡ true
 unfolding all concat
 rule-chain f n e at i [] s l m = chain-close _ _ e at i (omega arith)
 rule-chain f n e at i (r ∷ rs) s l m =
@@ -67,7 +69,7 @@ rule-good f g n i first r z e l s =
     (rw (z, e .start, e .count) (terms-good g n 0 first (length (r .terms)) (rw same (l .terms .rise)) (rw same (l .terms .within))))
 
 rules-good :
-    (f g : ℕ → ℕ) (n i first : ℕ) (rs : List Rule) → f 0 ≡ n → Spells f (1_542 + 5 * i) (ruleEntries first rs) → all (ruleLawful n) rs ≡ true
+    (f g : ℕ → ℕ) (n i first : ℕ) (rs : List Rule) → f 0 ≡ n → Spells f (ruleFirstAt i) (ruleEntries first rs) → all (ruleLawful n) rs ≡ true
     → Spells (termOf g) first (concat (map (λ r. r .terms) rs)) → everyFrom (ruleGood f g) i (length rs) ≡ true
 unfolding everyFrom all concat
 rules-good f g n i first [] z s l t = refl

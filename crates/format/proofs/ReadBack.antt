@@ -1,6 +1,6 @@
 -- The plan read back from a plan's tables is that plan, where they have room for it: each entry says where its part is, and the parts follow one another.
 use Prim.Native.Nat.{ℕ, suc, _+_, _*_, _≤_}
-use mathlib.Core.Path.{_≡_, refl, sym, _∙_}
+use mathlib.Core.Path.{_≡_, sym, _∙_}
 use mathlib.Core.Bool.{true}
 use mathlib.Core.List.{List, [], _∷_, map}
 use native.Mathlib.Nat.{zero-add}
@@ -16,16 +16,16 @@ use Rattle.words.proofs.Words.{Below, words-read, words-determine, signed-unsig
 use Rattle.format.specs.Limits.{ruleLawful, roomy}
 use Rattle.format.specs.File.{boundOf}
 use Rattle.format.specs.Writer.{boundNumber}
-use Rattle.format.specs.Tables.{coefficient, clauseEntries, ruleEntries, termEntries, allTerms, tableWords, termWords, tableSize, termSize, Holds, termOf, ruleOf, clauseOf, objectiveOf, planIn, planOfTables}
+use Rattle.format.specs.Tables.{coefficient, clauseEntries, ruleEntries, termEntries, allTerms, tableWords, termWords, tableSize, termSize, Holds, termOf, ruleOf, clauseOf, objectiveOf, planIn, planOfTables, sparse, named, isSome}
 use Rattle.format.proofs.Bools.{and-left, and-right}
-use Rattle.format.proofs.Lists.{length-spread}
 use Rattle.format.proofs.Bounds.{bounds-written, bounds-tested, lower-back, upper-back}
 use Rattle.format.proofs.Lawful.{termWithin, weight-small, LawfulRule, rule-parts, RoomyPlan, roomy-parts}
-use Rattle.format.proofs.Spells.{Spells, row-spells, spells-at, spells-all, spells-left, spells-right, spells-map}
+use Rattle.format.proofs.Spells.{Spells, spells-at, spells-all, spells-left, spells-right, spells-map}
 use Rattle.format.proofs.Sections.{Sections, length-tableWords, length-termWords, spelt-sections, sections-table, sections-terms}
 use Rattle.format.proofs.Entries.{Entry, entry-here, entries-behind}
 use Rattle.format.proofs.WordBounds.{rules-lawful, terms-lawful, coefficient-small, table-below, term-below}
-use Rattle.format.proofs.Objective.{sparse, sparse-back, named, isSome}
+use Rattle.format.proofs.Objective.{sparse-back}
+use Rattle.format.specs.Layout.{clauseCountAt, clauseFirstAt, clausesAt, ruleCountAt, ruleFirstAt, ruleLowerAt, ruleModeAt, ruleUpperAt}
 
 -- Terms.
 pub terms-back : (g : ℕ → ℕ) (n i : ℕ) (ts : List Term) → Spells g (2 * i) (termEntries ts) → all (termWithin n) ts ≡ true → Spells (termOf g) i ts
@@ -45,13 +45,13 @@ rule-back f g n i first r e l s =
     let t = bounds-tested _ _ _ (bounds-written _ _ (l .both)) in
     let a = signed-unsigned (boundNumber (r .lower)) (omega (arith, t .lower)) in
     let b = signed-unsigned (boundNumber (r .upper)) (omega (arith, t .upper)) in
-    let lo : boundOf 2 (f (1_544 + 5 * i)) (signed (f (1_545 + 5 * i))) ≡ r .lower = rw (e .modeWord, e .lower, a) (lower-back _ _ (l .both)) in
-    let up : boundOf 1 (f (1_544 + 5 * i)) (signed (f (1_546 + 5 * i))) ≡ r .upper = rw (e .modeWord, e .upper, b) (upper-back _ _ (l .both)) in
-    let ts : map (termOf g) (row (f (1_542 + 5 * i)) (f (1_543 + 5 * i))) ≡ r .terms = rw (e .start, e .count) (spells-map (termOf g) first (r .terms) s) in
+    let lo : boundOf 2 (f (ruleModeAt i)) (signed (f (ruleLowerAt i))) ≡ r .lower = rw (e .modeWord, e .lower, a) (lower-back _ _ (l .both)) in
+    let up : boundOf 1 (f (ruleModeAt i)) (signed (f (ruleUpperAt i))) ≡ r .upper = rw (e .modeWord, e .upper, b) (upper-back _ _ (l .both)) in
+    let ts : map (termOf g) (row (f (ruleFirstAt i)) (f (ruleCountAt i))) ≡ r .terms = rw (e .start, e .count) (spells-map (termOf g) first (r .terms) s) in
     λ j. record { lower = lo j; upper = up j; terms = ts j }
 
 pub rules-back :
-    (f g : ℕ → ℕ) (n i first : ℕ) (rs : List Rule) → Spells f (1_542 + 5 * i) (ruleEntries first rs) → all (ruleLawful n) rs ≡ true
+    (f g : ℕ → ℕ) (n i first : ℕ) (rs : List Rule) → Spells f (ruleFirstAt i) (ruleEntries first rs) → all (ruleLawful n) rs ≡ true
     → Spells (termOf g) first (concat (map (λ r. r .terms) rs)) → Spells (ruleOf f g) i rs
 unfolding Spells all concat
 rules-back f g n i first [] s l t = tt
@@ -62,13 +62,13 @@ rules-back f g n i first (r ∷ rs) s l t = (
 
 -- Clauses.
 pub clauses-back :
-    (f g : ℕ → ℕ) (i first : ℕ) (cs : List Clause) → Spells f (516 + 2 * i) (clauseEntries first cs) → Spells (ruleOf f g) first (concat cs)
+    (f g : ℕ → ℕ) (i first : ℕ) (cs : List Clause) → Spells f (clauseFirstAt i) (clauseEntries first cs) → Spells (ruleOf f g) first (concat cs)
     → Spells (clauseOf f g) i cs
 unfolding Spells clauseEntries concat clauseOf
 clauses-back f g i first [] s t = tt
 clauses-back f g i first (c ∷ cs) s t =
-    let a : 517 + 2 * i ≡ suc (516 + 2 * i) = omega arith in
-    let b : 516 + 2 * suc i ≡ suc (suc (516 + 2 * i)) = omega arith in (
+    let a : clauseCountAt i ≡ suc (clauseFirstAt i) = omega arith in
+    let b : clausesAt + 2 * suc i ≡ suc (suc (clauseFirstAt i)) = omega arith in (
       rw (s .0, a, s .1 .0) (spells-map (ruleOf f g) first c (spells-left (ruleOf f g) first c (concat cs) t)),
       clauses-back f g (suc i) (first + length c) cs (rw b (s .1 .1)) (spells-right (ruleOf f g) first c (concat cs) t),
     )
@@ -107,13 +107,6 @@ module _ (p : Plan) (l : RoomyPlan p) (f g : ℕ → ℕ) (s : Sections p f g) w
   plan-back =
       let cs : map (clauseOf f g) (row 0 (f 1)) ≡ p .clauses = rw (s .clauseCount) (spells-map (clauseOf f g) 0 (p .clauses) clauses-spelt) in
       λ j. record { variables = s .variables j; objective = objective-back j; clauses = cs j }
-
--- Bytes are the bytes of their words.
-pub words-row : (s : List ℕ) (k : ℕ) → Below 256 s → 4 * k ≤ length s → take (4 * k) s ≡ wordBytes (map (wordAt s) (row 0 k))
-words-row s k b h =
-    let n = length-spread (wordAt s) 0 k in
-    let spelt = spells-at (wordAt s) 0 (map (wordAt s) (row 0 k)) (row-spells (wordAt s) (wordAt s) 0 0 k (λ j l. refl)) 0 in
-    rw n at (words-determine (map (wordAt s) (row 0 k)) s b (omega arith) (λ j l. rw zero-add at (spelt j l)))
 
 -- The bytes of the tables.
 module _ (p : Plan) (l : RoomyPlan p) (tables terms : List ℕ) where

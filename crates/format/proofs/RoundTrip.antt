@@ -13,7 +13,7 @@ use Rattle.plpb.specs.Tallies.{rulesOf}
 use Rattle.words.specs.Words.{numAt, bytesOf}
 use Rattle.words.proofs.Words.{length-bytesOf}
 use Rattle.format.specs.Limits.{termsLawful, ruleLawful, termCount, lawful}
-use Rattle.format.specs.File.{Stage, atCount, atObjective, atClause, atRule, afterRule, State, mayStand, lengthAt, lengthLawful, termsIn, fieldTerms, pastLimits, wrongBounds, next, stageAfter, Contents, accepted, addField, mapReading, finish, readFrom, begin, planOf, read}
+use Rattle.format.specs.File.{Stage, atCount, atObjective, atClause, atRule, afterRule, State, mayStand, lengthAt, lengthLawful, termsIn, fieldTerms, pastLimits, wrongBounds, next, stageAfter, Contents, accepted, addField, mapReading, finish, readFrom, begin, planOf, read, behind}
 use Rattle.format.specs.Writer.{field, termBytes, ruleField, clauseFields, write}
 use Rattle.format.proofs.Bools.{and-left, and-right}
 use Rattle.format.proofs.Lists.{sumBy-append}
@@ -22,7 +22,7 @@ use Rattle.format.proofs.Fields.{read-on, read-end}
 use Rattle.format.proofs.Places.{place-num, place-terms, place-tag, place-length, place-body, place-rest, place-whole, placed-clean}
 use Rattle.format.proofs.Sizes.{termsOf, length-write}
 use Rattle.format.proofs.WrittenRule.{length-terms, rule-tag, rule-read, rule-behind, rule-clean, rule-next}
-use Rattle.format.proofs.Order.{fieldsFrom, follows, may-rule, may-clause, follows-some, rules, behind}
+use Rattle.format.proofs.Order.{fieldsFrom, follows, may-rule, may-clause, follows-some, rules}
 
 -- How many fields they are.
 steps : List Rule → List Clause → ℕ

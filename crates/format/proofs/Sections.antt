@@ -11,11 +11,12 @@ use Rattle.plpb.specs.Plan.{Term, Rule, Clause, Plan}
 use Rattle.plpb.specs.Tallies.{rulesOf}
 use Rattle.words.specs.Words.{unsigned}
 use Rattle.format.specs.Limits.{termCount}
-use Rattle.format.specs.Tables.{coefficient, padTo, clauseEntries, ruleEntries, termEntries, allTerms, tableWords, termWords}
-use Rattle.format.proofs.Good.{zerosFrom}
+use Rattle.format.specs.Tables.{coefficient, padTo, padWith, clauseEntries, ruleEntries, termEntries, allTerms, tableWords, termWords}
+use Rattle.format.specs.Good.{zerosFrom}
 use Rattle.format.proofs.Lists.{length-row, length-concat}
 use Rattle.format.proofs.Lawful.{RoomyPlan}
 use Rattle.format.proofs.Spells.{Spells, spells-left, spells-right, spells-join, spells-zeros, zeros-spell, spells-row, row-spells, length-padTo}
+use Rattle.format.specs.Layout.{clauseWordCount, clausesAt, ruleWordCount, rulesAt, tableWordCount, termWordCount}
 
 -- How long the sections are.
 pub length-clauseEntries : (first : ℕ) (cs : List Clause) → length (clauseEntries first cs) ≡ 2 * length cs
@@ -44,25 +45,25 @@ pub record Sections (p : Plan) (f g : ℕ → ℕ) : Type 0 where
   pub ruleCount : f 2 ≡ length (rulesOf p)
   pub terms : f 3 ≡ termCount p
   pub objective : (x : ℕ) → 1 ≤ x → x ≤ 512 → f (3 + x) ≡ unsigned (coefficient (p .objective) x)
-  pub clauseEntry : Spells f 516 (clauseEntries 0 (p .clauses))
-  pub ruleEntry : Spells f 1_542 (ruleEntries 0 (rulesOf p))
+  pub clauseEntry : Spells f clausesAt (clauseEntries 0 (p .clauses))
+  pub ruleEntry : Spells f rulesAt (ruleEntries 0 (rulesOf p))
   pub termEntry : Spells g 0 (termEntries (allTerms p))
-  pub clauseRest : zerosFrom f (516 + 2 * f 1) (1_026 - 2 * f 1) ≡ true
-  pub ruleRest : zerosFrom f (1_542 + 5 * f 2) (5_125 - 5 * f 2) ≡ true
-  pub termRest : zerosFrom g (2 * f 3) (13_024 - 2 * f 3) ≡ true
+  pub clauseRest : zerosFrom f (clausesAt + 2 * f 1) (clauseWordCount - 2 * f 1) ≡ true
+  pub ruleRest : zerosFrom f (rulesAt + 5 * f 2) (ruleWordCount - 5 * f 2) ≡ true
+  pub termRest : zerosFrom g (2 * f 3) (termWordCount - 2 * f 3) ≡ true
 
 -- A padded section: its words, then zeros.
 module _ (f : ℕ → ℕ) (i k n : ℕ) (ws : List ℕ) (l : length ws ≡ n) where
   pad-words : Spells f i (padTo k ws) → Spells f i ws
-  unfolding padTo
+  unfolding padWith
   pad-words s = spells-left f i ws _ s
 
   pad-rest : Spells f i (padTo k ws) → zerosFrom f (i + n) (k - n) ≡ true
-  unfolding padTo
+  unfolding padWith
   pad-rest s = rw l at (spells-zeros f (i + length ws) (k - length ws) (spells-right f i ws _ s))
 
   pad-whole : Spells f i ws → zerosFrom f (i + n) (k - n) ≡ true → Spells f i (padTo k ws)
-  unfolding padTo
+  unfolding padWith
   pad-whole s z = spells-join f i ws _ s (zeros-spell f (i + length ws) (k - length ws) (rw l z))
 
 module _ (p : Plan) (l : RoomyPlan p) where
@@ -70,28 +71,28 @@ module _ (p : Plan) (l : RoomyPlan p) where
   objectiveWords = map (λ x. unsigned (coefficient (p .objective) x)) (row 1 512)
 
   abbrev clauseWords : List ℕ
-  clauseWords = padTo 1_026 (clauseEntries 0 (p .clauses))
+  clauseWords = padTo clauseWordCount (clauseEntries 0 (p .clauses))
 
   abbrev ruleWords : List ℕ
-  ruleWords = padTo 5_125 (ruleEntries 0 (rulesOf p))
+  ruleWords = padTo ruleWordCount (ruleEntries 0 (rulesOf p))
 
   length-objective : length objectiveWords ≡ 512
   length-objective = length-map (row 1 512) (λ x. unsigned (coefficient (p .objective) x)) ∙ length-row 1 512
 
-  length-clauseWords : length clauseWords ≡ 1_026
-  length-clauseWords = length-padTo 1_026 _ (omega (arith, length-clauseEntries 0 (p .clauses), l .clauseCount))
+  length-clauseWords : length clauseWords ≡ clauseWordCount
+  length-clauseWords = length-padTo clauseWordCount _ (omega (arith, length-clauseEntries 0 (p .clauses), l .clauseCount))
 
-  length-ruleWords : length ruleWords ≡ 5_125
-  length-ruleWords = length-padTo 5_125 _ (omega (arith, length-ruleEntries 0 (rulesOf p), l .ruleCount))
+  length-ruleWords : length ruleWords ≡ ruleWordCount
+  length-ruleWords = length-padTo ruleWordCount _ (omega (arith, length-ruleEntries 0 (rulesOf p), l .ruleCount))
 
-  pub length-tableWords : length (tableWords p) ≡ 6_667
+  pub length-tableWords : length (tableWords p) ≡ tableWordCount
   unfolding tableWords
   length-tableWords =
       omega (arith, length-append objectiveWords (clauseWords ++ ruleWords), length-append clauseWords ruleWords, length-objective, length-clauseWords, length-ruleWords)
 
-  pub length-termWords : length (termWords p) ≡ 13_024
+  pub length-termWords : length (termWords p) ≡ termWordCount
   unfolding termWords
-  length-termWords = length-padTo 13_024 _ (omega (arith, length-termEntries (allTerms p), length-allTerms p, l .terms))
+  length-termWords = length-padTo termWordCount _ (omega (arith, length-termEntries (allTerms p), length-allTerms p, l .terms))
 
   module _ (f g : ℕ → ℕ) where
     abbrev cost : ℕ → ℕ
@@ -112,8 +113,8 @@ module _ (p : Plan) (l : RoomyPlan p) where
     spelt-sections s t =
         let body : Spells f 4 (objectiveWords ++ (clauseWords ++ ruleWords)) = s .1 .1 .1 .1 in
         let rest = rw length-objective at (spells-right f 4 objectiveWords (clauseWords ++ ruleWords) body) in
-        let cs = spells-left f 516 clauseWords ruleWords rest in
-        let rs = rw length-clauseWords at (spells-right f 516 clauseWords ruleWords rest) in
+        let cs = spells-left f clausesAt clauseWords ruleWords rest in
+        let rs = rw length-clauseWords at (spells-right f clausesAt clauseWords ruleWords rest) in
         let n₁ : f 1 ≡ length (p .clauses) = s .1 .0 in
         let n₂ : f 2 ≡ length (rulesOf p) = s .1 .1 .0 in
         let n₃ : f 3 ≡ termCount p = s .1 .1 .1 .0 in
@@ -123,12 +124,12 @@ module _ (p : Plan) (l : RoomyPlan p) where
           ruleCount = n₂;
           terms = n₃;
           objective = objective-at (spells-left f 4 objectiveWords (clauseWords ++ ruleWords) body);
-          clauseEntry = pad-words f 516 1_026 _ _ refl cs;
-          ruleEntry = pad-words f 1_542 5_125 _ _ refl rs;
-          termEntry = pad-words g 0 13_024 _ _ refl t;
-          clauseRest = pad-rest f 516 1_026 (2 * f 1) _ (omega (arith, length-clauseEntries 0 (p .clauses))) cs;
-          ruleRest = pad-rest f 1_542 5_125 (5 * f 2) _ (omega (arith, length-ruleEntries 0 (rulesOf p))) rs;
-          termRest = rw zero-add at (pad-rest g 0 13_024 (2 * f 3) _ (omega (arith, length-termEntries (allTerms p), length-allTerms p)) t);
+          clauseEntry = pad-words f clausesAt clauseWordCount _ _ refl cs;
+          ruleEntry = pad-words f rulesAt ruleWordCount _ _ refl rs;
+          termEntry = pad-words g 0 termWordCount _ _ refl t;
+          clauseRest = pad-rest f clausesAt clauseWordCount (2 * f 1) _ (omega (arith, length-clauseEntries 0 (p .clauses))) cs;
+          ruleRest = pad-rest f rulesAt ruleWordCount (5 * f 2) _ (omega (arith, length-ruleEntries 0 (rulesOf p))) rs;
+          termRest = rw zero-add at (pad-rest g 0 termWordCount (2 * f 3) _ (omega (arith, length-termEntries (allTerms p), length-allTerms p)) t);
         }
 
     pub sections-table : Sections p f g → Spells f 0 (tableWords p)
@@ -136,9 +137,9 @@ module _ (p : Plan) (l : RoomyPlan p) where
     sections-table s =
         let n₁ : length (clauseEntries 0 (p .clauses)) ≡ 2 * f 1 = omega (arith, length-clauseEntries 0 (p .clauses), s .clauseCount) in
         let n₂ : length (ruleEntries 0 (rulesOf p)) ≡ 5 * f 2 = omega (arith, length-ruleEntries 0 (rulesOf p), s .ruleCount) in
-        let cs = pad-whole f 516 1_026 (2 * f 1) _ n₁ (s .clauseEntry) (s .clauseRest) in
-        let rs = pad-whole f 1_542 5_125 (5 * f 2) _ n₂ (s .ruleEntry) (s .ruleRest) in
-        let rest = spells-join f 516 clauseWords ruleWords cs (rw length-clauseWords rs) in (
+        let cs = pad-whole f clausesAt clauseWordCount (2 * f 1) _ n₁ (s .clauseEntry) (s .clauseRest) in
+        let rs = pad-whole f rulesAt ruleWordCount (5 * f 2) _ n₂ (s .ruleEntry) (s .ruleRest) in
+        let rest = spells-join f clausesAt clauseWords ruleWords cs (rw length-clauseWords rs) in (
           s .variables,
           (
             s .clauseCount,
@@ -156,4 +157,4 @@ module _ (p : Plan) (l : RoomyPlan p) where
     unfolding termWords
     sections-terms s =
         let n : length (termEntries (allTerms p)) ≡ 2 * f 3 = omega (arith, length-termEntries (allTerms p), length-allTerms p, s .terms) in
-        pad-whole g 0 13_024 (2 * f 3) _ n (s .termEntry) (rw zero-add (s .termRest))
+        pad-whole g 0 termWordCount (2 * f 3) _ n (s .termEntry) (rw zero-add (s .termRest))

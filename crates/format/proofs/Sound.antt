@@ -18,9 +18,11 @@ use Rattle.format.specs.Tables.{termOf, ruleOf}
 use Rattle.format.proofs.Bools.{and-left, and-right, and-join}
 use Rattle.format.proofs.Lists.{length-row}
 use Rattle.format.proofs.Bounds.{bounds-tested, bounds-meant}
-use Rattle.format.proofs.Lawful.{termWithin, LawfulRule, terms-short}
-use Rattle.format.proofs.Good.{every-at, every-all, zerosFrom, zeros-at, zeros-all, chainFrom, termGood, termsFrom, countsGood, coefficientGood, objectiveGood, clausesGood, rulesGood, ruleGood, goodBy}
+use Rattle.format.proofs.Lawful.{termWithin, LawfulRule}
+use Rattle.format.specs.Good.{zerosFrom, chainFrom, termGood, termsFrom, countsGood, coefficientGood, objectiveGood, clausesGood, rulesGood, ruleGood, goodBy}
+use Rattle.format.proofs.Good.{every-at, every-all, zeros-at, zeros-all}
 use Rattle.format.proofs.Chains.{chain-at}
+use Rattle.format.specs.Layout.{clauseCountAt, clauseFirstAt, clauseWordCount, clausesAt, ruleCountAt, ruleFirstAt, ruleLowerAt, ruleModeAt, ruleUpperAt, ruleWordCount, rulesAt, termWordCount}
 
 -- Good terms rise and are within the range, and the other way round.
 module _ (g : ℕ → ℕ) (n : ℕ) where
@@ -67,12 +69,12 @@ pub record Sound (f g : ℕ → ℕ) : Type 0 where
   pub terms : f 3 ≤ maxTerms
   pub cost : (x : ℕ) → 1 ≤ x → x ≤ f 0 → natAbs (signed (f (3 + x))) ≤ maxWeight
   pub costRest : (x : ℕ) → f 0 < x → x ≤ 512 → f (3 + x) ≡ 0
-  pub clauseChain : chainFrom (λ c. f (516 + 2 * c)) (λ c. f (517 + 2 * c)) (f 2) 0 0 (f 1) ≡ true
-  pub clauseRest : zerosFrom f (516 + 2 * f 1) (1_026 - 2 * f 1) ≡ true
-  pub ruleChain : chainFrom (λ r. f (1_542 + 5 * r)) (λ r. f (1_543 + 5 * r)) (f 3) 0 0 (f 2) ≡ true
-  pub ruleRest : zerosFrom f (1_542 + 5 * f 2) (5_125 - 5 * f 2) ≡ true
+  pub clauseChain : chainFrom (λ c. f (clauseFirstAt c)) (λ c. f (clauseCountAt c)) (f 2) 0 0 (f 1) ≡ true
+  pub clauseRest : zerosFrom f (clausesAt + 2 * f 1) (clauseWordCount - 2 * f 1) ≡ true
+  pub ruleChain : chainFrom (λ r. f (ruleFirstAt r)) (λ r. f (ruleCountAt r)) (f 3) 0 0 (f 2) ≡ true
+  pub ruleRest : zerosFrom f (rulesAt + 5 * f 2) (ruleWordCount - 5 * f 2) ≡ true
   pub rule : (r : ℕ) → r < f 2 → ruleGood f g r ≡ true
-  pub termRest : zerosFrom g (2 * f 3) (13_024 - 2 * f 3) ≡ true
+  pub termRest : zerosFrom g (2 * f 3) (termWordCount - 2 * f 3) ≡ true
 
 module _ (f g : ℕ → ℕ) where
   pub good-sound : goodBy f g ≡ true → Sound f g
@@ -100,7 +102,7 @@ module _ (f g : ℕ → ℕ) where
         termRest = and-right _ _ h;
       }
 
-  rest-zero : Sound f g → (j : ℕ) → 4 + f 0 ≤ j → j < 516 → f j ≡ 0
+  rest-zero : Sound f g → (j : ℕ) → 4 + f 0 ≤ j → j < clausesAt → f j ≡ 0
   rest-zero s j p q = let m : 3 + (j - 3) ≡ j = omega arith in rw m at (s .costRest (j - 3) (omega arith) (omega arith))
 
   pub sound-good : Sound f g → goodBy f g ≡ true
@@ -121,40 +123,27 @@ module _ (f g : ℕ → ℕ) where
 -- What code reads off good tables.
 module _ (f g : ℕ → ℕ) (s : Sound f g) where
   -- A clause has one rule or more, all among the rules; a rule has one term or more, all among the terms.
-  pub clause-within : (c : ℕ) → c < f 1 → (1 ≤ f (517 + 2 * c)) × (f (516 + 2 * c) + f (517 + 2 * c) ≤ f 2)
+  pub clause-within : (c : ℕ) → c < f 1 → (1 ≤ f (clauseCountAt c)) × (f (clauseFirstAt c) + f (clauseCountAt c) ≤ f 2)
   clause-within c l = chain-at _ _ (f 2) 0 0 (f 1) (omega arith) (s .clauseChain) c (omega arith) (omega arith)
 
-  pub rule-within : (r : ℕ) → r < f 2 → (1 ≤ f (1_543 + 5 * r)) × (f (1_542 + 5 * r) + f (1_543 + 5 * r) ≤ f 3)
+  pub rule-within : (r : ℕ) → r < f 2 → (1 ≤ f (ruleCountAt r)) × (f (ruleFirstAt r) + f (ruleCountAt r) ≤ f 3)
   rule-within r l = chain-at _ _ (f 3) 0 0 (f 2) (omega arith) (s .ruleChain) r (omega arith) (omega arith)
 
-  pub rule-bounds : (r : ℕ) → r < f 2 → boundsLawful (f (1_544 + 5 * r)) (signed (f (1_545 + 5 * r))) (signed (f (1_546 + 5 * r))) ≡ true
+  pub rule-bounds : (r : ℕ) → r < f 2 → boundsLawful (f (ruleModeAt r)) (signed (f (ruleLowerAt r))) (signed (f (ruleUpperAt r))) ≡ true
   unfolding ruleGood
   rule-bounds r l = and-left _ _ (s .rule r l)
 
-  pub rule-terms : (r : ℕ) → r < f 2 → termsFrom g (f 0) 0 (f (1_542 + 5 * r)) (f (1_543 + 5 * r)) ≡ true
+  pub rule-terms : (r : ℕ) → r < f 2 → termsFrom g (f 0) 0 (f (ruleFirstAt r)) (f (ruleCountAt r)) ≡ true
   unfolding ruleGood
   rule-terms r l = and-right _ _ (s .rule r l)
-
-  -- A term of a rule: its variable is one of the plan's, its weight is lawful.
-  pub term-within :
-      (r : ℕ) → r < f 2 → (t : ℕ) → f (1_542 + 5 * r) ≤ t → t < f (1_542 + 5 * r) + f (1_543 + 5 * r)
-      → (0 < g (2 * t)) × (g (2 * t) ≤ f 0) × (weightLawful (signed (g (2 * t + 1))) ≡ true)
-  term-within r l t a b = term-range g (f 0) 0 (f (1_542 + 5 * r)) (f (1_543 + 5 * r)) (rule-terms r l) t a b
 
   -- A rule that is read back is lawful, and has no more terms than there are variables.
   pub rule-sound : (r : ℕ) → r < f 2 → LawfulRule (f 0) (ruleOf f g r)
   unfolding ruleOf rising
   rule-sound r l =
-      let n = length-map (row (f (1_542 + 5 * r)) (f (1_543 + 5 * r))) (termOf g) ∙ length-row _ _ in
+      let n = length-map (row (f (ruleFirstAt r)) (f (ruleCountAt r))) (termOf g) ∙ length-row _ _ in
       record {
         both = bounds-meant _ _ _ (bounds-tested _ _ _ (rule-bounds r l)) .lawful;
         some = omega (arith, n, rule-within r l);
         terms = record { rise = terms-rise g (f 0) 0 _ _ (rule-terms r l); within = terms-range g (f 0) 0 _ _ (rule-terms r l) };
       }
-
-  pub rule-short : (r : ℕ) → r < f 2 → f (1_543 + 5 * r) ≤ f 0
-  unfolding rising ruleOf
-  rule-short r l =
-      let t = rule-sound r l .terms in
-      let n = length-map (row (f (1_542 + 5 * r)) (f (1_543 + 5 * r))) (termOf g) ∙ length-row _ _ in
-      omega (arith, n, terms-short (f 0) 0 (ruleOf f g r .terms) (t .rise) (t .within) (omega arith))

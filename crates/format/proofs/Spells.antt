@@ -8,9 +8,9 @@ use native.Mathlib.Omega.{arith}
 use lib.ListN.{length, getD, replicate, length-append, length-replicate}
 use borrow.Author.Tests.{eqb-true, eq-eqb}
 use Rattle.plpb.specs.Lists.{row}
-use Rattle.format.specs.Tables.{padTo}
+use Rattle.format.specs.Tables.{padTo, padWith}
 use Rattle.format.proofs.Bools.{and-left, and-right, and-join}
-use Rattle.format.proofs.Good.{everyFrom, zerosFrom}
+use Rattle.format.specs.Good.{everyFrom, zerosFrom}
 
 unfoldable pub Spells : {A : Type 0} → (ℕ → A) → ℕ → List A → Type 0
 Spells f i [] = Unit {0}
@@ -78,6 +78,9 @@ module _ (f : ℕ → ℕ) where
       (rw (add-zero i, add-zero x) at (e 0 (omega arith)), row-spells h (suc i) (suc x) k (λ j l. rw (suc-add i j, ← add-suc i j, suc-add x j, ← add-suc x j) (e (suc j) (omega arith))))
 
 -- A padded section.
+pub length-padWith : {A : Type 0} (u : A) (k : ℕ) (xs : List A) → length xs ≤ k → length (padWith u k xs) ≡ k
+unfolding padWith
+length-padWith u k xs h = omega (arith, length-append xs (replicate (k - length xs) u), length-replicate (k - length xs) u)
+
 pub length-padTo : (k : ℕ) (ws : List ℕ) → length ws ≤ k → length (padTo k ws) ≡ k
-unfolding padTo
-length-padTo k ws h = omega (arith, length-append ws (replicate (k - length ws) 0), length-replicate {A = ℕ} (k - length ws) 0)
+length-padTo k ws h = length-padWith 0 k ws h

@@ -14,12 +14,13 @@ use Rattle.plpb.specs.Tallies.{rulesOf}
 use Rattle.words.specs.Words.{unsigned}
 use Rattle.words.proofs.Words.{Below, below-nil, below-cons, unsigned-lt}
 use Rattle.format.specs.Limits.{ruleLawful, termCount}
-use Rattle.format.specs.Tables.{coefficient, padTo, clauseEntries, ruleEntries, termEntries, allTerms, tableWords, termWords}
+use Rattle.format.specs.Tables.{coefficient, padTo, padWith, clauseEntries, ruleEntries, termEntries, allTerms, tableWords, termWords}
 use Rattle.format.proofs.Bools.{and-left, and-right}
 use Rattle.format.proofs.Lists.{all-append}
 use Rattle.format.proofs.Bounds.{bounds-written, bounds-tested}
 use Rattle.format.proofs.Lawful.{termWithin, weight-small, rule-parts, clauseLawful, clause-rules, RoomyPlan}
 use Rattle.format.proofs.Sizes.{termsOf}
+use Rattle.format.specs.Layout.{clauseWordCount, ruleWordCount, termWordCount}
 
 abbrev pub wordLimit : ℕ
 wordLimit = 4_294_967_296
@@ -69,7 +70,7 @@ each-zeros zero = tt
 each-zeros (suc k) = (omega arith, each-zeros k)
 
 each-padTo : (k : ℕ) (ws : List ℕ) → Each ws → Each (padTo k ws)
-unfolding padTo
+unfolding padWith
 each-padTo k ws h = each-append ws (replicate (k - length ws) 0) h (each-zeros (k - length ws))
 
 each-clause : (first : ℕ) (cs : List Clause) → first + length (concat cs) < wordLimit → Each (clauseEntries first cs)
@@ -105,12 +106,12 @@ module _ (p : Plan) (l : RoomyPlan p) where
   unfolding tableWords termCount rulesOf
   table-below =
       let a = map (λ x. unsigned (coefficient (p .objective) x)) (row 1 512) in
-      let b = padTo 1_026 (clauseEntries 0 (p .clauses)) in
-      let c = padTo 5_125 (ruleEntries 0 (rulesOf p)) in
+      let b = padTo clauseWordCount (clauseEntries 0 (p .clauses)) in
+      let c = padTo ruleWordCount (ruleEntries 0 (rulesOf p)) in
       let costs : Each a =
       each-map _ (row 1 512) (λ x. unsigned-lt (coefficient (p .objective) x) (omega (arith, coefficient-small (p .variables) (p .objective) x (l .objective .within)))) in
-      let clauses : Each b = each-padTo 1_026 _ (each-clause 0 (p .clauses) (omega (arith, l .ruleCount))) in
-      let rules : Each c = each-padTo 5_125 _ (each-rule (p .variables) 0 (rulesOf p) rulesHere (omega (arith, l .terms))) in
+      let clauses : Each b = each-padTo clauseWordCount _ (each-clause 0 (p .clauses) (omega (arith, l .ruleCount))) in
+      let rules : Each c = each-padTo ruleWordCount _ (each-rule (p .variables) 0 (rulesOf p) rulesHere (omega (arith, l .terms))) in
       each-below (tableWords p)
       (omega (arith, l .high), (omega (arith, l .clauseCount), (omega (arith, l .ruleCount), (omega (arith, l .terms), each-append a (b ++ c) costs (each-append b c clauses rules)))))
 
@@ -118,4 +119,4 @@ module _ (p : Plan) (l : RoomyPlan p) where
   unfolding termWords allTerms
   term-below =
       each-below (termWords p)
-      (each-padTo 13_024 (termEntries (allTerms p)) (each-term (p .variables) (allTerms p) (omega (arith, l .high)) (terms-lawful (p .variables) (rulesOf p) rulesHere)))
+      (each-padTo termWordCount (termEntries (allTerms p)) (each-term (p .variables) (allTerms p) (omega (arith, l .high)) (terms-lawful (p .variables) (rulesOf p) rulesHere)))

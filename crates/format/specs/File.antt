@@ -2,7 +2,7 @@
 -- (document 01, "The plan file" and "Who can cause which refusal").
 -- Assumes nothing.
 use Prim.Native.Nat.{ℕ, zero, suc, _+_, _-_, _/_, _%_}
-use mathlib.Core.Bool.{Bool, false, not, cond}
+use mathlib.Core.Bool.{Bool, true, false, not, cond}
 use mathlib.Core.List.{List, [], _∷_}
 use lib.Dec.{leb, ltb, eqb}
 use lib.IntN.{ℤ, natAbs}
@@ -35,6 +35,14 @@ mayStand atObjective tag = eqb tag 2
 mayStand atClause tag = eqb tag 3 or eqb tag 5
 mayStand atRule tag = eqb tag 4
 mayStand afterRule tag = eqb tag 3 or eqb tag 4 or eqb tag 5
+
+-- A stage behind the objective, where clauses and rules stand.
+unfoldable pub behind : Stage → Bool
+behind atCount = false
+behind atObjective = false
+behind atClause = true
+behind atRule = true
+behind afterRule = true
 
 -- "Fields: a one-byte tag, a two-byte length, the body."
 unfoldable pub tagAt : List ℕ → ℕ → ℕ

@@ -16,6 +16,42 @@ tableSize = 26_668
 abbrev pub termSize : ℕ
 termSize = 52_096
 
+-- The tables have room for one clause and rule more than a plan may have, with its 512 terms.
+abbrev pub clauseRoom : ℕ
+clauseRoom = 513
+
+abbrev pub ruleRoom : ℕ
+ruleRoom = 1_025
+
+abbrev pub termRoom : ℕ
+termRoom = 6_512
+
+-- The words of the clauses' entries and of the rules'.
+abbrev pub clauseWordCount : ℕ
+clauseWordCount = 1_026
+
+abbrev pub ruleWordCount : ℕ
+ruleWordCount = 5_125
+
+-- The bytes of the three sections behind the counts, and where each begins.
+abbrev pub objectiveSize : ℕ
+objectiveSize = 2_048
+
+abbrev pub clauseSectionSize : ℕ
+clauseSectionSize = 4_104
+
+abbrev pub ruleSectionSize : ℕ
+ruleSectionSize = 20_500
+
+abbrev pub objectiveByte : ℕ
+objectiveByte = 16
+
+abbrev pub clausesByte : ℕ
+clausesByte = 2_064
+
+abbrev pub rulesByte : ℕ
+rulesByte = 6_168
+
 -- The sections' first words.
 abbrev pub clausesAt : ℕ
 clausesAt = 516
@@ -28,27 +64,44 @@ abbrev pub objectiveAt : ℕ → ℕ
 objectiveAt x = 3 + x
 
 -- A clause's first rule, and how many it has.
-abbrev pub clauseFirst : ℕ → ℕ
-clauseFirst c = 516 + 2 * c
+abbrev pub clauseFirstAt : ℕ → ℕ
+clauseFirstAt c = 516 + 2 * c
 
-abbrev pub clauseCount : ℕ → ℕ
-clauseCount c = 517 + 2 * c
+abbrev pub clauseCountAt : ℕ → ℕ
+clauseCountAt c = 517 + 2 * c
 
 -- A rule's first term, how many it has, its mode and its bounds.
-abbrev pub ruleFirst : ℕ → ℕ
-ruleFirst r = 1_542 + 5 * r
+abbrev pub ruleFirstAt : ℕ → ℕ
+ruleFirstAt r = 1_542 + 5 * r
 
-abbrev pub ruleCount : ℕ → ℕ
-ruleCount r = 1_543 + 5 * r
+abbrev pub ruleCountAt : ℕ → ℕ
+ruleCountAt r = 1_543 + 5 * r
 
-abbrev pub ruleMode : ℕ → ℕ
-ruleMode r = 1_544 + 5 * r
+abbrev pub ruleModeAt : ℕ → ℕ
+ruleModeAt r = 1_544 + 5 * r
 
-abbrev pub ruleLower : ℕ → ℕ
-ruleLower r = 1_545 + 5 * r
+abbrev pub ruleLowerAt : ℕ → ℕ
+ruleLowerAt r = 1_545 + 5 * r
 
-abbrev pub ruleUpper : ℕ → ℕ
-ruleUpper r = 1_546 + 5 * r
+abbrev pub ruleUpperAt : ℕ → ℕ
+ruleUpperAt r = 1_546 + 5 * r
+
+-- The first term, the count and the upper bound of the last of so many rules.
+abbrev pub lastFirstAt : ℕ → ℕ
+lastFirstAt rules = 1_537 + 5 * rules
+
+abbrev pub lastCountAt : ℕ → ℕ
+lastCountAt rules = 1_538 + 5 * rules
+
+abbrev pub lastUpperAt : ℕ → ℕ
+lastUpperAt rules = 1_541 + 5 * rules
+
+-- The words of the tallies, and their bytes.
+abbrev pub tallyWordCount : ℕ
+tallyWordCount = 1_539
+
+abbrev pub tallySize : ℕ
+tallySize = 6_156
 
 -- In the tallies: how many rules of a clause hold, and how many clauses are unsatisfied.
 abbrev pub holdingAt : ℕ → ℕ
@@ -56,3 +109,7 @@ holdingAt c = 1_025 + c
 
 abbrev pub unsatisfiedAt : ℕ
 unsatisfiedAt = 1_538
+
+-- The marks of a search: a byte for each variable.
+abbrev pub markSize : ℕ
+markSize = 512

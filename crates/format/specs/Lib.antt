@@ -4,3 +4,5 @@ pub mod File
 pub mod Writer
 pub mod Layout
 pub mod Tables
+pub mod Good
+pub mod Assignment

@@ -9,6 +9,7 @@ use lib.ListN.{length}
 use Rattle.plpb.specs.Lists.{_and_, _or_, all, isEmpty, sumBy}
 use Rattle.plpb.specs.Plan.{Bound, absent, present, Term, Rule, Plan, rising}
 use Rattle.plpb.specs.Tallies.{rulesOf}
+use Rattle.format.specs.Layout.{clauseRoom, ruleRoom, termRoom}
 
 -- "A plan holds at most 512 yes-or-no variables, 512 clauses, 1,024 rules and 6,000 terms, with weights up to 1,000,000 either way."
 abbrev pub maxVariables : ℕ
@@ -68,4 +69,4 @@ lawful p = within maxClauses maxRules maxTerms p
 
 -- A plan that the tables have room for: "one clause and rule more, with its 512 terms".
 unfoldable pub roomy : Plan → Bool
-roomy p = within 513 1_025 6_512 p
+roomy p = within clauseRoom ruleRoom termRoom p

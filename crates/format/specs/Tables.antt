@@ -1,6 +1,6 @@
 -- The tables that an accepted loading leaves, in words of 4 bytes (docs/FORMAT.md has the layout with offsets), and the plan read back from them.
 -- Assumes nothing.
-use Prim.Native.Nat.{ℕ, _+_, _*_, _-_}
+use Prim.Native.Nat.{ℕ, suc, _+_, _*_, _-_}
 use mathlib.Core.Path.{_≡_}
 use mathlib.Core.Bool.{Bool, true, false, cond}
 use mathlib.Core.List.{List, [], _∷_, _++_, map}
@@ -15,7 +15,7 @@ use Rattle.words.specs.Words.{wordBytes, wordAt, signed, unsigned}
 use Rattle.format.specs.Limits.{termCount, lawful}
 use Rattle.format.specs.File.{accepted, read, boundOf}
 pub use Rattle.format.specs.Layout.{tableSize, termSize}
-use Rattle.format.specs.Layout.{tableWordCount, termWordCount, objectiveAt, clauseFirst, clauseCount, ruleFirst, ruleCount, ruleMode, ruleLower, ruleUpper}
+use Rattle.format.specs.Layout.{termWordCount, objectiveAt, clauseFirstAt, clauseCountAt, ruleFirstAt, ruleCountAt, ruleModeAt, ruleLowerAt, ruleUpperAt, clauseWordCount, ruleWordCount}
 use Rattle.format.specs.Writer.{mode, boundNumber}
 
 -- The coefficient of a variable in a sum, 0 where it has none.
@@ -23,9 +23,13 @@ unfoldable pub coefficient : List Term → ℕ → ℤ
 coefficient [] x = pos 0
 coefficient (t ∷ ts) x = cond (eqb (t .variable) x) (t .weight) (coefficient ts x)
 
--- A section of a fixed size: "unused entries are 0".
-unfoldable pub padTo : ℕ → List ℕ → List ℕ
-padTo k ws = ws ++ replicate (k - length ws) 0
+-- A section of a fixed size, with the same in each unused entry.
+unfoldable pub padWith : {A : Type 0} → A → ℕ → List A → List A
+padWith unused k xs = xs ++ replicate (k - length xs) unused
+
+-- "unused entries are 0".
+abbrev pub padTo : ℕ → List ℕ → List ℕ
+padTo k ws = padWith 0 k ws
 
 -- A clause's entry: its first rule and how many it has.
 unfoldable pub clauseEntries : ℕ → List Clause → List ℕ
@@ -61,7 +65,7 @@ tableWords p =
     ∷ length (rulesOf p)
     ∷ termCount p
     ∷ (map (λ x. unsigned (coefficient (p .objective) x)) (row 1 512)
-    ++ (padTo 1_026 (clauseEntries 0 (p .clauses)) ++ padTo 5_125 (ruleEntries 0 (rulesOf p))))
+    ++ (padTo clauseWordCount (clauseEntries 0 (p .clauses)) ++ padTo ruleWordCount (ruleEntries 0 (rulesOf p))))
 
 -- The term table: 2·6,512 words, with room for the terms of one rule more.
 unfoldable pub termWords : Plan → List ℕ
@@ -82,17 +86,27 @@ termOf g i = record { variable = g (2 * i); weight = signed (g (2 * i + 1)) }
 unfoldable pub ruleOf : (ℕ → ℕ) → (ℕ → ℕ) → ℕ → Rule
 ruleOf f g r =
     record {
-      lower = boundOf 2 (f (ruleMode r)) (signed (f (ruleLower r)));
-      upper = boundOf 1 (f (ruleMode r)) (signed (f (ruleUpper r)));
-      terms = map (termOf g) (row (f (ruleFirst r)) (f (ruleCount r)));
+      lower = boundOf 2 (f (ruleModeAt r)) (signed (f (ruleLowerAt r)));
+      upper = boundOf 1 (f (ruleModeAt r)) (signed (f (ruleUpperAt r)));
+      terms = map (termOf g) (row (f (ruleFirstAt r)) (f (ruleCountAt r)));
     }
 
 unfoldable pub clauseOf : (ℕ → ℕ) → (ℕ → ℕ) → ℕ → Clause
-clauseOf f g c = map (ruleOf f g) (row (f (clauseFirst c)) (f (clauseCount c)))
+clauseOf f g c = map (ruleOf f g) (row (f (clauseFirstAt c)) (f (clauseCountAt c)))
+
+-- A term of each variable, of which those with a coefficient other than 0 are the objective's.
+unfoldable pub named : (ℕ → ℤ) → ℕ → Term
+named h x = record { variable = x; weight = h x }
+
+unfoldable pub isSome : Term → Bool
+isSome t = ltb 0 (natAbs (t .weight))
+
+-- The terms of the variables above v, k in number.
+unfoldable pub sparse : (ℕ → ℤ) → ℕ → ℕ → List Term
+sparse h v k = keep isSome (map (named h) (row (suc v) k))
 
 unfoldable pub objectiveOf : (ℕ → ℕ) → List Term
-objectiveOf f =
-    keep (λ t. ltb 0 (natAbs (t .weight))) (map (λ x. record { variable = x; weight = signed (f (objectiveAt x)) }) (row 1 (f 0)))
+objectiveOf f = sparse (λ x. signed (f (objectiveAt x))) 0 (f 0)
 
 unfoldable pub planIn : (ℕ → ℕ) → (ℕ → ℕ) → Plan
 planIn f g = record { variables = f 0; objective = objectiveOf f; clauses = map (clauseOf f g) (row 0 (f 1)) }

@@ -31,7 +31,20 @@ pub const TABLE_WORDS: usize = RULES + 5 * (MAX_RULES + 1);
 
 pub const TERM_WORDS: usize = 2 * (MAX_TERMS + MAX_VARIABLES);
 
-// The same in bytes.
+// .. of the last of k rules, at 5 * k more.
+pub const LAST_FIRST: usize = RULES - 5;
+
+pub const LAST_COUNT: usize = RULE_COUNT - 5;
+
+pub const LAST_UPPER: usize = RULE_UPPER - 5;
+
+// Where the sections behind the counts begin, in bytes, and the bytes of the whole.
+pub const OBJECTIVE_BYTE: usize = 4 * 4;
+
+pub const CLAUSES_BYTE: usize = 4 * CLAUSES;
+
+pub const RULES_BYTE: usize = 4 * RULES;
+
 pub const TABLES: usize = 4 * TABLE_WORDS;
 
 pub const TERMS: usize = 4 * TERM_WORDS;
@@ -40,3 +53,10 @@ pub const TERMS: usize = 4 * TERM_WORDS;
 pub const HOLDING: usize = MAX_RULES + 1;
 
 pub const UNSATISFIED: usize = HOLDING + MAX_CLAUSES + 1;
+
+pub const TALLIES: usize = 4 * (UNSATISFIED + 1);
+
+// A byte for each variable: an assignment, and the marks of a search.
+pub const ASSIGNMENT: usize = MAX_VARIABLES;
+
+pub const MARKS: usize = MAX_VARIABLES;

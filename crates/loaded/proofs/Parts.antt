@@ -7,7 +7,8 @@ use lib.Dec.{leb}
 use borrow.Author.Tests.{leb-true, not-true, not-false}
 use Rattle.plpb.specs.Lists.{_and_}
 use Rattle.format.proofs.Bools.{and-left, and-right, and-first, and-assoc}
-use Rattle.format.proofs.Good.{everyFrom, zerosFrom, countsGood, objectiveGood, clausesGood, rulesGood, ruleGood, goodBy}
+use Rattle.format.specs.Good.{everyFrom, zerosFrom, countsGood, objectiveGood, clausesGood, rulesGood, ruleGood, goodBy}
+use Rattle.format.specs.Layout.{termWordCount}
 
 -- The chain of the rules and the test of each are one loop, with the zero words behind.
 pub rules-last : (chain every rest : Bool) → (chain and every and rest) ≡ (chain and rest and every)
@@ -51,7 +52,7 @@ module _
   -- The parts joined, where the counts are good.
   pub parts-whole :
       not b ≡ false → {o k u z : Bool} → o ≡ objectiveGood f → k ≡ clausesGood f → u ≡ (rulesGood f and everyFrom (ruleGood f g) 0 r)
-      → z ≡ zerosFrom g (2 * t) (13_024 - 2 * t) → (o and k and u and z) ≡ goodBy f g
+      → z ≡ zerosFrom g (2 * t) (termWordCount - 2 * t) → (o and k and u and z) ≡ goodBy f g
   unfolding goodBy
   parts-whole n eo ek eu ez =
       rw (sym counts-read ∙ not-false b n, and-first true (objectiveGood f) refl, eo, ek, eu, ez, p₂, p₃, ← and-assoc)

@@ -2,14 +2,18 @@
 -- Assumes nothing.
 use Prim.Native.Nat.{ℕ, suc, _+_, _*_, _-_, _<_, _≤_}
 use mathlib.Core.Path.{_≡_, refl, sym, _∙_}
+use mathlib.Core.List.{List}
 use mathlib.Core.Bool.{Bool, true, false, not, _&&_, _||_}
 use native.Mathlib.Numerals.{add-one}
 use native.Mathlib.Omega.{arith}
 use lib.Dec.{eqb, leb}
 use borrow.Author.Tests.{not-true, not-false}
 use Rattle.plpb.specs.Lists.{_and_, _or_}
-use Rattle.format.proofs.Bools.{and-assoc}
-use Rattle.format.proofs.Good.{everyFrom, left-of, zerosFrom, linkGood, chainFrom, chain-step, chain-fail, chain-end, termGood, termsFrom}
+use Rattle.words.specs.Words.{wordAt}
+use Rattle.words.specs.Tests.{Decides, ZeroWords}
+use Rattle.format.proofs.Bools.{and-assoc, same-test}
+use Rattle.format.specs.Good.{everyFrom, zerosFrom, linkGood, chainFrom, termGood, termsFrom}
+use Rattle.format.proofs.Good.{left-of, zeros-at, zeros-all, chain-step, chain-fail, chain-end}
 use Rattle.format.proofs.Chains.{link-parts}
 
 -- The code's 'and' and 'or' are the definitions'.
@@ -38,15 +42,14 @@ module _ (p : ℕ → Bool) (b : Bool) (i e : ℕ) where
   unfolding everyFrom
   every-done h = let z : e - i ≡ 0 = omega arith in rw z (and-true b)
 
--- Zero words.
-module _ (f : ℕ → ℕ) (b : Bool) (i e : ℕ) where
-  pub zeros-turn : i < e → (b and zerosFrom f i (e - i)) ≡ ((b and eqb (f i) 0) and zerosFrom f (i + 1) (e - (i + 1)))
-  unfolding zerosFrom
-  zeros-turn h = every-turn (λ j. eqb (f j) 0) b i e h
-
-  pub zeros-done : e ≤ i → (b and zerosFrom f i (e - i)) ≡ b
-  unfolding zerosFrom
-  zeros-done h = every-done (λ j. eqb (f j) 0) b i e h
+-- Zero words: what the code's test of them decides.
+pub zeros-are : (s : List ℕ) (from end : ℕ) (b : Bool) → Decides b (ZeroWords s from end) → b ≡ zerosFrom (wordAt s) from (end - from)
+zeros-are s from end b d =
+    same-test b _ (λ t. zeros-all (wordAt s) from (end - from) (λ j l u. d .so t j l (omega arith))) (λ t. so b refl t)
+  where
+    so : (c : Bool) → b ≡ c → zerosFrom (wordAt s) from (end - from) ≡ true → c ≡ true
+    so true e t = refl
+    so false e t = absurd (d .not-so e (λ j l u. zeros-at (wordAt s) from (end - from) t j l (omega arith)))
 
 -- Terms.
 module _ (g : ℕ → ℕ) (n : ℕ) (b : Bool) (v i e : ℕ) where

@@ -9,10 +9,10 @@ ghost use lib.ListN.{length};
 ghost use Rattle.plpb.specs.Lists.{_and_};
 ghost use Rattle.words.specs.Words.{wordAt, signed};
 ghost use Rattle.format.specs.Limits.{maxVariables, maxClauses, maxRules, maxTerms, weightLawful};
-ghost use Rattle.format.specs.Layout.{tableSize, termSize, clauseFirst, clauseCount, ruleFirst, ruleCount};
+ghost use Rattle.format.specs.Layout.{tableSize, termSize, clauseFirstAt, clauseCountAt, ruleFirstAt, ruleCountAt};
 ghost use Rattle.format.specs.File.{boundsLawful};
 ghost use Rattle.format.specs.Tables.{isLoaded};
-ghost use Rattle.format.proofs.Good.{everyFrom, zerosFrom, chainFrom, termsFrom, coefficientGood, objectiveGood, clausesGood, rulesGood, ruleGood, goodBy};
+ghost use Rattle.format.specs.Good.{everyFrom, chainFrom, termsFrom, coefficientGood, objectiveGood, clausesGood, rulesGood, ruleGood, goodBy};
 use format::CLAUSE_COUNT;
 use format::CLAUSES;
 use format::MAX_CLAUSES;
@@ -33,6 +33,7 @@ use words::index;
 use words::magnitude;
 use words::to_signed;
 use words::word;
+use words::zeros;
 
 // The size of the signed number that a word stands for.
 fn size(w: u32) -> u32
@@ -47,21 +48,6 @@ fn weight_good(w: u32) -> bool
 {
     let m = size(w);
     (0 < m) & (m <= 1000000)
-}
-
-// Words from a place up to another, all 0.
-fn zeros(s: &[u8], from: usize, to: usize) -> bool
-    requires { ⌜ from ≤ to ⌝ }
-    requires { ⌜ 4 * to ≤ length (now s) ⌝ }
-    ensures { λ r. ⌜ r ≡ zerosFrom (wordAt (now (s .entry))) from (to - from) ⌝ }
-{
-    let mut all = true;
-    let mut i = from;
-    while i < to {
-        all = all & (word(s, i) == 0);
-        i += 1;
-    }
-    all
 }
 
 // The objective's coefficients, one for each variable.
@@ -88,9 +74,9 @@ fn link_good(first: usize, count: usize, at: usize, end: usize) -> bool
 
 // The clauses share out the rules in order.
 fn clause_chain(tables: &[u8], clauses: usize, rules: usize) -> bool
-    requires { ⌜ 4 * clauseFirst clauses ≤ length (now tables) ⌝ }
+    requires { ⌜ 4 * clauseFirstAt clauses ≤ length (now tables) ⌝ }
     ensures { λ r. ⌜ r
-        ≡ chainFrom (λ c. wordAt (now (tables .entry)) (clauseFirst c)) (λ c. wordAt (now (tables .entry)) (clauseCount c)) rules 0 0 clauses ⌝ }
+        ≡ chainFrom (λ c. wordAt (now (tables .entry)) (clauseFirstAt c)) (λ c. wordAt (now (tables .entry)) (clauseCountAt c)) rules 0 0 clauses ⌝ }
 {
     let mut at = 0;
     let mut c = 0;
@@ -147,9 +133,9 @@ fn bounds_good(mode: u32, lower: u32, upper: u32) -> bool
 // A rule, whose terms stand from a place up to another.
 fn rule_good(tables: &[u8], terms: &[u8], variables: u32, r: usize, from: usize, to: usize) -> bool
     requires { ⌜ variables ≡ wordAt (now tables) 0 ⌝ }
-    requires { ⌜ from ≡ wordAt (now tables) (ruleFirst r) ⌝ }
-    requires { ⌜ to ≡ from + wordAt (now tables) (ruleCount r) ⌝ }
-    requires { ⌜ 4 * ruleFirst (r + 1) ≤ length (now tables) ⌝ }
+    requires { ⌜ from ≡ wordAt (now tables) (ruleFirstAt r) ⌝ }
+    requires { ⌜ to ≡ from + wordAt (now tables) (ruleCountAt r) ⌝ }
+    requires { ⌜ 4 * ruleFirstAt (r + 1) ≤ length (now tables) ⌝ }
     requires { ⌜ 8 * to ≤ length (now terms) ⌝ }
     ensures { λ b. ⌜ b ≡ ruleGood (wordAt (now (tables .entry))) (wordAt (now (terms .entry))) r ⌝ }
 {
@@ -161,10 +147,10 @@ fn rule_good(tables: &[u8], terms: &[u8], variables: u32, r: usize, from: usize,
 
 // The rules share out the terms in order, and each is lawful.
 fn rule_chain(tables: &[u8], terms: &[u8], rules: usize, total: usize) -> bool
-    requires { ⌜ 4 * ruleFirst rules ≤ length (now tables) ⌝ }
+    requires { ⌜ 4 * ruleFirstAt rules ≤ length (now tables) ⌝ }
     requires { ⌜ 8 * total ≤ length (now terms) ⌝ }
     ensures { λ b. ⌜ b
-        ≡ (chainFrom (λ r. wordAt (now (tables .entry)) (ruleFirst r)) (λ r. wordAt (now (tables .entry)) (ruleCount r)) total 0 0 rules and everyFrom
+        ≡ (chainFrom (λ r. wordAt (now (tables .entry)) (ruleFirstAt r)) (λ r. wordAt (now (tables .entry)) (ruleCountAt r)) total 0 0 rules and everyFrom
         (ruleGood (wordAt (now (tables .entry))) (wordAt (now (terms .entry)))) 0 rules) ⌝ }
 {
     let variables = word(tables, 0);

@@ -1,4 +1,4 @@
--- The clause that a pick among the unsatisfied points at is found by its tally: the k-th word that is 0. And the look: no clause is unsatisfied.
+-- The clause that a pick among the unsatisfied points at is found by its tally: the k-th word that is 0.
 -- Assumes nothing.
 use Prim.Native.Nat.{ℕ, suc, _+_, _-_, _<_}
 use native.Mathlib.Omega.{arith}
@@ -8,9 +8,9 @@ use mathlib.Core.List.{List, [], map}
 use lib.Dec.{T, eqb, ltb, ltb→lt}
 use lib.ListN.{length, getD}
 use Rattle.plpb.specs.Lists.{keep, count, row}
-use Rattle.plpb.specs.Plan.{Clause, Plan, Assignment, ruleHolds, clauseHolds, satisfies}
-use Rattle.plpb.specs.Tallies.{unsatisfied, freshCount}
-use Rattle.plpb.proofs.Lists.{none-by-count, all-by-count}
+use Rattle.plpb.specs.Plan.{Plan, Assignment, ruleHolds}
+use Rattle.plpb.specs.Tallies.{unsatisfied}
+use Rattle.plpb.proofs.Tallies.{unsatisfied-count}
 use Rattle.words.specs.Words.{wordAt}
 use Rattle.numbers.specs.Finding.{marked, zeroWords}
 use Rattle.numbers.proofs.Keep.{keep-each, keep-map, row-suc, row-below, places, kth-place, place-within}
@@ -34,15 +34,6 @@ marked-by marks n v q h =
     agree i t = let s : suc i - 1 ≡ i = omega arith in rw s (h i (ltb→lt i n t))
 
 -- ---- unsatisfied clauses
-
-pub unsatisfied-count : (a : Assignment) (c : Clause) → unsatisfied a c ≡ eqb (count (ruleHolds a) c) 0
-unfolding unsatisfied clauseHolds
-unsatisfied-count a c = none-by-count (ruleHolds a) c
-
--- "if no clause is unsatisfied, return"
-pub look-by-count : (p : Plan) (a : Assignment) → satisfies a p ≡ eqb (freshCount p a .clausesUnsatisfied) 0
-unfolding satisfies freshCount unsatisfied
-look-by-count p a = all-by-count (clauseHolds a) (p .clauses)
 
 -- Where the words behind base others are how many rules of each clause hold, as a fresh count has them.
 module _ (p : Plan) (a : Assignment) (table : List ℕ) (base : ℕ)

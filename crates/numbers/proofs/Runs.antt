@@ -7,14 +7,15 @@ use mathlib.Core.Bool.{Bool, true, false, cond}
 use mathlib.Core.List.{List, [], _∷_}
 use lib.Dec.{ltb, eqb, eqb·suc-zero}
 use lib.ListN.{length, getD}
-use Rattle.plpb.specs.Lists.{keep, isEmpty}
-use Rattle.plpb.specs.Plan.{Clause, Plan, Assignment, flip, satisfies, cost, floorCost}
-use Rattle.plpb.specs.Tallies.{unsatisfied}
-use Rattle.plpb.specs.Numbers.{Taken, taken, tooFew, takeWords, takePick, startWords, startOf}
-use Rattle.plpb.specs.Walk.{Walk, done, words, pick, flipped, _>>=_, Mark, ends, short, run}
-use Rattle.plpb.specs.Choice.{choosable, pickFrom, leastBreak, withBreak, noisyChoice, choice}
-use Rattle.plpb.specs.Search.{linear, lbs, Settings, Reached, failed, reached, move, flipping, try, orElse, trying, call, tightened, lbsBound, linearBound, Ending, floor, ended, none, atFloor, gap, after, linearSearch, lbsSearch, tighten, searchWalk}
-use Rattle.plpb.proofs.Walks.{drawn, turned, noted, resume, run-words, run-pick, onward, run-bind}
+use Rattle.plpb.specs.Lists.{isEmpty}
+use Rattle.plpb.specs.Plan.{Plan, Assignment, satisfies, cost, floorCost}
+use Rattle.plpb.specs.Numbers.{Taken, taken, tooFew, takeWords, takePick, startWords}
+use Rattle.plpb.specs.Walk.{Walk, done, words, pick, flipped, _>>=_, Mark, drawn, oneFlip, oneFind, ends, short, run}
+use Rattle.plpb.specs.Settings.{Mode, Settings}
+use Rattle.plpb.specs.Try.{Try, begun, turnOver}
+use Rattle.plpb.specs.Choice.{pickFrom, leastBreak, withBreak, noisyChoice, choice}
+use Rattle.plpb.specs.Search.{Reached, failed, reached, Turn, stuck, turned, turning, move, goOn, flipping, try, orElse, trying, call, tightened, boundIn, Ending, floor, none, atFloor, gap, after, descending, tighten, searchWalk}
+use Rattle.plpb.proofs.Walks.{resume, run-words, run-pick, onward, run-bind}
 
 -- ---- needs, and one walk after another
 
@@ -77,93 +78,98 @@ unfolding isEmpty
 empty-by-length [] = refl
 empty-by-length (x ∷ xs) = sym (eqb·suc-zero (length xs))
 
-module _ (p : Plan) (noise : ℕ) (a : Assignment) (xs : List ℕ) (ns : List ℕ) (m : Mark) where
+module _ (s : Settings) (p : Plan) (t : Try) (xs : List ℕ) (ns : List ℕ) (m : Mark) where
+  abbrev leasts : List ℕ
+  leasts = withBreak p (t .bits) (leastBreak p (t .bits) xs) xs
+
+  abbrev frees : List ℕ
+  frees = withBreak p (t .bits) 0 xs
+
   noise-drawn : {r u : ℕ} → takePick 1_000 ns (m .used) ≡ taken r u
-      → run (noisyChoice p noise a xs) ns m ≡ run (pickFrom 0 (cond (ltb r noise) (withBreak p a (leastBreak p a xs) xs) xs)) ns (drawn u m)
+      → run (noisyChoice s p t xs) ns m ≡ run (pickFrom 0 (cond (ltb r (s .noise)) leasts xs)) ns (drawn u m)
   unfolding noisyChoice run
-  noise-drawn e =
-      bind-ends (pick 1_000 done) (λ r. pickFrom 0 (cond (ltb r noise) (withBreak p a (leastBreak p a xs) xs) xs)) ns m (run-pick-taken 1_000 done ns m e)
+  noise-drawn e = bind-ends (pick 1_000 done) (λ r. pickFrom 0 (cond (ltb r (s .noise)) leasts xs)) ns m (run-pick-taken 1_000 done ns m e)
 
-  pub noisy-least : {r u : ℕ} → takePick 1_000 ns (m .used) ≡ taken r u → ltb r noise ≡ true
-      → run (noisyChoice p noise a xs) ns m ≡ run (pickFrom 0 (withBreak p a (leastBreak p a xs) xs)) ns (drawn u m)
-  noisy-least {r} {u} e t = noise-drawn e ∙ ap (λ b. run (pickFrom 0 (cond b (withBreak p a (leastBreak p a xs) xs) xs)) ns (drawn u m)) t
+  pub noisy-least : {r u : ℕ} → takePick 1_000 ns (m .used) ≡ taken r u → ltb r (s .noise) ≡ true
+      → run (noisyChoice s p t xs) ns m ≡ run (pickFrom 0 (withBreak p (t .bits) (leastBreak p (t .bits) xs) xs)) ns (drawn u m)
+  noisy-least {r} {u} e l = noise-drawn e ∙ ap (λ b. run (pickFrom 0 (cond b leasts xs)) ns (drawn u m)) l
 
-  pub noisy-any : {r u : ℕ} → takePick 1_000 ns (m .used) ≡ taken r u → ltb r noise ≡ false
-      → run (noisyChoice p noise a xs) ns m ≡ run (pickFrom 0 xs) ns (drawn u m)
-  noisy-any {r} {u} e t = noise-drawn e ∙ ap (λ b. run (pickFrom 0 (cond b (withBreak p a (leastBreak p a xs) xs) xs)) ns (drawn u m)) t
+  pub noisy-any : {r u : ℕ} → takePick 1_000 ns (m .used) ≡ taken r u → ltb r (s .noise) ≡ false
+      → run (noisyChoice s p t xs) ns m ≡ run (pickFrom 0 xs) ns (drawn u m)
+  noisy-any {r} {u} e l = noise-drawn e ∙ ap (λ b. run (pickFrom 0 (cond b leasts xs)) ns (drawn u m)) l
 
-  pub noisy-short : {u : ℕ} → takePick 1_000 ns (m .used) ≡ tooFew u → run (noisyChoice p noise a xs) ns m ≡ short (drawn u m)
+  pub noisy-short : {u : ℕ} → takePick 1_000 ns (m .used) ≡ tooFew u → run (noisyChoice s p t xs) ns m ≡ short (drawn u m)
   unfolding noisyChoice
-  noisy-short e =
-      bind-short (pick 1_000 done) (λ r. pickFrom 0 (cond (ltb r noise) (withBreak p a (leastBreak p a xs) xs) xs)) ns m (run-pick-short 1_000 done ns m e)
+  noisy-short e = bind-short (pick 1_000 done) (λ r. pickFrom 0 (cond (ltb r (s .noise)) leasts xs)) ns m (run-pick-short 1_000 done ns m e)
 
-module _ (p : Plan) (noise : ℕ) (a : Assignment) (c : Clause) (ns : List ℕ) (m : Mark) where
-  pub choice-free : isEmpty (withBreak p a 0 (choosable p c)) ≡ false
-      → run (choice p noise a c) ns m ≡ run (pickFrom 0 (withBreak p a 0 (choosable p c))) ns m
+  pub choice-free : isEmpty (withBreak p (t .bits) 0 xs) ≡ false → run (choice s p t xs) ns m ≡ run (pickFrom 0 (withBreak p (t .bits) 0 xs)) ns m
   unfolding choice
-  choice-free e = run-false (noisyChoice p noise a (choosable p c)) (pickFrom 0 (withBreak p a 0 (choosable p c))) ns m e
+  choice-free e = run-false (noisyChoice s p t xs) (pickFrom 0 frees) ns m e
 
-  pub choice-noisy : isEmpty (withBreak p a 0 (choosable p c)) ≡ true → run (choice p noise a c) ns m ≡ run (noisyChoice p noise a (choosable p c)) ns m
+  pub choice-noisy : isEmpty (withBreak p (t .bits) 0 xs) ≡ true → run (choice s p t xs) ns m ≡ run (noisyChoice s p t xs) ns m
   unfolding choice
-  choice-noisy e = run-true (noisyChoice p noise a (choosable p c)) (pickFrom 0 (withBreak p a 0 (choosable p c))) ns m e
+  choice-noisy e = run-true (noisyChoice s p t xs) (pickFrom 0 frees) ns m e
 
--- ---- a move: a clause, a variable of it, the flip
+  -- ---- a turn: a variable is chosen, if there is one, and flipped
 
-module _ (s : Settings) (p : Plan) (ns : List ℕ) (a : Assignment) (m : Mark) where
-  pub move-no-clause : {u : ℕ} → takePick (length (keep (unsatisfied a) (p .clauses))) ns (m .used) ≡ tooFew u → run (move s p a) ns m ≡ short (drawn u m)
-  unfolding move
-  move-no-clause e = bind-short (pickFrom [] (keep (unsatisfied a) (p .clauses))) _ ns m (pickFrom-short [] (keep (unsatisfied a) (p .clauses)) ns m e)
+  pub turning-stuck : isEmpty xs ≡ true → run (turning s p t xs) ns m ≡ ends stuck m
+  unfolding turning run
+  turning-stuck e = run-true (done stuck) (choice s p t xs >>= (λ x. flipped (done (turned (turnOver t x))))) ns m e
 
-  module _ {i u : ℕ} (c : Clause) (e : takePick (length (keep (unsatisfied a) (p .clauses))) ns (m .used) ≡ taken i u)
-      (which : getD (keep (unsatisfied a) (p .clauses)) i [] ≡ c) where
-    move-clause : run (move s p a) ns m ≡ run (choice p (s .noise) a c >>= (λ x. flipped (done (flip a x)))) ns (drawn u m)
-    unfolding move
-    move-clause =
-        bind-ends (pickFrom [] (keep (unsatisfied a) (p .clauses))) (λ c. choice p (s .noise) a c >>= (λ x. flipped (done (flip a x)))) ns m
-        (pickFrom-taken [] (keep (unsatisfied a) (p .clauses)) ns m e)
-        ∙ ap (λ c. run (choice p (s .noise) a c >>= (λ x. flipped (done (flip a x)))) ns (drawn u m)) which
+  module _ (e : isEmpty xs ≡ false) {n : Mark} where
+    pub turning-made : {x : ℕ} → run (choice s p t xs) ns m ≡ ends x n → run (turning s p t xs) ns m ≡ ends (turned (turnOver t x)) (oneFlip n)
+    unfolding turning run
+    turning-made h =
+        run-false (done stuck) (choice s p t xs >>= (λ x. flipped (done (turned (turnOver t x))))) ns m e
+        ∙ bind-ends (choice s p t xs) (λ x. flipped (done (turned (turnOver t x)))) ns m h
 
-    pub move-no-variable : {n : Mark} → run (choice p (s .noise) a c) ns (drawn u m) ≡ short n → run (move s p a) ns m ≡ short n
-    move-no-variable h = move-clause ∙ bind-short (choice p (s .noise) a c) (λ x. flipped (done (flip a x))) ns (drawn u m) h
-
-    pub move-made : {n : Mark} {x : ℕ} → run (choice p (s .noise) a c) ns (drawn u m) ≡ ends x n → run (move s p a) ns m ≡ ends (flip a x) (turned n)
-    unfolding run
-    move-made h = move-clause ∙ bind-ends (choice p (s .noise) a c) (λ x. flipped (done (flip a x))) ns (drawn u m) h
+    pub turning-short : run (choice s p t xs) ns m ≡ short n → run (turning s p t xs) ns m ≡ short n
+    unfolding turning
+    turning-short h =
+        run-false (done stuck) (choice s p t xs >>= (λ x. flipped (done (turned (turnOver t x))))) ns m e
+        ∙ bind-short (choice s p t xs) (λ x. flipped (done (turned (turnOver t x)))) ns m h
 
 -- ---- flips, a try, tries, a call
 
 module _ (s : Settings) (p : Plan) (ns : List ℕ) where
-  module _ (a : Assignment) (m : Mark) where
-    pub flipping-none : run (flipping s p 0 a) ns m ≡ ends failed m
+  module _ (t : Try) (m : Mark) where
+    pub flipping-none : run (flipping s p 0 t) ns m ≡ ends failed m
     unfolding flipping run
     flipping-none = refl
 
-    pub flipping-found : (left : ℕ) → satisfies a p ≡ true → run (flipping s p (suc left) a) ns m ≡ ends (reached a) m
-    unfolding flipping run
-    flipping-found left e = run-true (done (reached a)) (move s p a >>= flipping s p left) ns m e
+    module _ (left : ℕ) where
+      abbrev on : Walk Reached
+      on = move s p t >>= goOn (flipping s p left)
 
-    pub flipping-on : (left : ℕ) → satisfies a p ≡ false → run (flipping s p (suc left) a) ns m ≡ onward (flipping s p left) ns (run (move s p a) ns m)
-    unfolding flipping run
-    flipping-on left e = run-false (done (reached a)) (move s p a >>= flipping s p left) ns m e ∙ run-bind (flipping s p left) ns (move s p a) m
+      pub flipping-found : satisfies (t .bits) p ≡ true → run (flipping s p (suc left) t) ns m ≡ ends (reached (t .bits)) m
+      unfolding flipping run
+      flipping-found e = run-true (done (reached (t .bits))) on ns m e
 
-    pub flipping-moved : (left : ℕ) {b : Assignment} {n : Mark} → satisfies a p ≡ false → run (move s p a) ns m ≡ ends b n
-        → run (flipping s p (suc left) a) ns m ≡ run (flipping s p left b) ns n
-    unfolding onward
-    flipping-moved left e h = flipping-on left e ∙ ap (onward (flipping s p left) ns) h
+      module _ (e : satisfies (t .bits) p ≡ false) where
+        flipping-on : run (flipping s p (suc left) t) ns m ≡ run on ns m
+        unfolding flipping run
+        flipping-on = run-false (done (reached (t .bits))) on ns m e
 
-    pub flipping-short : (left : ℕ) {n : Mark} → satisfies a p ≡ false → run (move s p a) ns m ≡ short n → run (flipping s p (suc left) a) ns m ≡ short n
-    unfolding onward
-    flipping-short left e h = flipping-on left e ∙ ap (onward (flipping s p left) ns) h
+        pub flipping-moved : {b : Try} {n : Mark} → run (move s p t) ns m ≡ ends (turned b) n → run (flipping s p (suc left) t) ns m ≡ run (flipping s p left b) ns n
+        unfolding goOn
+        flipping-moved h = flipping-on ∙ bind-ends (move s p t) (goOn (flipping s p left)) ns m h
+
+        pub flipping-stuck : {n : Mark} → run (move s p t) ns m ≡ ends stuck n → run (flipping s p (suc left) t) ns m ≡ ends failed n
+        unfolding goOn run
+        flipping-stuck h = flipping-on ∙ bind-ends (move s p t) (goOn (flipping s p left)) ns m h
+
+        pub flipping-short : {n : Mark} → run (move s p t) ns m ≡ short n → run (flipping s p (suc left) t) ns m ≡ short n
+        flipping-short h = flipping-on ∙ bind-short (move s p t) (goOn (flipping s p left)) ns m h
 
   module _ (m : Mark) where
     pub try-started : {ws : List ℕ} {u : ℕ} → takeWords (startWords (p .variables)) ns (m .used) ≡ taken ws u
-        → run (try s p) ns m ≡ run (flipping s p (s .flips) (startOf (p .variables) ws)) ns (drawn u m)
+        → run (try s p) ns m ≡ run (flipping s p (s .flips) (begun p ws)) ns (drawn u m)
     unfolding try
-    try-started e = run-words-taken (startWords (p .variables)) (λ ws. flipping s p (s .flips) (startOf (p .variables) ws)) ns m e
+    try-started e = run-words-taken (startWords (p .variables)) (λ ws. flipping s p (s .flips) (begun p ws)) ns m e
 
     pub try-short : {u : ℕ} → takeWords (startWords (p .variables)) ns (m .used) ≡ tooFew u → run (try s p) ns m ≡ short (drawn u m)
     unfolding try
-    try-short e = run-words-short (startWords (p .variables)) (λ ws. flipping s p (s .flips) (startOf (p .variables) ws)) ns m e
+    try-short e = run-words-short (startWords (p .variables)) (λ ws. flipping s p (s .flips) (begun p ws)) ns m e
 
     pub trying-none : run (trying s p 0) ns m ≡ ends failed m
     unfolding trying run
@@ -193,91 +199,46 @@ module _ (w : Walk Reached) (otherwise : Walk Ending) (next : Assignment → Wal
   unfolding after
   after-failed e = bind-ends w (after otherwise next) ns m e
 
-  after-found : {b : Assignment} → run w ns m ≡ ends (reached b) n → run (w >>= after otherwise next) ns m ≡ run (next b) ns (noted b n)
+  after-found : {b : Assignment} → run w ns m ≡ ends (reached b) n → run (w >>= after otherwise next) ns m ≡ run (next b) ns (oneFind b n)
   unfolding after run
   after-found e = bind-ends w (after otherwise next) ns m e
 
   after-short : run w ns m ≡ short n → run (w >>= after otherwise next) ns m ≡ short n
   after-short e = bind-short w (after otherwise next) ns m e
 
--- The plan of the next call, in each mode.
-abbrev pub linearPlan : Plan → Assignment → Plan
-linearPlan p a = tightened p (linearBound (cost p a))
+-- ---- the tightening, from a find a, with at most so many further finds left
 
-abbrev pub lbsPlan : Plan → Assignment → Plan
-lbsPlan p a = tightened p (lbsBound (floorCost p) (cost p a))
-
--- From a find a, with at most so many further finds left.
-module _ (s : Settings) (p : Plan) (ns : List ℕ) (a : Assignment) (m : Mark) where
-  -- ---- linear
-
-  pub linear-none : run (linearSearch s p 0 a) ns m ≡ ends floor m
-  unfolding linearSearch run
-  linear-none = refl
+module _ (s : Settings) (p : Plan) (mode : Mode) (otherwise : ℕ → Assignment → Walk Ending) (ns : List ℕ) (a : Assignment) (m : Mark) where
+  pub descending-none : run (descending s p mode otherwise 0 a) ns m ≡ ends floor m
+  unfolding descending run
+  descending-none = refl
 
   module _ (left : ℕ) where
-    pub linear-floor : atFloor p a ≡ true → run (linearSearch s p (suc left) a) ns m ≡ ends floor m
-    unfolding linearSearch run
-    linear-floor e = run-true (done floor) _ ns m e
+    abbrev next : Walk Reached
+    next = call s (tightened p (boundIn mode (floorCost p) (cost p a)))
+
+    abbrev onward-from : Walk Ending
+    onward-from = next >>= after (otherwise (suc left) a) (descending s p mode otherwise left)
+
+    pub descending-floor : atFloor p a ≡ true → run (descending s p mode otherwise (suc left) a) ns m ≡ ends floor m
+    unfolding descending run
+    descending-floor e = run-true (done floor) onward-from ns m e
 
     module _ (e : atFloor p a ≡ false) where
-      linear-on : run (linearSearch s p (suc left) a) ns m
-          ≡ run (call s (linearPlan p a) >>= after (done ended) (linearSearch s p left)) ns m
-      unfolding linearSearch
-      linear-on = run-false (done floor) (call s (linearPlan p a) >>= after (done ended) (linearSearch s p left)) ns m e
+      descending-on : run (descending s p mode otherwise (suc left) a) ns m ≡ run onward-from ns m
+      unfolding descending
+      descending-on = run-false (done floor) onward-from ns m e
 
-      pub linear-ended : {n : Mark} → run (call s (linearPlan p a)) ns m ≡ ends failed n → run (linearSearch s p (suc left) a) ns m ≡ ends ended n
-      unfolding run
-      linear-ended h = linear-on ∙ after-failed (call s (linearPlan p a)) (done ended) (linearSearch s p left) ns m h
+      pub descending-failed : {n : Mark} → run (call s (tightened p (boundIn mode (floorCost p) (cost p a)))) ns m ≡ ends failed n
+          → run (descending s p mode otherwise (suc left) a) ns m ≡ run (otherwise (suc left) a) ns n
+      descending-failed h = descending-on ∙ after-failed next (otherwise (suc left) a) (descending s p mode otherwise left) ns m h
 
-      pub linear-found : {n : Mark} {b : Assignment} → run (call s (linearPlan p a)) ns m ≡ ends (reached b) n
-          → run (linearSearch s p (suc left) a) ns m ≡ run (linearSearch s p left b) ns (noted b n)
-      linear-found h = linear-on ∙ after-found (call s (linearPlan p a)) (done ended) (linearSearch s p left) ns m h
+      pub descending-found : {b : Assignment} {n : Mark} → run (call s (tightened p (boundIn mode (floorCost p) (cost p a)))) ns m ≡ ends (reached b) n
+          → run (descending s p mode otherwise (suc left) a) ns m ≡ run (descending s p mode otherwise left b) ns (oneFind b n)
+      descending-found h = descending-on ∙ after-found next (otherwise (suc left) a) (descending s p mode otherwise left) ns m h
 
-      pub linear-short : {n : Mark} → run (call s (linearPlan p a)) ns m ≡ short n → run (linearSearch s p (suc left) a) ns m ≡ short n
-      linear-short h = linear-on ∙ after-short (call s (linearPlan p a)) (done ended) (linearSearch s p left) ns m h
-
-  -- ---- LBS
-
-  pub lbs-none : run (lbsSearch s p 0 a) ns m ≡ ends floor m
-  unfolding lbsSearch run
-  lbs-none = refl
-
-  module _ (left : ℕ) where
-    pub lbs-floor : atFloor p a ≡ true → run (lbsSearch s p (suc left) a) ns m ≡ ends floor m
-    unfolding lbsSearch run
-    lbs-floor e = run-true (done floor) _ ns m e
-
-    module _ (e : atFloor p a ≡ false) where
-      lbs-on : run (lbsSearch s p (suc left) a) ns m
-          ≡ run (call s (lbsPlan p a) >>= after (linearSearch s p (suc left) a) (lbsSearch s p left)) ns m
-      unfolding lbsSearch
-      lbs-on =
-          run-false (done floor)
-          (call s (lbsPlan p a) >>= after (linearSearch s p (suc left) a) (lbsSearch s p left)) ns m e
-
-      -- "at the first failure goes over to linear"
-      pub lbs-linear : {n : Mark} → run (call s (lbsPlan p a)) ns m ≡ ends failed n
-          → run (lbsSearch s p (suc left) a) ns m ≡ run (linearSearch s p (suc left) a) ns n
-      lbs-linear h =
-          lbs-on ∙ after-failed (call s (lbsPlan p a)) (linearSearch s p (suc left) a) (lbsSearch s p left) ns m h
-
-      pub lbs-found : {n : Mark} {b : Assignment} → run (call s (lbsPlan p a)) ns m ≡ ends (reached b) n
-          → run (lbsSearch s p (suc left) a) ns m ≡ run (lbsSearch s p left b) ns (noted b n)
-      lbs-found h =
-          lbs-on ∙ after-found (call s (lbsPlan p a)) (linearSearch s p (suc left) a) (lbsSearch s p left) ns m h
-
-      pub lbs-short : {n : Mark} → run (call s (lbsPlan p a)) ns m ≡ short n → run (lbsSearch s p (suc left) a) ns m ≡ short n
-      lbs-short h =
-          lbs-on ∙ after-short (call s (lbsPlan p a)) (linearSearch s p (suc left) a) (lbsSearch s p left) ns m h
-
-  pub tighten-linear : (left : ℕ) → run (tighten linear s p left a) ns m ≡ run (linearSearch s p left a) ns m
-  unfolding tighten
-  tighten-linear left = refl
-
-  pub tighten-lbs : (left : ℕ) → run (tighten lbs s p left a) ns m ≡ run (lbsSearch s p left a) ns m
-  unfolding tighten
-  tighten-lbs left = refl
+      pub descending-short : {n : Mark} → run (call s (tightened p (boundIn mode (floorCost p) (cost p a)))) ns m ≡ short n → run (descending s p mode otherwise (suc left) a) ns m ≡ short n
+      descending-short h = descending-on ∙ after-short next (otherwise (suc left) a) (descending s p mode otherwise left) ns m h
 
 -- ---- the search
 
@@ -287,7 +248,7 @@ module _ (s : Settings) (p : Plan) (ns : List ℕ) (m : Mark) {n : Mark} where
   search-none h = after-failed (call s p) (done none) (λ a. tighten (s .mode) s p (gap p a) a) ns m h
 
   pub search-found : {a : Assignment} → run (call s p) ns m ≡ ends (reached a) n
-      → run (searchWalk s p) ns m ≡ run (tighten (s .mode) s p (gap p a) a) ns (noted a n)
+      → run (searchWalk s p) ns m ≡ run (tighten (s .mode) s p (gap p a) a) ns (oneFind a n)
   unfolding searchWalk
   search-found h = after-found (call s p) (done none) (λ a. tighten (s .mode) s p (gap p a) a) ns m h
 

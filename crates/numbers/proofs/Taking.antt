@@ -16,8 +16,8 @@ use Rattle.plpb.specs.Numbers.{Taken, taken, tooFew, takeWords, takePick, start
 use Rattle.plpb.proofs.Lists.{length-row, row-at}
 use Rattle.plpb.proofs.Walks.{Spends, words-spend, pick-spends}
 use Rattle.words.specs.Words.{wordAt}
-use Rattle.tallies.specs.Layout.{bitBytes}
-use Rattle.tallies.proofs.Bits.{length-bitBytes}
+use Rattle.format.specs.Assignment.{bitBytes}
+use Rattle.format.proofs.Assignment.{length-bitBytes}
 use Rattle.numbers.specs.declared.Picked.{Picked}
 use Rattle.numbers.specs.declared.Picked.the-variants as picked
 use Rattle.numbers.specs.declared.Started.{Started}

@@ -5,7 +5,7 @@ use mathlib.Core.Path.{_≡_}
 use mathlib.Core.List.{List, _++_}
 use lib.ListN.{drop}
 use Rattle.plpb.specs.Numbers.{Taken, taken, tooFew, startOf}
-use Rattle.tallies.specs.Layout.{bitBytes}
+use Rattle.format.specs.Assignment.{bitBytes}
 use Rattle.numbers.specs.declared.Picked.{Picked}
 use Rattle.numbers.specs.declared.Picked.the-variants as picked
 use Rattle.numbers.specs.declared.Started.{Started}

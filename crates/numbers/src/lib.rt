@@ -7,7 +7,7 @@ ghost use lib.Dec.{eqb};
 ghost use lib.ListN.{length, getD, take, drop};
 ghost use Rattle.plpb.specs.Numbers.{takeWords, takePick, startWords, startOf, bit};
 ghost use Rattle.words.specs.Words.{wordAt};
-ghost use Rattle.tallies.specs.Layout.{bitBytes};
+ghost use Rattle.format.specs.Assignment.{bitBytes};
 ghost use Rattle.numbers.specs.Numbers.{numbersOf};
 ghost use Rattle.numbers.specs.Taking.{takenOf, Starts};
 ghost use Rattle.numbers.specs.Finding.{marked, zeroWords};

@@ -13,13 +13,14 @@ use Rattle.plpb.specs.Lists.{keep, row}
 use Rattle.plpb.specs.Plan.{Term}
 use Rattle.words.specs.Words.{wordAt, signed, unsigned}
 use Rattle.words.proofs.Words.{unsigned-signed}
-use Rattle.format.specs.Tables.{termEntries, objectiveOf}
+use Rattle.format.specs.Tables.{termEntries, objectiveOf, sparse, named, isSome}
 use Rattle.format.proofs.Bounds.{natAbs-zero}
-use Rattle.format.proofs.Objective.{sparse, sparse-skip, sparse-hold, named, isSome}
+use Rattle.format.proofs.Objective.{sparse-skip, sparse-hold}
 use Rattle.format.proofs.Sections.{length-termEntries}
-use Rattle.objective.specs.Added.{putWords, termsAbove}
+use Rattle.words.specs.Writes.{putWords}
+use Rattle.objective.specs.Added.{termsAbove}
 use Rattle.objective.proofs.Coefficients.{place}
-use Rattle.objective.proofs.WordWrites.{no-words, words-next, length-putWords}
+use Rattle.words.proofs.Writes.{no-words, words-next, length-putWords}
 
 pub termEntries-append : (ts us : List Term) → termEntries (ts ++ us) ≡ termEntries ts ++ termEntries us
 unfolding termEntries

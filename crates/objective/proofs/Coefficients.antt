@@ -21,11 +21,12 @@ use borrow.Author.Tests.{ltb-true}
 use Rattle.plpb.specs.Lists.{keep, row}
 use Rattle.plpb.specs.Plan.{Term, value, total, negativePart, leastTotal}
 use Rattle.words.specs.Words.{wordAt, signed}
-use Rattle.format.specs.Tables.{objectiveOf}
+use Rattle.format.specs.Tables.{objectiveOf, sparse, named, isSome}
 use Rattle.format.proofs.Bounds.{natAbs-zero}
-use Rattle.format.proofs.Objective.{sparse, sparse-skip, sparse-hold, named, isSome}
+use Rattle.format.proofs.Objective.{sparse-skip, sparse-hold}
 use Rattle.counting.proofs.Signed.{small-fits, size-sum}
-use Rattle.objective.specs.Sums.{bits, costIn, floorIn, weightAt, shareAt, leastAt, sumFrom}
+use Rattle.format.specs.Assignment.{bitsIn, bitsOf}
+use Rattle.objective.specs.Sums.{costIn, floorIn, weightAt, shareAt, leastAt, sumFrom}
 
 -- ---- a sum over terms, and over coefficients
 
@@ -57,8 +58,8 @@ pub place : (i : ℕ) → 3 + suc i ≡ 4 + i
 place i = omega arith
 
 -- The bit of variable i + 1.
-bit-at : (n : ℕ) (bytes : List ℕ) (i : ℕ) → i < n → value (bits n bytes) (suc i) ≡ eqb (getD bytes i 0) 1
-unfolding value
+bit-at : (n : ℕ) (bytes : List ℕ) (i : ℕ) → i < n → value (bitsOf n bytes) (suc i) ≡ eqb (getD bytes i 0) 1
+unfolding value bitsOf bitsIn
 bit-at n bytes i h = List·getD-map (λ b. eqb b 1) (take n bytes) i 0 ∙ ap (λ b. eqb b 1) (getD-take n bytes i 0 h)
 
 no-share : (b : Bool) (w : ℤ) → w ≡ pos 0 → cond b w (pos 0) ≡ pos 0
@@ -72,11 +73,11 @@ no-least w e = rw e
 -- What an assignment costs is what its variables cost; l(O) what they cost at least.
 pub cost-summed :
     (tables bytes : List ℕ)
-    → costIn tables (bits (wordAt tables 0) bytes) ≡ sumFrom (shareAt tables bytes) 0 (wordAt tables 0)
+    → costIn tables (bitsOf (wordAt tables 0) bytes) ≡ sumFrom (shareAt tables bytes) 0 (wordAt tables 0)
 unfolding costIn objectiveOf shareAt weightAt total sparse named isSome
 cost-summed tables bytes =
     let n = wordAt tables 0 in
-    let a = bits n bytes in
+    let a = bitsOf n bytes in
     terms-summed (total a) (λ t. cond (value a (t .variable)) (t .weight) (pos 0)) refl (λ t ts. refl)
     (λ t. no-share (value a (t .variable)) (t .weight)) (λ x. signed (wordAt tables (3 + x))) 0 n
     ∙ sumFrom-same _ _ n 0 n (omega arith) (λ i h. rw (bit-at n bytes i h, place i))

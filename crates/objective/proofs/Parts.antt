@@ -8,11 +8,10 @@ use mathlib.Core.List.{List, [], _∷_, _++_, append-assoc}
 use lib.ListN.{length, take, drop, replicate, length-append, length-drop}
 use lib.Seq.{take-append-le, drop-append-le, take-append-add, drop-append-add, take-nil, drop-nil}
 use Rattle.words.specs.Words.{bytesOf, wordBytes}
-use Rattle.words.specs.Writes.{front, put}
+use Rattle.words.specs.Writes.{front, put, putWords}
 use Rattle.words.proofs.Words.{length-wordBytes}
 use Rattle.words.proofs.Writes.{wordBytes-append}
-use Rattle.format.specs.Tables.{padTo}
-use Rattle.objective.specs.Added.{putWords}
+use Rattle.format.specs.Tables.{padTo, padWith}
 
 -- ---- parts
 
@@ -45,7 +44,7 @@ unfolding put front
 put-first ys zs = refl
 
 pub pad-more : (k n : ℕ) (xs ys : List ℕ) → length xs ≡ n → put n ys (padTo k xs) ≡ padTo k (xs ++ ys)
-unfolding padTo
+unfolding padWith
 pad-more k n xs ys e =
     let z : k - length xs - length ys ≡ k - length (xs ++ ys) = omega (arith, length-append xs ys) in
     ap (λ m. put m ys (xs ++ replicate (k - length xs) 0)) (sym (add-zero n))

@@ -18,7 +18,7 @@ use Rattle.words.specs.Words.{unsigned}
 use Rattle.words.specs.Writes.{front, put}
 use Rattle.format.specs.Limits.{termCount, boundLawful, isPresent}
 use Rattle.format.specs.Writer.{mode, boundNumber}
-use Rattle.format.specs.Tables.{coefficient, padTo, clauseEntries, ruleEntries, termEntries, allTerms, tableWords, termWords}
+use Rattle.format.specs.Tables.{coefficient, padTo, padWith, clauseEntries, ruleEntries, termEntries, allTerms, tableWords, termWords}
 use Rattle.format.proofs.Bools.{and-join}
 use Rattle.format.proofs.Bounds.{bothLawful}
 use Rattle.format.proofs.Lists.{all-append, sumBy-append, length-row}
@@ -27,6 +27,7 @@ use Rattle.format.proofs.Sections.{length-clauseEntries, length-ruleEntries, le
 use Rattle.format.proofs.Spells.{length-padTo}
 use Rattle.objective.proofs.Parts.{put-inside, put-behind, pad-more}
 use Rattle.objective.proofs.AddedTerms.{termEntries-append}
+use Rattle.format.specs.Layout.{clauseWordCount, clausesAt, ruleUpperAt, ruleWordCount, rulesAt, termWordCount}
 
 -- "the added last clause O ≤ m"
 abbrev pub boundRule : Plan → ℤ → Rule
@@ -121,23 +122,23 @@ module _ (p : Plan) (l : LawfulPlan p) (some : 0 < length (p .objective)) (m : �
 module _ (a b c d i : ℕ) (os xs ys ws : List ℕ) (coefficients : length os ≡ 512) where
   put-clause :
       i + length ws ≤ length xs
-      → put (516 + i) ws (a ∷ b ∷ c ∷ d ∷ (os ++ (xs ++ ys))) ≡ a ∷ b ∷ c ∷ d ∷ (os ++ (put i ws xs ++ ys))
+      → put (clausesAt + i) ws (a ∷ b ∷ c ∷ d ∷ (os ++ (xs ++ ys))) ≡ a ∷ b ∷ c ∷ d ∷ (os ++ (put i ws xs ++ ys))
   unfolding put
   put-clause h =
-      let e : 516 + i ≡ suc (suc (suc (suc (512 + i)))) = omega arith in
+      let e : clausesAt + i ≡ suc (suc (suc (suc (512 + i)))) = omega arith in
       rw e
       (ap (λ zs. a ∷ b ∷ c ∷ d ∷ zs)
       (put-behind 512 i ws os (xs ++ ys) coefficients ∙ ap (λ zs. os ++ zs) (put-inside i ws xs ys h)))
 
   put-rule :
-      length xs ≡ 1_026
-      → put (1_542 + i) ws (a ∷ b ∷ c ∷ d ∷ (os ++ (xs ++ ys))) ≡ a ∷ b ∷ c ∷ d ∷ (os ++ (xs ++ put i ws ys))
+      length xs ≡ clauseWordCount
+      → put (rulesAt + i) ws (a ∷ b ∷ c ∷ d ∷ (os ++ (xs ++ ys))) ≡ a ∷ b ∷ c ∷ d ∷ (os ++ (xs ++ put i ws ys))
   unfolding put
   put-rule h =
-      let e : 1_542 + i ≡ suc (suc (suc (suc (512 + (1_026 + i))))) = omega arith in
+      let e : rulesAt + i ≡ suc (suc (suc (suc (512 + (clauseWordCount + i))))) = omega arith in
       rw e
       (ap (λ zs. a ∷ b ∷ c ∷ d ∷ zs)
-      (put-behind 512 (1_026 + i) ws os (xs ++ ys) coefficients ∙ ap (λ zs. os ++ zs) (put-behind 1_026 i ws xs ys h)))
+      (put-behind 512 (clauseWordCount + i) ws os (xs ++ ys) coefficients ∙ ap (λ zs. os ++ zs) (put-behind clauseWordCount i ws xs ys h)))
 
 put-counts : (a b c d x y z : ℕ) (ws : List ℕ) → put 1 (x ∷ y ∷ z ∷ []) (a ∷ b ∷ c ∷ d ∷ ws) ≡ a ∷ x ∷ y ∷ z ∷ ws
 unfolding put front
@@ -172,8 +173,8 @@ module _ (p : Plan) (l : LawfulPlan p) where
   length-second : length second ≡ 5 * length (rulesOf p)
   length-second = length-ruleEntries 0 (rulesOf p)
 
-  length-firstPart : (ws : List ℕ) → length ws ≤ 2 → length (padTo 1_026 (first ++ ws)) ≡ 1_026
-  length-firstPart ws h = length-padTo 1_026 (first ++ ws) (omega (arith, length-append first ws, length-first, l .clauseCount))
+  length-firstPart : (ws : List ℕ) → length ws ≤ 2 → length (padTo clauseWordCount (first ++ ws)) ≡ clauseWordCount
+  length-firstPart ws h = length-padTo clauseWordCount (first ++ ws) (omega (arith, length-append first ws, length-first, l .clauseCount))
 
   module _ (m : ℤ) where
     clause-count : length (tightened p m .clauses) ≡ length (p .clauses) + 1
@@ -202,32 +203,32 @@ module _ (p : Plan) (l : LawfulPlan p) where
         ∷ (length (p .clauses) + 1)
         ∷ (length (rulesOf p) + 1)
         ∷ (termCount p + length (p .objective))
-        ∷ (costs ++ (padTo 1_026 (first ++ clauseWords) ++ padTo 5_125 (second ++ ruleWords m)))
+        ∷ (costs ++ (padTo clauseWordCount (first ++ clauseWords) ++ padTo ruleWordCount (second ++ ruleWords m)))
     unfolding tableWords tightened
     spelt =
         λ i. p .variables
         ∷ clause-count i
         ∷ rule-count i
         ∷ count-last p m i
-        ∷ (costs ++ (padTo 1_026 (clause-entries i) ++ padTo 5_125 (rule-entries i)))
+        ∷ (costs ++ (padTo clauseWordCount (clause-entries i) ++ padTo ruleWordCount (rule-entries i)))
 
     -- Three writes make them of the plan's own.
     pub new-table :
-        put 1 countWords (put (1_542 + 5 * length (rulesOf p)) (ruleWords m) (put (516 + 2 * length (p .clauses)) clauseWords (tableWords p)))
+        put 1 countWords (put (rulesAt + 5 * length (rulesOf p)) (ruleWords m) (put (clausesAt + 2 * length (p .clauses)) clauseWords (tableWords p)))
         ≡ tableWords (tightened p m)
     unfolding tableWords
     new-table =
         let n = length (p .clauses) in
-        let room : 2 * n + 2 ≤ length (padTo 1_026 first) =
-        omega (arith, length-padTo 1_026 first (omega (arith, length-first, l .clauseCount)), l .clauseCount) in
-        ap (λ t. put 1 countWords (put (1_542 + 5 * length (rulesOf p)) (ruleWords m) t))
-        (put-clause (p .variables) n (length (rulesOf p)) (termCount p) (2 * n) costs (padTo 1_026 first) (padTo 5_125 second) clauseWords length-costs room
-        ∙ ap (λ xs. p .variables ∷ n ∷ length (rulesOf p) ∷ termCount p ∷ (costs ++ (xs ++ padTo 5_125 second))) (pad-more 1_026 (2 * n) first clauseWords length-first))
+        let room : 2 * n + 2 ≤ length (padTo clauseWordCount first) =
+        omega (arith, length-padTo clauseWordCount first (omega (arith, length-first, l .clauseCount)), l .clauseCount) in
+        ap (λ t. put 1 countWords (put (rulesAt + 5 * length (rulesOf p)) (ruleWords m) t))
+        (put-clause (p .variables) n (length (rulesOf p)) (termCount p) (2 * n) costs (padTo clauseWordCount first) (padTo ruleWordCount second) clauseWords length-costs room
+        ∙ ap (λ xs. p .variables ∷ n ∷ length (rulesOf p) ∷ termCount p ∷ (costs ++ (xs ++ padTo ruleWordCount second))) (pad-more clauseWordCount (2 * n) first clauseWords length-first))
         ∙ ap (put 1 countWords)
-        (put-rule (p .variables) n (length (rulesOf p)) (termCount p) (5 * length (rulesOf p)) costs (padTo 1_026 (first ++ clauseWords)) (padTo 5_125 second) (ruleWords m) length-costs
+        (put-rule (p .variables) n (length (rulesOf p)) (termCount p) (5 * length (rulesOf p)) costs (padTo clauseWordCount (first ++ clauseWords)) (padTo ruleWordCount second) (ruleWords m) length-costs
         (length-firstPart clauseWords (omega arith))
-        ∙ ap (λ ys. p .variables ∷ n ∷ length (rulesOf p) ∷ termCount p ∷ (costs ++ (padTo 1_026 (first ++ clauseWords) ++ ys)))
-        (pad-more 5_125 (5 * length (rulesOf p)) second (ruleWords m) length-second))
+        ∙ ap (λ ys. p .variables ∷ n ∷ length (rulesOf p) ∷ termCount p ∷ (costs ++ (padTo clauseWordCount (first ++ clauseWords) ++ ys)))
+        (pad-more ruleWordCount (5 * length (rulesOf p)) second (ruleWords m) length-second))
         ∙ put-counts _ _ _ _ _ _ _ _
         ∙ sym spelt
 
@@ -235,36 +236,36 @@ module _ (p : Plan) (l : LawfulPlan p) where
     pub new-terms : put (2 * termCount p) (termEntries (p .objective)) (termWords p) ≡ termWords (tightened p m)
     unfolding termWords
     new-terms =
-        pad-more 13_024 (2 * termCount p) (termEntries (allTerms p)) (termEntries (p .objective)) (omega (arith, length-termEntries (allTerms p), length-allTerms p))
-        ∙ ap (padTo 13_024) (sym (ap termEntries (terms-last p m) ∙ termEntries-append (allTerms p) (p .objective)))
+        pad-more termWordCount (2 * termCount p) (termEntries (allTerms p)) (termEntries (p .objective)) (omega (arith, length-termEntries (allTerms p), length-allTerms p))
+        ∙ ap (padTo termWordCount) (sym (ap termEntries (terms-last p m) ∙ termEntries-append (allTerms p) (p .objective)))
 
   -- Another bound is one word written over the last rule's entry.
   upper-word : (m k : ℤ) → put 4 (unsigned m ∷ []) (ruleWords k) ≡ ruleWords m
   unfolding put front
   upper-word m k = refl
 
-  upper-padded : (m k : ℤ) → put (5 * length (rulesOf p) + 4) (unsigned m ∷ []) (padTo 5_125 (second ++ ruleWords k)) ≡ padTo 5_125 (second ++ ruleWords m)
-  unfolding padTo
+  upper-padded : (m k : ℤ) → put (5 * length (rulesOf p) + 4) (unsigned m ∷ []) (padTo ruleWordCount (second ++ ruleWords k)) ≡ padTo ruleWordCount (second ++ ruleWords m)
+  unfolding padWith
   upper-padded m k =
       let a = length-append second (ruleWords k) in
       let b = length-append second (ruleWords m) in
       let e : length (second ++ ruleWords k) ≡ length (second ++ ruleWords m) = omega arith in
       put-inside (5 * length (rulesOf p) + 4) (unsigned m ∷ []) (second ++ ruleWords k) _ (omega (arith, length-second))
-      ∙ ap (λ xs. xs ++ replicate (5_125 - length (second ++ ruleWords k)) 0)
+      ∙ ap (λ xs. xs ++ replicate (ruleWordCount - length (second ++ ruleWords k)) 0)
       (put-behind (5 * length (rulesOf p)) 4 (unsigned m ∷ []) second (ruleWords k) length-second ∙ ap (λ ws. second ++ ws) (upper-word m k))
-      ∙ ap (λ n. second ++ ruleWords m ++ replicate (5_125 - n) 0) e
+      ∙ ap (λ n. second ++ ruleWords m ++ replicate (ruleWordCount - n) 0) e
 
-  pub other-table : (m k : ℤ) → put (1_546 + 5 * length (rulesOf p)) (unsigned m ∷ []) (tableWords (tightened p k)) ≡ tableWords (tightened p m)
+  pub other-table : (m k : ℤ) → put (ruleUpperAt (length (rulesOf p))) (unsigned m ∷ []) (tableWords (tightened p k)) ≡ tableWords (tightened p m)
   other-table m k =
-      let e : 1_546 + 5 * length (rulesOf p) ≡ 1_542 + (5 * length (rulesOf p) + 4) = omega arith in
+      let e : ruleUpperAt (length (rulesOf p)) ≡ rulesAt + (5 * length (rulesOf p) + 4) = omega arith in
       ap₂ (λ i t. put i (unsigned m ∷ []) t) e (spelt k)
-      ∙ put-rule _ _ _ _ (5 * length (rulesOf p) + 4) costs (padTo 1_026 (first ++ clauseWords)) _ (unsigned m ∷ []) length-costs (length-firstPart clauseWords (omega arith))
+      ∙ put-rule _ _ _ _ (5 * length (rulesOf p) + 4) costs (padTo clauseWordCount (first ++ clauseWords)) _ (unsigned m ∷ []) length-costs (length-firstPart clauseWords (omega arith))
       ∙ ap
       (λ ys. p .variables
       ∷ (length (p .clauses) + 1)
       ∷ (length (rulesOf p) + 1)
       ∷ (termCount p + length (p .objective))
-      ∷ (costs ++ (padTo 1_026 (first ++ clauseWords) ++ ys)))
+      ∷ (costs ++ (padTo clauseWordCount (first ++ clauseWords) ++ ys)))
       (upper-padded m k)
       ∙ sym (spelt m)
 

@@ -13,7 +13,7 @@ use Rattle.plpb.specs.Plan.{Plan}
 use Rattle.plpb.specs.Search.{tightened}
 use Rattle.plpb.specs.Tallies.{rulesOf}
 use Rattle.words.specs.Words.{wordBytes, wordAt, unsigned}
-use Rattle.words.specs.Writes.{put}
+use Rattle.words.specs.Writes.{put, putWords}
 use Rattle.words.proofs.Words.{length-wordBytes, words-read}
 use Rattle.words.proofs.Writes.{length-put}
 use Rattle.format.specs.Limits.{termCount, lawful, roomy}
@@ -22,10 +22,11 @@ use Rattle.format.proofs.Lawful.{LawfulPlan, RoomyPlan, plan-parts, roomy-parts
 use Rattle.format.proofs.ReadBack.{read-back}
 use Rattle.format.proofs.Sections.{length-tableWords, length-termWords, length-termEntries}
 use Rattle.format.proofs.WordBounds.{table-below}
-use Rattle.objective.specs.Added.{putWords, addedEntries, rebound, Boundable}
+use Rattle.objective.specs.Added.{addedEntries, rebound, Boundable}
 use Rattle.objective.proofs.Costs.{table-room, term-room, variables-in, objective-in, objective-short}
 use Rattle.objective.proofs.Parts.{put-table}
 use Rattle.objective.proofs.Tightened.{room-tightened, clauseWords, ruleWords, countWords, new-table, new-terms, rule-count, other-table, same-terms}
+use Rattle.format.specs.Layout.{clausesAt, lastUpperAt, ruleRoom, ruleUpperAt, rulesAt, tableWordCount, termWordCount}
 
 -- ---- a table that holds a plan's words
 
@@ -33,7 +34,7 @@ starts : (n : ℕ) (s bs : List ℕ) → take n s ≡ bs → s ≡ bs ++ drop n 
 starts n s bs e = sym (take-append-drop n s) ∙ ap (λ xs. xs ++ drop n s) e
 
 module _ (q : Plan) (l : RoomyPlan q) (tables : List ℕ) (h : take tableSize tables ≡ wordBytes (tableWords q)) where
-  word-in : (i : ℕ) → i < 6_667 → wordAt tables i ≡ getD (tableWords q) i 0
+  word-in : (i : ℕ) → i < tableWordCount → wordAt tables i ≡ getD (tableWords q) i 0
   word-in i u =
       let n = length-tableWords q l in
       words-read (tableWords q) tables i (table-below q l) (rw n h) (omega arith)
@@ -87,9 +88,9 @@ module _ (p : Plan) (t : T (lawful p)) (tables : List ℕ) (h : take tableSize t
   added-table m =
       let rest = drop tableSize tables in
       let w = tableWords p in
-      let c = 516 + 2 * length (p .clauses) in
-      let r = 1_542 + 5 * length (rulesOf p) in
-      let n : length w ≡ 6_667 = length-tableWords p rp in
+      let c = clausesAt + 2 * length (p .clauses) in
+      let r = rulesAt + 5 * length (rulesOf p) in
+      let n : length w ≡ tableWordCount = length-tableWords p rp in
       let a : c + 2 ≤ length w = omega (arith, lp .clauseCount) in
       let na : length (put c (clauseWords p lp) w) ≡ length w = length-put c (clauseWords p lp) w a in
       let b : r + 5 ≤ length (put c (clauseWords p lp) w) = omega (arith, lp .ruleCount) in
@@ -107,7 +108,7 @@ pub added-terms :
     → putWords (2 * termCount p) (termEntries (p .objective)) terms ≡ wordBytes (termWords (tightened p m)) ++ drop termSize terms
 added-terms p t terms h m =
     let l = plan-parts p t in
-    let n : length (termWords p) ≡ 13_024 = length-termWords p (room-for p l) in
+    let n : length (termWords p) ≡ termWordCount = length-termWords p (room-for p l) in
     let short = objective-short p (lawful-roomy p t) in
     ap (putWords (2 * termCount p) (termEntries (p .objective))) (starts termSize terms _ h)
     ∙ put-table (2 * termCount p) (termEntries (p .objective)) (termWords p) (drop termSize terms) (omega (arith, length-termEntries (p .objective), l .terms, l .high))
@@ -168,11 +169,6 @@ module _ (tables terms : List ℕ) (b : Boundable tables terms) where
 
 -- A lawful plan, and tables that hold it.
 module _ (p : Plan) (t : T (lawful p)) (tables terms : List ℕ) (h : Holds p tables terms) where
-  pub boundable : Boundable tables terms
-  boundable =
-      let e = read-back p tables terms (lawful-roomy p t) h in
-      record { lawful = rw e t; holds = rw e h }
-
   -- What `add_bound` leaves is the tables of that plan with the added clause, where the objective has a term, as a rule must.
   module _ (some : 0 < length (p .objective)) (m : ℤ) (within : natAbs m ≤ 1_000_000_000) (out more : List ℕ)
       (e : out ≡ wordBytes (tableWords (tightened (planOfTables tables terms) m)) ++ drop tableSize tables)
@@ -182,9 +178,6 @@ module _ (p : Plan) (t : T (lawful p)) (tables terms : List ℕ) (h : Holds p ta
       bound-holds =
           let b = read-back p tables terms (lawful-roomy p t) h in
           both-hold (tightened p m) (roomy-tightened p t some m within) out more _ _ (rw b at e) (rw b at f)
-
-      pub bound-back : planOfTables out more ≡ tightened p m
-      bound-back = read-back (tightened p m) out more (roomy-tightened p t some m within) bound-holds
 
 -- ---- another bound
 
@@ -196,21 +189,18 @@ unfolding rebound
 rebound-table p t some k within tables h m =
     let l = plan-parts p t in
     let room = room-tightened p l some k within in
-    let n : length (tableWords (tightened p k)) ≡ 6_667 = length-tableWords (tightened p k) room in
+    let n : length (tableWords (tightened p k)) ≡ tableWordCount = length-tableWords (tightened p k) room in
     let r : wordAt tables 2 ≡ length (rulesOf p) + 1 = rules-in (tightened p k) room tables h ∙ rule-count p l k in
-    let e : 1_541 + 5 * wordAt tables 2 ≡ 1_546 + 5 * length (rulesOf p) = omega arith in
+    let e : lastUpperAt (wordAt tables 2) ≡ ruleUpperAt (length (rulesOf p)) = omega arith in
     ap₂ (λ i s. putWords i (unsigned m ∷ []) s) e (starts tableSize tables _ h)
-    ∙ put-table (1_546 + 5 * length (rulesOf p)) (unsigned m ∷ []) (tableWords (tightened p k)) (drop tableSize tables) (omega (arith, l .ruleCount))
+    ∙ put-table (ruleUpperAt (length (rulesOf p))) (unsigned m ∷ []) (tableWords (tightened p k)) (drop tableSize tables) (omega (arith, l .ruleCount))
     ∙ ap (λ ws. wordBytes ws ++ drop tableSize tables) (other-table p l m k)
 
 -- Tables that hold a plan with an added clause hold it with the other bound afterwards.
 module _ (p : Plan) (t : T (lawful p)) (some : 0 < length (p .objective)) (k m : ℤ) (within : natAbs k ≤ 1_000_000_000) (within′ : natAbs m ≤ 1_000_000_000)
     (tables terms : List ℕ) (h : Holds (tightened p k) tables terms)
   where
-    pub rebound-room : tableSize ≤ length tables
-    rebound-room = table-room (tightened p k) tables terms (roomy-tightened p t some k within) h
-
-    pub rebound-rules : wordAt tables 2 ≤ 1_025
+    pub rebound-rules : wordAt tables 2 ≤ ruleRoom
     unfolding Holds
     rebound-rules =
         let room = room-tightened p (plan-parts p t) some k within in

@@ -5,15 +5,11 @@ use mathlib.Core.List.{List, [], _∷_}
 use lib.Dec.{T}
 use lib.IntN.{ℤ}
 use Rattle.plpb.specs.Plan.{Term}
-use Rattle.words.specs.Words.{wordBytes, wordAt, signed, unsigned}
-use Rattle.words.specs.Writes.{put}
+use Rattle.words.specs.Words.{wordAt, signed, unsigned}
+use Rattle.words.specs.Writes.{putWords}
 use Rattle.format.specs.Limits.{lawful}
-use Rattle.format.specs.Tables.{Holds, planOfTables}
-use Rattle.format.proofs.Objective.{sparse}
-
--- Words written over those of a table from an index on.
-unfoldable pub putWords : ℕ → List ℕ → List ℕ → List ℕ
-putWords i ws s = put (4 * i) (wordBytes ws) s
+use Rattle.format.specs.Tables.{Holds, planOfTables, sparse}
+use Rattle.format.specs.Layout.{clausesAt, lastUpperAt, rulesAt}
 
 -- The objective's terms of the k variables above v.
 unfoldable pub termsAbove : List ℕ → ℕ → ℕ → List Term
@@ -23,12 +19,12 @@ termsAbove tables v k = sparse (λ x. signed (wordAt tables (3 + x))) v k
 unfoldable pub addedEntries : ℕ → ℕ → List ℕ → List ℕ
 addedEntries count bound s =
     putWords 1 ((wordAt s 1 + 1) ∷ (wordAt s 2 + 1) ∷ (wordAt s 3 + count) ∷ [])
-    (putWords (1_542 + 5 * wordAt s 2) (wordAt s 3 ∷ count ∷ 2 ∷ 0 ∷ bound ∷ [])
-    (putWords (516 + 2 * wordAt s 1) (wordAt s 2 ∷ 1 ∷ []) s))
+    (putWords (rulesAt + 5 * wordAt s 2) (wordAt s 3 ∷ count ∷ 2 ∷ 0 ∷ bound ∷ [])
+    (putWords (clausesAt + 2 * wordAt s 1) (wordAt s 2 ∷ 1 ∷ []) s))
 
 -- "Each added clause replaces the one before": the last rule's upper bound.
 unfoldable pub rebound : ℤ → List ℕ → List ℕ
-rebound m s = putWords (1_541 + 5 * wordAt s 2) (unsigned m ∷ []) s
+rebound m s = putWords (lastUpperAt (wordAt s 2)) (unsigned m ∷ []) s
 
 -- Tables of a lawful plan: they have room for the clause.
 pub record Boundable (tables terms : List ℕ) : Type 0 where

@@ -2,18 +2,15 @@
 -- Assumes nothing.
 use Prim.Native.Nat.{ℕ, zero, suc, _+_, _≤_, _<_}
 use mathlib.Core.Bool.{cond}
-use mathlib.Core.List.{List, map}
+use mathlib.Core.List.{List}
 use lib.Dec.{eqb}
 use lib.IntN.{ℤ, pos, natAbs, _+ℤ_}
-use lib.ListN.{length, getD, take}
+use lib.ListN.{length, getD}
 use Rattle.plpb.specs.Plan.{Assignment, total, negativePart, leastTotal}
 use Rattle.words.specs.Words.{wordAt, signed}
 use Rattle.format.specs.Limits.{maxVariables, maxWeight}
 use Rattle.format.specs.Tables.{objectiveOf}
-
--- The bits of the first n bytes that are lent as assignment, 1 for true.
-abbrev pub bits : ℕ → List ℕ → Assignment
-bits n bytes = map (λ b. eqb b 1) (take n bytes)
+use Rattle.format.specs.Layout.{clausesByte}
 
 -- What an assignment costs, and l(O), by the objective read back from the table.
 unfoldable pub costIn : List ℕ → Assignment → ℤ
@@ -40,5 +37,5 @@ sumFrom g i (suc k) = g i +ℤ sumFrom g (suc i) k
 -- A table that holds its objective, with coefficients within their range: so the sums fit 64 bits.
 pub record Summable (tables : List ℕ) : Type 0 where
   pub high : wordAt tables 0 ≤ maxVariables
-  pub room : 2_064 ≤ length tables
+  pub room : clausesByte ≤ length tables
   pub small : (i : ℕ) → i < wordAt tables 0 → natAbs (weightAt tables i) ≤ maxWeight

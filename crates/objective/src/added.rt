@@ -6,20 +6,14 @@ ghost use lib.IntN.{natAbs};
 ghost use lib.ListN.{length, drop};
 ghost use Rattle.plpb.specs.Search.{tightened};
 ghost use Rattle.words.specs.Words.{wordAt, wordBytes, unsigned};
-ghost use Rattle.format.specs.Limits.{maxBound};
+ghost use Rattle.words.specs.Writes.{putWords};
+ghost use Rattle.format.specs.Limits.{maxBound, maxVariables};
 ghost use Rattle.format.specs.Tables.{termEntries, objectiveOf, planOfTables, tableWords, termWords, tableSize, termSize};
-ghost use Rattle.objective.specs.Added.{putWords, termsAbove, addedEntries, rebound, Boundable};
-ghost use Rattle.format.specs.Layout.{clauseFirst, ruleFirst};
-use crate::writes::write_two;
-use crate::writes::write_word;
-
-// A count or an index as a word.
-fn narrow(n: usize) -> u32
-    requires { ⌜ n < 4294967296 ⌝ }
-    ensures { λ r. ⌜ r ≡ n ⌝ }
-{
-    n as u32
-}
+ghost use Rattle.objective.specs.Added.{termsAbove, addedEntries, rebound, Boundable};
+ghost use Rattle.format.specs.Layout.{clauseFirstAt, clauseRoom, clausesByte, ruleFirstAt, ruleRoom, termRoom};
+use words::narrow;
+use words::write_two;
+use words::write_word;
 
 // The word of a bound.
 fn bound_word(m: i64) -> u32
@@ -45,7 +39,7 @@ fn add_term(tables: &[u8], terms: &mut [u8], v: usize, at: usize) -> usize
 
 // Writes the objective's terms from term `first` on; answers where the next goes.
 fn add_terms(tables: &[u8], terms: &mut [u8], first: usize) -> usize
-    requires { ⌜ (wordAt (now tables) 0 ≤ 512) × (2064 ≤ length (now tables)) × (8 * (first + wordAt (now tables) 0) ≤ length (now terms)) ⌝ }
+    requires { ⌜ (wordAt (now tables) 0 ≤ maxVariables) × (clausesByte ≤ length (now tables)) × (8 * (first + wordAt (now tables) 0) ≤ length (now terms)) ⌝ }
     ensures { λ r. ⌜ (now (terms .exit) ≡ putWords (2 * first) (termEntries (objectiveOf (wordAt (now (tables .entry))))) (now (terms .entry)))
         × (r ≡ first + length (objectiveOf (wordAt (now (tables .entry))))) ⌝ }
 {
@@ -62,7 +56,7 @@ fn add_terms(tables: &[u8], terms: &mut [u8], first: usize) -> usize
 // A clause of one rule.
 fn add_clause(tables: &mut [u8], clauses: usize, rules: usize)
     requires { ⌜ (tableSize ≤ length (now tables)) × (clauses ≤ 512) × (rules ≤ 1024) ⌝ }
-    ensures { λ _. ⌜ now (tables .exit) ≡ putWords (clauseFirst clauses) (rules ∷ 1 ∷ []) (now (tables .entry)) ⌝ }
+    ensures { λ _. ⌜ now (tables .exit) ≡ putWords (clauseFirstAt clauses) (rules ∷ 1 ∷ []) (now (tables .entry)) ⌝ }
 {
     write_two(tables, format::CLAUSES + 2 * clauses, narrow(rules), 1);
 }
@@ -70,7 +64,7 @@ fn add_clause(tables: &mut [u8], clauses: usize, rules: usize)
 // A rule with an upper bound alone: mode 2, and 0 for the lower.
 fn add_rule(tables: &mut [u8], rules: usize, first: usize, count: usize, bound: u32)
     requires { ⌜ (tableSize ≤ length (now tables)) × (rules ≤ 1024) × (first ≤ 6000) × (count ≤ 512) ⌝ }
-    ensures { λ _. ⌜ now (tables .exit) ≡ putWords (ruleFirst rules) (first ∷ count ∷ 2 ∷ 0 ∷ bound ∷ []) (now (tables .entry)) ⌝ }
+    ensures { λ _. ⌜ now (tables .exit) ≡ putWords (ruleFirstAt rules) (first ∷ count ∷ 2 ∷ 0 ∷ bound ∷ []) (now (tables .entry)) ⌝ }
 {
     write_two(
         tables,
@@ -83,7 +77,7 @@ fn add_rule(tables: &mut [u8], rules: usize, first: usize, count: usize, bound: 
 }
 
 fn write_counts(tables: &mut [u8], clauses: usize, rules: usize, terms: usize)
-    requires { ⌜ (tableSize ≤ length (now tables)) × (clauses ≤ 513) × (rules ≤ 1025) × (terms ≤ 6512) ⌝ }
+    requires { ⌜ (tableSize ≤ length (now tables)) × (clauses ≤ clauseRoom) × (rules ≤ ruleRoom) × (terms ≤ termRoom) ⌝ }
     ensures { λ _. ⌜ now (tables .exit) ≡ putWords 1 (clauses ∷ rules ∷ terms ∷ []) (now (tables .entry)) ⌝ }
 {
     write_two(tables, 1, narrow(clauses), narrow(rules));
@@ -119,9 +113,9 @@ pub fn add_bound(tables: &mut [u8], terms: &mut [u8], m: i64)
 
 // Another bound in the clause that was added.
 pub fn set_bound(tables: &mut [u8], m: i64)
-    requires { ⌜ (tableSize ≤ length (now tables)) × (wordAt (now tables) 2 ≤ 1025) × (natAbs m ≤ maxBound) ⌝ }
+    requires { ⌜ (tableSize ≤ length (now tables)) × (wordAt (now tables) 2 ≤ ruleRoom) × (natAbs m ≤ maxBound) ⌝ }
     ensures { λ _. ⌜ now (tables .exit) ≡ rebound m (now (tables .entry)) ⌝ }
 {
     let rules = words::index(tables, 2);
-    write_word(tables, 1541 + 5 * rules, bound_word(m));
+    write_word(tables, format::LAST_UPPER + 5 * rules, bound_word(m));
 }

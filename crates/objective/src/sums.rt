@@ -7,7 +7,8 @@ ghost use lib.IntN.{pos};
 ghost use lib.ListN.{length};
 ghost use Rattle.plpb.specs.Plan.{negativePart};
 ghost use Rattle.words.specs.Words.{wordAt};
-ghost use Rattle.objective.specs.Sums.{bits, costIn, floorIn, weightAt, shareAt, leastAt, Summable};
+ghost use Rattle.format.specs.Assignment.{bitsOf};
+ghost use Rattle.objective.specs.Sums.{costIn, floorIn, weightAt, shareAt, leastAt, Summable};
 
 // A signed number in 64 bits.
 fn wide(v: i32) -> i64
@@ -56,7 +57,7 @@ fn least(tables: &[u8], i: usize) -> i64
 // What an assignment costs.
 pub fn cost(tables: &[u8], assignment: &[u8]) -> i64
     requires { ⌜ Summable (now tables) × (wordAt (now tables) 0 ≤ length (now assignment)) ⌝ }
-    ensures { λ r. ⌜ r ≡ costIn (now (tables .entry)) (bits (wordAt (now (tables .entry)) 0) (now (assignment .entry))) ⌝ }
+    ensures { λ r. ⌜ r ≡ costIn (now (tables .entry)) (bitsOf (wordAt (now (tables .entry)) 0) (now (assignment .entry))) ⌝ }
 {
     let n = words::index(tables, 0);
     let mut sum: i64 = 0;

@@ -2,15 +2,16 @@
 // Each function promises what the function that it calls promises.
 ghost use mathlib.Core.Path.{_≡_};
 ghost use Rattle.tallies.specs.Calls.{openRefusal, openTallies, callRefusal, flipAssignment, flipTallies, countsBreak, countsMake, lent};
-ghost use Rattle.walk.specs.Calls.{Searches, HandsOut, lentAll};
+ghost use Rattle.search.specs.Calls.{Searches, HandsOut, lentAll};
 ghost use Rattle.tables.specs.Load.{refusalOf, offsetOf, loading, tablesAfter, termsAfter};
 use calls::counts::counts;
 use calls::flip::flip;
 use calls::open::open;
+use search::Answer as Searched;
+use search::search;
+use settings::Settings;
 use tables::Answer;
 use tables::load;
-use walk::search::Answer as Searched;
-use walk::search::search;
 
 #[repr(C)]
 pub struct Loaded {
@@ -137,10 +138,12 @@ pub extern "C" fn planner_search(
         tables,
         terms,
         numbers,
-        noise,
-        tries,
-        flips,
-        mode,
+        Settings {
+            noise,
+            tries,
+            flips,
+            mode,
+        },
         assignment,
         work_tables,
         work_terms,

@@ -1,7 +1,7 @@
 -- Laws of binomials: vanishing, absorption, the step from one lower number to the next, symmetry, how they grow, and a form that computes quickly.
 -- Assumes nothing.
 use Prim.Native.Nat.{ℕ, zero, suc, _+_, _*_, _-_, _/_, _≤_, _<_}
-use native.Mathlib.Nat.{zero-add, suc-add, mul-comm, mul-sub, le-refl, le-trans, mul-le-mul-left, le-of-mul-le-mul-left, lt-of-mul-lt-mul-left, lt-of-lt-of-le, eq-or-lt-of-le, div-eq-of-eq-mul-right, sub-add-cancel}
+use native.Mathlib.Nat.{zero-add, suc-add, mul-comm, mul-sub, le-refl, le-trans, mul-le-mul-left, le-of-mul-le-mul-left, lt-of-lt-of-le, eq-or-lt-of-le, div-eq-of-eq-mul-right, sub-add-cancel}
 use native.Mathlib.Omega.{arith}
 use lib.Dec.{lit<}
 use mathlib.Core.Logic.{⊎-elim}
@@ -100,16 +100,6 @@ unfolding binom
 binom-positive n zero h = omega arith
 binom-positive zero (suc k) h = omega arith
 binom-positive (suc n) (suc k) h = omega (arith, binom-positive n k (omega arith))
-
--- Both growths are strict, in the upper number from k − 1 on, in the lower one until the two middles.
-pub binom-suc-strict : (n k : ℕ) → k ≤ n → binom n (suc k) < binom (suc n) (suc k)
-unfolding binom
-binom-suc-strict n k h = omega (arith, binom-positive n k h)
-
-pub binom-rises-strictly : (n k : ℕ) → suc k < n - k → binom n k < binom n (suc k)
-binom-rises-strictly n k h =
-    let wide : binom n k * suc (suc k) ≤ binom n k * (n - k) = mul-le-mul-left (binom n k) h in
-    lt-of-mul-lt-mul-left (suc k) (omega (arith, wide, next-lower n k, binom-positive n k (omega arith)))
 
 -- w more to choose from, of which one at least is taken: C(m + w + 1, k + 1) − C(m, k + 1) is at least C(m + w, k).
 pub binom-gain : (m w k : ℕ) → binom m (suc k) + binom (m + w) k ≤ binom (suc (m + w)) (suc k)

@@ -29,20 +29,12 @@ pub capped-reaches : (n : ℕ) → cap ≤ capped n → cap ≤ n
 unfolding capped
 capped-reaches n h = omega arith
 
-pub capped-le : (n : ℕ) → capped n ≤ n
-unfolding capped
-capped-le n = omega arith
-
 pub capped-le-cap : (n : ℕ) → capped n ≤ cap
 unfolding capped
 capped-le-cap n = omega arith
 
 pub capped-twice : (n : ℕ) → capped (capped n) ≡ capped n
 capped-twice n = capped-small (capped n) (capped-le-cap n)
-
-pub capped-mono : {a b : ℕ} → a ≤ b → capped a ≤ capped b
-unfolding capped
-capped-mono {a} {b} h = omega arith
 
 pub capped-zero : capped 0 ≡ 0
 unfolding capped

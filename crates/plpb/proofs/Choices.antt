@@ -1,12 +1,12 @@
 -- How many choices of k pass a test everywhere: Pascal's rule is the rule by which `choose` goes on.
-use Prim.Native.Nat.{ℕ, zero, suc, _+_, _≤_, _<_}
-use native.Mathlib.Nat.{zero-add, not-suc-le-zero, le-of-suc-le-suc}
+use Prim.Native.Nat.{ℕ, zero, suc, _+_}
+use native.Mathlib.Nat.{zero-add}
 use native.Mathlib.Numerals.{one-add}
 use native.Mathlib.Omega.{arith}
 use mathlib.Core.Path.{_≡_, refl, sym, ap, ap₂, _∙_}
 use mathlib.Core.Bool.{Bool, true, false, not, cond}
 use mathlib.Core.List.{List, [], _∷_, map}
-use lib.Dec.{ltb, eqb, lit<}
+use lib.Dec.{ltb, eqb}
 use borrow.Author.Tests.{ltb-true, ltb-false, eq-eqb, ne-eqb}
 use lib.ListN.{length, length-append, length-map, length-replicate, replicate}
 use Rattle.plpb.specs.Lists.{_and_, count, all, sumBy}
@@ -16,6 +16,7 @@ use Rattle.plpb.specs.Expansion.{choose, choices}
 use Rattle.plpb.specs.Equations.{binom, over}
 use Rattle.plpb.proofs.Lists.{count-nil, count-cons, count-append, count-map, count-same, count-false, count-not, count-replicate, true-and, false-and, not-not}
 use Rattle.plpb.proofs.Normal.{N-and-P}
+use Rattle.plpb.proofs.Binomial.{binom-vanishes, binom-positive}
 
 -- ---- choices
 
@@ -49,25 +50,13 @@ count-choices p (present k) ks = count-choose p k ks
 
 -- ---- binomials
 
-pub binom-none : (n k : ℕ) → n < k → binom n k ≡ 0
-unfolding binom
-binom-none n zero h = absurd (not-suc-le-zero h)
-binom-none zero (suc k) h = refl
-binom-none (suc n) (suc k) h = omega (arith, binom-none n k (le-of-suc-le-suc h), binom-none n (suc k) (omega arith))
-
-pub binom-some : (n k : ℕ) → k ≤ n → 0 < binom n k
-unfolding binom
-binom-some n zero h = lit< tt
-binom-some zero (suc k) h = absurd (not-suc-le-zero h)
-binom-some (suc n) (suc k) h = omega (arith, binom-some n k (le-of-suc-le-suc h))
-
 -- There is no choice exactly where fewer than k are there to choose from.
 pub binom-zero : (n k : ℕ) → eqb (binom n k) 0 ≡ ltb n k
 binom-zero n k = at (ltb n k) refl
   where
     at : (b : Bool) → ltb n k ≡ b → eqb (binom n k) 0 ≡ b
-    at true e = eq-eqb (binom n k) 0 (binom-none n k (ltb-true n k e))
-    at false e = ne-eqb (binom n k) 0 (λ z. omega (arith, binom-some n k (ltb-false n k e)))
+    at true e = eq-eqb (binom n k) 0 (binom-vanishes n k (ltb-true n k e))
+    at false e = ne-eqb (binom n k) 0 (λ z. omega (arith, binom-positive n k (ltb-false n k e)))
 
 -- ---- copies
 

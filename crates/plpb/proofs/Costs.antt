@@ -11,9 +11,10 @@ use lib.IntN.{ℤ, pos, negsuc, natAbs, predℤ, subℕ, suc-pred, _+ℤ_, _-ℤ
 use lib.Signed.{leZ, ltZ}
 use Rattle.plpb.specs.Lists.{_and_, _or_, any, all}
 use Rattle.plpb.specs.Plan.{Term, Plan, Assignment, value, total, atLeast, atMost, ruleHolds, clauseHolds, satisfies, cost, negativePart, leastTotal, floorCost}
-use Rattle.plpb.specs.Search.{tightened, third, lbsBound, linearBound, atFloor, gap}
+use Rattle.plpb.specs.Settings.{Mode, linear, lbs}
+use Rattle.plpb.specs.Search.{tightened, third, lbsBound, linearBound, boundIn, atFloor, gap}
 use Rattle.plpb.proofs.Integers.{ltZ-suc, ltZ-shift, leZ-difference, leZ-refl, leZ-antisym, leZ-add, leZ-ltZ-trans}
-use Rattle.plpb.proofs.Lists.{T-true, false-T, and-left, and-right, and-both, and-true, or-false, all-append}
+use Rattle.plpb.proofs.Lists.{T-true, false-T, is-true, and-left, and-right, and-both, and-true, or-false, all-append}
 
 -- No assignment costs less than l(O): each term gives its weight or nothing.
 negative-part : (b : Bool) (w : ℤ) → T (leZ (negativePart w) (cond b w (pos 0)))
@@ -45,6 +46,10 @@ gap-zero p a e = sym (gap-cost p a) ∙ ap (λ n. floorCost p +ℤ pos n) e ∙ 
 pub at-floor : (p : Plan) (a : Assignment) → atFloor p a ≡ true → cost p a ≡ floorCost p
 unfolding atFloor
 at-floor p a e = leZ-antisym (cost p a) (floorCost p) (and-left _ _ (T-true e)) (floor-below p a)
+
+pub floor-at : (p : Plan) (a : Assignment) → cost p a ≡ floorCost p → atFloor p a ≡ true
+unfolding atFloor _and_
+floor-at p a e = rw (e, is-true (leZ (floorCost p) (floorCost p)) (leZ-refl (floorCost p))) refl
 
 pub above-floor : (p : Plan) (a : Assignment) → atFloor p a ≡ false → floorCost p ≢ cost p a
 unfolding atFloor
@@ -104,6 +109,12 @@ lbs-less l v h d =
     let z : g ≢ 0 = λ n. d (sym (+ℤ-idr l) ∙ ap (λ k. l +ℤ pos k) (sym n) ∙ e) in
     subst (λ w. T (ltZ (lbsBound l w) w)) e
     (rw (lbs-gap l g, ltZ-shift l (pos (2 * g / 3)) (pos g)) (lt→ltb (2 * g / 3) g (omega arith)))
+
+-- Above l(O), each mode's bound lies below the cost.
+pub bound-less : (p : Plan) (a : Assignment) (mode : Mode) → atFloor p a ≡ false → T (ltZ (boundIn mode (floorCost p) (cost p a)) (cost p a))
+unfolding boundIn
+bound-less p a linear e = linear-less (cost p a)
+bound-less p a lbs e = lbs-less (floorCost p) (cost p a) (floor-below p a) (above-floor p a e)
 
 -- A third rounds down: 3·⌊z/3⌋ ≤ z < 3·⌊z/3⌋ + 3.
 pub third-below : (z : ℤ) → T (leZ (pos 3 *ℤ third z) z)

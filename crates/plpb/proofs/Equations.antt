@@ -14,7 +14,7 @@ use Rattle.plpb.specs.Lists.{_and_, count, all, sumBy}
 use Rattle.plpb.specs.Plan.{Bound, Term, Rule, Clause, Plan, Assignment, flip, risingAbove, rising, numbersRise}
 use Rattle.plpb.specs.Normal.{Literal, opposite, literal, literalTrue, size, P, N, copies, sizeA, sizeB}
 use Rattle.plpb.specs.Expansion.{Part, choices, parts, expandClause, spoils, mends, leaves, breakCount, makeCount}
-use Rattle.plpb.specs.Equations.{over, Standing, out, on, off, standing, Shares, shares, sharesOf, product, clauseBreak, clauseMake, breakSum, makeSum}
+use Rattle.plpb.specs.Equations.{over, Standing, out, on, off, standing, lost, gained, Shares, shares, sharesOf, product, clauseBreak, clauseMake, breakSum, makeSum}
 use Rattle.plpb.proofs.Lists.{and-left, and-right, and-not-self, not-self-and, all-and, count-append, count-map, count-same, count-split, count-split-right, sumBy-each}
 use Rattle.plpb.proofs.Choices.{count-choices, count-copies, true-copies, false-copies, opposite-false, false-opposites}
 use Rattle.plpb.proofs.Theorem2.{false-part}
@@ -22,17 +22,6 @@ use Rattle.plpb.proofs.Theorem1.{isFalse, spoiled-and-left, mended-and-
 use Rattle.plpb.proofs.Flip.{flip-literal-same, flip-literal-other}
 
 -- ---- the copies that a flip turns over
-
--- The weight whose literals a flip makes false, and the weight whose literals it makes true.
-unfoldable pub lost : Standing → ℕ
-lost out = 0
-lost (on w) = w
-lost (off w) = 0
-
-unfoldable pub gained : Standing → ℕ
-gained out = 0
-gained (on w) = 0
-gained (off w) = w
 
 -- A test that only literals of one variable can pass.
 module _ (x : ℕ) (q : Literal → Bool) (away : (k : Literal) → k .variable ≢ x → q k ≡ false) where

@@ -12,8 +12,10 @@ use Rattle.plpb.specs.Count.{cap, capped, cappedBreak}
 use Rattle.plpb.specs.Tallies.{unsatisfied}
 use Rattle.plpb.specs.Numbers.{takeWords, takePick, startWords, bit, startOf}
 use Rattle.plpb.specs.Walk.{_>>=_, run}
+use Rattle.plpb.specs.Settings.{lbs, Settings}
+use Rattle.plpb.specs.Try.{begun, turnOver}
 use Rattle.plpb.specs.Choice.{choosable, pickFrom, leastBreak, withBreak, noisyChoice, choice}
-use Rattle.plpb.specs.Search.{lbs, Settings, reached, move, flipping, try, orElse, trying, call, tightened, third, lbsBound, linearBound, ended, atFloor, gap, after, linearSearch, lbsSearch, tighten, searchWalk, Answer, lastFind, costOf, answerOf, conclude, begin, search}
+use Rattle.plpb.specs.Search.{reached, turning, move, goOn, flipping, try, orElse, trying, call, tightened, third, lbsBound, linearBound, boundIn, ended, atFloor, gap, after, descending, linearSearch, lbsSearch, tighten, searchWalk, Answer, lastFind, costOf, answerOf, conclude, begin, search}
 
 unfoldable pub term : ℕ → ℕ → Term
 term x w = record { variable = x; weight = pos w }
@@ -45,6 +47,6 @@ unfolding term plan settings numbers answer
     choose choices parts joined expandClause expansion isTrue spoils breakCount
     cap capped cappedBreak unsatisfied takeWords takePick startWords bit startOf _>>=_ run
     choosable pickFrom leastBreak withBreak noisyChoice choice
-    move flipping try orElse trying call tightened third lbsBound linearBound atFloor gap after linearSearch lbsSearch tighten searchWalk
+    begun turnOver turning move goOn flipping try orElse trying call tightened third lbsBound linearBound boundIn atFloor gap after descending linearSearch lbsSearch tighten searchWalk
     lastFind costOf answerOf conclude begin search
 example = refl

@@ -1,80 +1,96 @@
--- What the last flip reaches is not looked at: a try of so many flips looks that often at most, since each look comes before a flip.
-use Prim.Native.Nat.{ℕ, zero, suc, _≤_, zero-le}
-use native.Mathlib.Omega.{arith}
-use native.Mathlib.Nat.{le-refl}
+-- What the last flip reaches is not looked at: each look comes before a flip, and a move itself looks at nothing.
+use Prim.Native.Nat.{ℕ, zero, suc}
 use mathlib.Core.Bool.{Bool, true, false, cond}
-use mathlib.Core.List.{List, []}
-use lib.ListN.{length}
+use mathlib.Core.List.{List, [], _∷_, _++_}
+use mathlib.Core.Path.{_≡_, refl, sym, ap, _∙_}
+use lib.ListN.{take}
+use lib.Seq.{take-nil}
+use Rattle.plpb.specs.Lists.{isEmpty}
 use Rattle.plpb.specs.Plan.{Plan, Assignment, satisfies}
 use Rattle.plpb.specs.Numbers.{Taken, taken, tooFew, takeWords, takePick}
-use Rattle.plpb.specs.Walk.{Walk, done, words, pick, look, flipped, found, _>>=_, looks}
-use Rattle.plpb.specs.Choice.{choice}
-use Rattle.plpb.specs.Search.{Settings, reached, move, flipping}
-use Rattle.plpb.proofs.Walks.{Draws, resumeLooks}
+use Rattle.plpb.specs.Walk.{Walk, done, words, pick, look, flipped, found, _>>=_, at, Outcome, ends, short, run, looks}
+use Rattle.plpb.specs.Settings.{Settings}
+use Rattle.plpb.specs.Try.{Try, turnOver}
+use Rattle.plpb.specs.Choice.{choosable, choice}
+use Rattle.plpb.specs.Search.{reached, Turn, stuck, turned, turning, move, goOn, flipping}
+use Rattle.plpb.specs.Sound.{heldAfter, held, LooksBeforeFlips}
+use Rattle.plpb.proofs.Walks.{Draws, resumeLooks, onwardLooks, looks-bind}
 use Rattle.plpb.proofs.Soundness.{pick-draws, choice-draws}
 
--- On no way does a walk look more than n times.
-unfoldable pub Sees : {A : Type 0} → ℕ → Walk A → Type 0
-Sees n (done a) = Unit {0}
-Sees n (words k f) = (ws : List ℕ) → Sees n (f ws)
-Sees n (pick k f) = (r : ℕ) → Sees n (f r)
-Sees n (look b w) = (m : ℕ) × (suc m ≤ n) × Sees m w
-Sees n (flipped w) = Sees n w
-Sees n (found b w) = Sees n w
+-- On no way does a walk look at anything.
+unfoldable pub Blind : {A : Type 0} → Walk A → Type 0
+Blind (done a) = Unit {0}
+Blind (words k f) = (ws : List ℕ) → Blind (f ws)
+Blind (pick k f) = (r : ℕ) → Blind (f r)
+Blind (look b w) = ⊥
+Blind (flipped w) = Blind w
+Blind (found b w) = Blind w
 
 module _ (ns : List ℕ) where
-  resume-sees : {X A : Type 0} (n : ℕ) (f : X → Walk A) (t : Taken X)
-      → ((x : X) (u : ℕ) → length (looks (f x) ns u) ≤ n) → length (resumeLooks f ns t) ≤ n
+  resume-blind : {X A : Type 0} (f : X → Walk A) (t : Taken X) → ((x : X) (u : ℕ) → looks (f x) ns u ≡ []) → resumeLooks f ns t ≡ []
   unfolding resumeLooks
-  resume-sees n f (taken x u) h = h x u
-  resume-sees n f (tooFew u) h = zero-le
+  resume-blind f (taken x u) h = h x u
+  resume-blind f (tooFew u) h = refl
 
-  pub sees-looks : {A : Type 0} (n : ℕ) (w : Walk A) (u : ℕ) → Sees n w → length (looks w ns u) ≤ n
-  unfolding Sees looks resumeLooks
-  sees-looks n (done a) u s = zero-le
-  sees-looks n (words k f) u s = resume-sees n f (takeWords k ns u) (λ ws v. sees-looks n (f ws) v (s ws))
-  sees-looks n (pick k f) u s = resume-sees n f (takePick k ns u) (λ r v. sees-looks n (f r) v (s r))
-  sees-looks n (look b w) u s = omega (arith, s .1, sees-looks (s .0) w u (s .2))
-  sees-looks n (flipped w) u s = sees-looks n w u s
-  sees-looks n (found b w) u s = sees-looks n w u s
+  pub blind-looks : {A : Type 0} (w : Walk A) (u : ℕ) → Blind w → looks w ns u ≡ []
+  unfolding Blind looks resumeLooks
+  blind-looks (done a) u b = refl
+  blind-looks (words k f) u b = resume-blind f (takeWords k ns u) (λ ws v. blind-looks (f ws) v (b ws))
+  blind-looks (pick k f) u b = resume-blind f (takePick k ns u) (λ r v. blind-looks (f r) v (b r))
+  blind-looks (look a w) u b = absurd b
+  blind-looks (flipped w) u b = blind-looks w u b
+  blind-looks (found a w) u b = blind-looks w u b
 
-draws-see : {A : Type 0} (n : ℕ) (w : Walk A) → Draws w → Sees n w
-unfolding Sees Draws
-draws-see n (done a) d = tt
-draws-see n (words k f) d = λ ws. draws-see n (f ws) (d ws)
-draws-see n (pick k f) d = λ r. draws-see n (f r) (d r)
-draws-see n (look b w) d = absurd d
-draws-see n (flipped w) d = absurd d
-draws-see n (found b w) d = absurd d
+draws-blind : {A : Type 0} (w : Walk A) → Draws w → Blind w
+unfolding Blind Draws
+draws-blind (done a) d = tt
+draws-blind (words k f) d = λ ws. draws-blind (f ws) (d ws)
+draws-blind (pick k f) d = λ r. draws-blind (f r) (d r)
+draws-blind (look b w) d = absurd d
+draws-blind (flipped w) d = absurd d
+draws-blind (found b w) d = absurd d
 
--- Behind a walk that does not look, no more looks than what follows has.
-bind-sees : {A B : Type 0} (n : ℕ) (k : A → Walk B) (w : Walk A) → Sees 0 w → ((a : A) → Sees n (k a)) → Sees n (w >>= k)
-unfolding Sees _>>=_
-bind-sees n k (done a) s h = h a
-bind-sees n k (words j f) s h = λ ws. bind-sees n k (f ws) (s ws) h
-bind-sees n k (pick j f) s h = λ r. bind-sees n k (f r) (s r) h
-bind-sees n k (look b w) s h = absurd (omega (arith, s .1))
-bind-sees n k (flipped w) s h = bind-sees n k w s h
-bind-sees n k (found b w) s h = bind-sees n k w s h
+bind-blind : {A B : Type 0} (k : A → Walk B) (w : Walk A) → Blind w → ((a : A) → Blind (k a)) → Blind (w >>= k)
+unfolding Blind _>>=_
+bind-blind k (done a) b h = h a
+bind-blind k (words j f) b h = λ ws. bind-blind k (f ws) (b ws) h
+bind-blind k (pick j f) b h = λ r. bind-blind k (f r) (b r) h
+bind-blind k (look a w) b h = b
+bind-blind k (flipped w) b h = bind-blind k w b h
+bind-blind k (found a w) b h = bind-blind k w b h
 
-move-sees : (s : Settings) (p : Plan) (a : Assignment) → Sees 0 (move s p a)
-unfolding move Sees
-move-sees s p a =
-    bind-sees 0 _ _ (draws-see 0 _ (pick-draws [] _))
-    (λ c. bind-sees 0 _ (choice p (s .noise) a c) (draws-see 0 _ (choice-draws p (s .noise) a c)) (λ x. tt))
+module _ (s : Settings) (p : Plan) (t : Try) where
+  turning-blind : (xs : List ℕ) → Blind (turning s p t xs)
+  unfolding turning
+  turning-blind xs = either (isEmpty xs)
+    where
+      either : (b : Bool) → Blind (cond b (done stuck) (choice s p t xs >>= (λ x. flipped (done (turned (turnOver t x))))))
+      either true = unfold Blind in tt
+      either false = bind-blind _ (choice s p t xs) (draws-blind _ (choice-draws s p t xs)) (λ x. unfold Blind in tt)
 
-look-sees : (s : Settings) (p : Plan) (left : ℕ) (a : Assignment) (b : Bool) → ((c : Assignment) → Sees left (flipping s p left c))
-    → Sees left (cond b (done (reached a)) (move s p a >>= flipping s p left))
-unfolding Sees
-look-sees s p left a true h = tt
-look-sees s p left a false h = bind-sees left (flipping s p left) (move s p a) (move-sees s p a) h
+  move-blind : Blind (move s p t)
+  unfolding move
+  move-blind = bind-blind _ _ (draws-blind _ (pick-draws [] _)) (λ c. turning-blind (choosable p c))
 
-flipping-sees : (s : Settings) (p : Plan) (left : ℕ) (a : Assignment) → Sees left (flipping s p left a)
-unfolding flipping Sees
-flipping-sees s p zero a = tt
-flipping-sees s p (suc left) a = (left, le-refl (suc left), look-sees s p left a (satisfies a p) (flipping-sees s p left))
+-- What is looked at behind a move is what the try holds behind it, but for the last.
+behind : (s : Settings) (p : Plan) (left : ℕ) (ns : List ℕ) (o : Outcome Turn)
+    → ((t : Try) (used : ℕ) → looks (flipping s p left t) ns used ≡ take left (held s p left t ns used))
+    → onwardLooks (goOn (flipping s p left)) ns o ≡ take left (heldAfter (λ t used. held s p left t ns used) o)
+unfolding onwardLooks goOn heldAfter looks
+behind s p left ns (ends stuck m) h = sym (take-nil left)
+behind s p left ns (ends (turned t) m) h = h t (m .used)
+behind s p left ns (short m) h = sym (take-nil left)
 
--- "The look comes before each flip, so what the last flip reaches is not looked at"
-pub looks-before-flips : (s : Settings) (p : Plan) (left : ℕ) (a : Assignment) (ns : List ℕ) (used : ℕ)
-    → length (looks (flipping s p left a) ns used) ≤ left
-looks-before-flips s p left a ns used = sees-looks ns left (flipping s p left a) used (flipping-sees s p left a)
+pub looks-before-flips : LooksBeforeFlips
+unfolding flipping held looks
+looks-before-flips s p zero t ns used = refl
+looks-before-flips s p (suc left) t ns used = ap (λ l. t .bits ∷ l) (either (satisfies (t .bits) p) (looks-before-flips s p left))
+  where
+    either : (b : Bool) → ((t : Try) (ns : List ℕ) (used : ℕ) → looks (flipping s p left t) ns used ≡ take left (held s p left t ns used))
+        → looks (cond b (done (reached (t .bits))) (move s p t >>= goOn (flipping s p left))) ns used
+        ≡ take left (cond b [] (heldAfter (λ next u. held s p left next ns u) (run (move s p t) ns (at used 0 []))))
+    either true h = sym (take-nil left)
+    either false h =
+        looks-bind (goOn (flipping s p left)) ns (move s p t) (at used 0 [])
+        ∙ ap (λ l. l ++ onwardLooks (goOn (flipping s p left)) ns (run (move s p t) ns (at used 0 []))) (blind-looks ns (move s p t) used (move-blind s p t))
+        ∙ behind s p left ns (run (move s p t) ns (at used 0 [])) (λ t u. h t ns u)

@@ -7,6 +7,8 @@ pub mod Flip
 pub mod Normal
 pub mod Choices
 pub mod Theorem2
+pub mod Tallies
+pub mod Book
 pub mod Theorem1
 pub mod Equations
 pub mod Stars
@@ -14,4 +16,5 @@ pub mod Costs
 pub mod Walks
 pub mod Soundness
 pub mod LastFlip
+pub mod Choice
 pub mod Example

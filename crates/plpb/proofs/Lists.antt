@@ -262,9 +262,6 @@ module _ {A : Type 0} where
   all-concat p [] = refl
   all-concat p (xs ∷ xss) = all-append p xs (concat xss) ∙ ap (λ b. all p xs and b) (all-concat p xss)
 
-  pub any-same : (p q : A → Bool) (xs : List A) → ((x : A) → p x ≡ q x) → any p xs ≡ any q xs
-  any-same p q xs h = ap (λ t. any t xs) (fun-ext h)
-
   pub all-same : (p q : A → Bool) (xs : List A) → ((x : A) → p x ≡ q x) → all p xs ≡ all q xs
   all-same p q xs h = ap (λ t. all t xs) (fun-ext h)
 

@@ -10,7 +10,7 @@ use lib.IntN.{ℤ, pos, negsuc, negℤ, natAbs, _+ℤ_, _-ℤ_, +ℤ-assoc, +ℤ
 use lib.Signed.{leZ}
 use Rattle.plpb.specs.Lists.{sumBy}
 use Rattle.plpb.specs.Plan.{Bound, absent, present, mapBound, Term, Rule, Assignment, value, total, atLeast, atMost}
-use Rattle.plpb.specs.Normal.{literal, literalTrue, isNegative, size, rise, raised, K, P, N, sizeA, sizeB}
+use Rattle.plpb.specs.Normal.{literal, literalTrue, isNegative, size, rise, raised, K, P, N, sizeA, sizeB, belowSize}
 use Rattle.plpb.proofs.Integers.{leZ-suc, leZ-plus-both}
 
 -- ---- N and P together are K
@@ -59,11 +59,6 @@ pub meets-upper : (a : Assignment) (ts : List Term) (u : ℤ) → leZ (total a t
 meets-upper a ts u = sym (leZ-plus-both (total a ts) u (pos (rise ts))) ∙ ap (λ z. leZ z (u +ℤ pos (rise ts))) (raised-total a ts)
 
 -- ---- in terms of the sizes
-
--- n is below a size; an absent bound has no size to reach.
-unfoldable pub belowSize : ℕ → Bound ℕ → Bool
-belowSize n absent = true
-belowSize n (present k) = ltb n k
 
 below-raised : (n : ℕ) (z : ℤ) → ltb n (raised z) ≡ leZ (pos (suc n)) z
 unfolding raised

@@ -1,6 +1,6 @@
 -- Every line of the star table holds: by computing the real expansion, and by the proved formula (11) where that has five thousand million clauses.
 -- Assumes nothing.
-use Prim.Native.Nat.{ℕ, zero, suc, _-_}
+use Prim.Native.Nat.{ℕ, suc, _-_}
 use native.Mathlib.Omega.{arith}
 use mathlib.Core.Path.{_≡_, refl, _∙_}
 use mathlib.Core.List.{[], _∷_}
@@ -29,17 +29,13 @@ use Rattle.plpb.specs.Stars.{
   bothZero,
   makes,
 }
+use Rattle.plpb.proofs.Binomial.{binom-one}
 use Rattle.plpb.proofs.Equations.{make-formula}
 
 -- Pascal's rule at k = 2: n + 1 over 2 is n more than n over 2.
-over-one : (n : ℕ) → binom n 1 ≡ n
-unfolding binom
-over-one zero = refl
-over-one (suc n) = omega (arith, over-one n)
-
 pairs-more : (n : ℕ) → binom (suc n) 2 - binom n 2 ≡ n
 unfolding binom
-pairs-more n = omega (arith, over-one n)
+pairs-more n = omega (arith, binom-one n)
 
 heavy-sum : makeSum (onlyClause heavy (at (1 ∷ 1 ∷ []))) (at (1 ∷ 1 ∷ [])) 1 ≡ binom 100_001 2 - binom 100_000 2
 unfolding makeSum clauseMake product sharesOf shares over standing sumBy onlyClause heavy atMostRule _·_ at literalTrue literal isNegative value size K P N sizeA sizeB mapBound raised rise

@@ -7,10 +7,10 @@ use mathlib.Core.List.{List, [], _∷_, _++_, map}
 use lib.Dec.{eqb}
 use Rattle.plpb.specs.Lists.{_and_, _or_, count, any, all}
 use Rattle.plpb.specs.Plan.{Bound, absent, present, Rule, Clause, Plan, Assignment, total, atLeast, atMost, ruleHolds, clauseHolds, satisfies}
-use Rattle.plpb.specs.Normal.{Literal, opposite, literalTrue, copies, sizeA, sizeB}
+use Rattle.plpb.specs.Normal.{Literal, opposite, literalTrue, copies, sizeA, sizeB, belowSize}
 use Rattle.plpb.specs.Expansion.{Part, choose, choices, parts, joined, expandClause, expansion, isTrue}
 use Rattle.plpb.proofs.Lists.{count-same, not-any, all-by-count, all-append, all-concat, all-map, all-same, all-or-left, all-or-right, any-append}
-use Rattle.plpb.proofs.Normal.{belowSize, lower-by-size, upper-by-size}
+use Rattle.plpb.proofs.Normal.{lower-by-size, upper-by-size}
 use Rattle.plpb.proofs.Choices.{count-choose, binom-zero, false-copies, false-opposites}
 
 -- ---- rules

@@ -9,21 +9,8 @@ use lib.Dec.{leb}
 use lib.ListN.{length, take, drop, getD}
 use Rattle.plpb.specs.Plan.{Assignment}
 use Rattle.plpb.specs.Numbers.{Taken, taken, tooFew, takeWords, takePick}
-use Rattle.plpb.specs.Walk.{Walk, done, words, pick, look, flipped, found, _>>=_, Mark, Outcome, ends, short, run, looks}
+use Rattle.plpb.specs.Walk.{Walk, done, words, pick, look, flipped, found, _>>=_, Mark, at, drawn, oneFlip, oneFind, Outcome, ends, short, run, looks}
 use Rattle.plpb.specs.Sound.{markOf}
-
-abbrev pub at : ℕ → ℕ → List Assignment → Mark
-at u f fs = record { used = u; flips = f; finds = fs }
-
--- The mark after numbers drawn, a flip, a find.
-abbrev pub drawn : ℕ → Mark → Mark
-drawn v m = at v (m .flips) (m .finds)
-
-abbrev pub turned : Mark → Mark
-turned m = at (m .used) (m .flips + 1) (m .finds)
-
-abbrev pub noted : Assignment → Mark → Mark
-noted b m = at (m .used) (m .flips) (b ∷ m .finds)
 
 -- What may be said of a mark and of what was looked at, the last look first.
 abbrev pub Claim : Type 1
@@ -67,8 +54,8 @@ module _ {A B : Type 0} (k : A → Walk B) (ns : List ℕ) where
   run-bind (words n f) m = resume-bind f m (takeWords n ns (m .used)) (λ ws m. run-bind (f ws) m)
   run-bind (pick n f) m = resume-bind f m (takePick n ns (m .used)) (λ r m. run-bind (f r) m)
   run-bind (look b w) m = run-bind w m
-  run-bind (flipped w) m = run-bind w (turned m)
-  run-bind (found b w) m = run-bind w (noted b m)
+  run-bind (flipped w) m = run-bind w (oneFlip m)
+  run-bind (found b w) m = run-bind w (oneFind b m)
 
   resume-looks : {X : Type 0} (f : X → Walk A) (m : Mark) (t : Taken X)
       → ((x : X) (m : Mark) → looks (f x >>= k) ns (m .used) ≡ looks (f x) ns (m .used) ++ onwardLooks k ns (run (f x) ns m))
@@ -83,8 +70,8 @@ module _ {A B : Type 0} (k : A → Walk B) (ns : List ℕ) where
   looks-bind (words n f) m = resume-looks f m (takeWords n ns (m .used)) (λ ws m. looks-bind (f ws) m)
   looks-bind (pick n f) m = resume-looks f m (takePick n ns (m .used)) (λ r m. looks-bind (f r) m)
   looks-bind (look b w) m = ap {B = List Assignment} (λ l. b ∷ l) (looks-bind w m)
-  looks-bind (flipped w) m = looks-bind w (turned m)
-  looks-bind (found b w) m = looks-bind w (noted b m)
+  looks-bind (flipped w) m = looks-bind w (oneFlip m)
+  looks-bind (found b w) m = looks-bind w (oneFind b m)
 
 -- What a need takes of N numbers, u of them used before: at least k, if it is met, and in any case no more than there are.
 unfoldable pub Spends : {X : Type 0} → ℕ → ℕ → ℕ → Taken X → Type 0
@@ -108,8 +95,8 @@ pick-spends ns u k = next-spend ns u 1 (getD ns u 0 % k) (leb (u + 1) (length ns
 -- What each step keeps, a run keeps.
 module _ (ns : List ℕ) (I : Mark → Type 0)
     (draw : (m : Mark) (v : ℕ) → m .used ≤ v → (m .used ≤ length ns → v ≤ length ns) → I m → I (drawn v m))
-    (turn : (m : Mark) → I m → I (turned m))
-    (note : (m : Mark) (b : Assignment) → I m → I (noted b m)) where
+    (turn : (m : Mark) → I m → I (oneFlip m))
+    (note : (m : Mark) (b : Assignment) → I m → I (oneFind b m)) where
   resume-keeps : {X A : Type 0} (f : X → Walk A) (k : ℕ) (m : Mark) (t : Taken X)
       → Spends (length ns) (m .used) k t → ((x : X) (m : Mark) → I m → I (markOf (run (f x) ns m))) → I m
       → I (markOf (resume f ns m t))
@@ -127,14 +114,8 @@ module _ (ns : List ℕ) (I : Mark → Type 0)
   run-keeps (found b w) m i = run-keeps w _ (note m b i)
 
 module _ {A : Type 0} (ns : List ℕ) (w : Walk A) (m : Mark) where
-  pub used-grows : m .used ≤ markOf (run w ns m) .used
-  used-grows = run-keeps ns (λ n. m .used ≤ n .used) (λ n v l k h. omega arith) (λ n h. h) (λ n b h. h) w m (omega arith)
-
   pub used-within : m .used ≤ length ns → markOf (run w ns m) .used ≤ length ns
   used-within h = run-keeps ns (λ n. n .used ≤ length ns) (λ n v l k h. k h) (λ n h. h) (λ n b h. h) w m h
-
-  pub flips-grow : m .flips ≤ markOf (run w ns m) .flips
-  flips-grow = run-keeps ns (λ n. m .flips ≤ n .flips) (λ n v l k h. h) (λ n h. omega arith) (λ n b h. h) w m (omega arith)
 
 -- A walk meets I and Q if, whatever numbers come, I holds wherever a need may not be met, and Q at its end.
 module _ {A : Type 0} (I : Claim) (Q : A → Claim) where
@@ -145,8 +126,8 @@ module _ {A : Type 0} (I : Claim) (Q : A → Claim) where
   Meets (pick k f) m ls =
       ((v : ℕ) → m .used ≤ v → I (drawn v m) ls) × ((r v : ℕ) → m .used + 1 ≤ v → Meets (f r) (drawn v m) ls)
   Meets (look b w) m ls = Meets w m (b ∷ ls)
-  Meets (flipped w) m ls = Meets w (turned m) ls
-  Meets (found b w) m ls = Meets w (noted b m) ls
+  Meets (flipped w) m ls = Meets w (oneFlip m) ls
+  Meets (found b w) m ls = Meets w (oneFind b m) ls
 
   -- .. which is then so of a run: I where the numbers were gone, Q where it ended.
   unfoldable pub Holds : Outcome A → List Assignment → Type 0

@@ -9,6 +9,8 @@ use Rattle.plpb.specs.Lists.{keep, isEmpty, row}
 use Rattle.plpb.specs.Plan.{Clause, Plan, Assignment, names}
 use Rattle.plpb.specs.Count.{cap, cappedBreak}
 use Rattle.plpb.specs.Walk.{Walk, done, pick, _>>=_}
+use Rattle.plpb.specs.Settings.{Settings}
+use Rattle.plpb.specs.Try.{Try}
 
 -- "the clause's variables, each once", in ascending order
 unfoldable pub choosable : Plan → Clause → List ℕ
@@ -28,14 +30,13 @@ unfoldable pub withBreak : Plan → Assignment → ℕ → List ℕ → List ℕ
 withBreak p a b xs = keep (λ x. eqb (cappedBreak p a x) b) xs
 
 -- "Otherwise a number r with r mod 1000 < noise leads to a pick among the least break counts, else to a pick among all."
-unfoldable pub noisyChoice : Plan → ℕ → Assignment → List ℕ → Walk ℕ
-noisyChoice p noise a xs = do
+unfoldable pub noisyChoice : Settings → Plan → Try → List ℕ → Walk ℕ
+noisyChoice s p t xs = do
   r ← pick 1_000 done
-  pickFrom 0 (cond (ltb r noise) (withBreak p a (leastBreak p a xs) xs) xs)
+  pickFrom 0 (cond (ltb r (s .noise)) (withBreak p (t .bits) (leastBreak p (t .bits) xs) xs) xs)
 
--- "if any has break count 0, pick among those"
-unfoldable pub choice : Plan → ℕ → Assignment → Clause → Walk ℕ
-choice p noise a c =
-    let xs = choosable p c in
-    let free = withBreak p a 0 xs in
-    cond (isEmpty free) (noisyChoice p noise a xs) (pickFrom 0 free)
+-- "Choice (Algorithm 2, SKC) among the clause's variables, each once: if any has break count 0, pick among those."
+unfoldable pub choice : Settings → Plan → Try → List ℕ → Walk ℕ
+choice s p t xs =
+    let free = withBreak p (t .bits) 0 xs in
+    cond (isEmpty free) (noisyChoice s p t xs) (pickFrom 0 free)

@@ -31,6 +31,17 @@ standing a x [] = out
 standing a x (t ∷ ts) =
     cond (eqb (t .variable) x) (cond (literalTrue a (literal t)) (on (size t)) (off (size t))) (standing a x ts)
 
+-- The weight whose literals a flip makes false, and the weight whose literals it makes true.
+unfoldable pub lost : Standing → ℕ
+lost out = 0
+lost (on w) = w
+lost (off w) = 0
+
+unfoldable pub gained : Standing → ℕ
+gained out = 0
+gained (on w) = 0
+gained (off w) = w
+
 -- "e, f and g are the numbers of its parts that a flip spoils, mends, or leaves unsatisfied"
 pub record Shares : Type 0 where
   pub e : ℕ

@@ -9,6 +9,8 @@ pub mod Tallies
 pub mod Book
 pub mod Numbers
 pub mod Walk
+pub mod Settings
+pub mod Try
 pub mod Choice
 pub mod Search
 pub mod Sound

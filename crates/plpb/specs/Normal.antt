@@ -3,10 +3,11 @@
 use Prim.Native.Nat.{ℕ, _+_, _-_}
 use mathlib.Core.Bool.{Bool, true, false, not, cond}
 use mathlib.Core.List.{List, [], _∷_, _++_}
+use lib.Dec.{ltb}
 use lib.IntN.{ℤ, pos, negsuc, natAbs, _+ℤ_, _-ℤ_}
 use lib.ListN.{replicate}
 use Rattle.plpb.specs.Lists.{sumBy}
-use Rattle.plpb.specs.Plan.{Bound, mapBound, Term, Rule, Assignment, value}
+use Rattle.plpb.specs.Plan.{Bound, absent, present, mapBound, Term, Rule, Assignment, value}
 
 -- A variable or its negation.
 pub record Literal : Type 0 where
@@ -56,6 +57,11 @@ sizeA r = mapBound (λ l. raised (pos (K (r .terms)) -ℤ (l +ℤ pos (rise (r .
 
 unfoldable pub sizeB : Rule → Bound ℕ
 sizeB r = mapBound (λ u. raised (u +ℤ pos (rise (r .terms)) +ℤ pos 1)) (r .upper)
+
+-- n is below a size; an absent bound has no size to reach.
+unfoldable pub belowSize : ℕ → Bound ℕ → Bool
+belowSize n absent = true
+belowSize n (present k) = ltb n k
 
 -- "each literal of weight w stands for w copies"
 unfoldable pub copies : List Term → List Literal

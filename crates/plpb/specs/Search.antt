@@ -7,45 +7,52 @@ use lib.IntN.{ℤ, pos, negsuc, natAbs, _+ℤ_, _-ℤ_, _*ℤ_}
 use lib.ListN.{length}
 use lib.Signed.{leZ}
 use Rattle.plpb.specs.Lists.{_and_, keep, isEmpty}
-use Rattle.plpb.specs.Plan.{absent, present, Plan, Assignment, flip, satisfies, cost, floorCost}
+use Rattle.plpb.specs.Plan.{absent, present, Plan, Assignment, satisfies, cost, floorCost}
 use Rattle.plpb.specs.Tallies.{unsatisfied}
-use Rattle.plpb.specs.Numbers.{startWords, startOf}
+use Rattle.plpb.specs.Numbers.{startWords}
 use Rattle.plpb.specs.Walk.{Walk, done, words, look, flipped, found, _>>=_, Mark, Outcome, ends, short, run}
-use Rattle.plpb.specs.Choice.{pickFrom, choice}
-
-pub data Mode : Type 0 where
-  linear : Mode
-  lbs : Mode
-
-pub record Settings : Type 0 where
-  pub noise : ℕ
-  pub tries : ℕ
-  pub flips : ℕ
-  pub mode : Mode
+use Rattle.plpb.specs.Settings.{Mode, linear, lbs, Settings}
+use Rattle.plpb.specs.Try.{Try, begun, turnOver}
+use Rattle.plpb.specs.Choice.{choosable, pickFrom, choice}
 
 -- What one call returns: an assignment, or nothing.
 pub data Reached : Type 0 where
   failed : Reached
   reached : Assignment → Reached
 
--- "pick an unsatisfied clause; choose a variable of it; flip" (Algorithm 1, lines 5 to 7)
-unfoldable pub move : Settings → Plan → Assignment → Walk Assignment
-move s p a = do
-  c ← pickFrom [] (keep (unsatisfied a) (p .clauses))
-  x ← choice p (s .noise) a c
-  flipped (done (flip a x))
+-- What a move comes to: a flip, or nothing where the clause has no variable to choose.
+pub data Turn : Type 0 where
+  stuck : Turn
+  turned : Try → Turn
+
+-- "choose a variable of it; flip" (Algorithm 1, lines 6 and 7)
+unfoldable pub turning : Settings → Plan → Try → List ℕ → Walk Turn
+turning s p t xs =
+    let on = choice s p t xs >>= (λ x. flipped (done (turned (turnOver t x)))) in
+    cond (isEmpty xs) (done stuck) on
+
+-- "pick an unsatisfied clause" (Algorithm 1, line 5), then turn over a variable of it
+unfoldable pub move : Settings → Plan → Try → Walk Turn
+move s p t = do
+  c ← pickFrom [] (keep (unsatisfied (t .bits)) (p .clauses))
+  turning s p t (choosable p c)
+
+-- A try goes on from what its move reached, and ends where it is stuck.
+unfoldable pub goOn : (Try → Walk Reached) → Turn → Walk Reached
+goOn next stuck = done failed
+goOn next (turned t) = next t
 
 -- "for each of the allowed flips: if no clause is unsatisfied, return; [..] The look comes before each flip, so what the last flip
 -- reaches is not looked at"
-unfoldable pub flipping : Settings → Plan → ℕ → Assignment → Walk Reached
-flipping s p zero a = done failed
-flipping s p (suc left) a =
-    let on = move s p a >>= flipping s p left in
-    look a (cond (satisfies a p) (done (reached a)) on)
+unfoldable pub flipping : Settings → Plan → ℕ → Try → Walk Reached
+flipping s p zero t = done failed
+flipping s p (suc left) t =
+    let on = move s p t >>= goOn (flipping s p left) in
+    look (t .bits) (cond (satisfies (t .bits) p) (done (reached (t .bits))) on)
 
 -- One try: its start, then its flips.
 unfoldable pub try : Settings → Plan → Walk Reached
-try s p = words (startWords (p .variables)) (λ ws. flipping s p (s .flips) (startOf (p .variables) ws))
+try s p = words (startWords (p .variables)) (λ ws. flipping s p (s .flips) (begun p ws))
 
 unfoldable pub orElse : Walk Reached → Reached → Walk Reached
 orElse next failed = next
@@ -80,6 +87,11 @@ lbsBound l v = third (l +ℤ pos 2 *ℤ v)
 unfoldable pub linearBound : ℤ → ℤ
 linearBound v = v -ℤ pos 1
 
+-- The bound that a find of cost v gives the next call.
+unfoldable pub boundIn : Mode → ℤ → ℤ → ℤ
+boundIn linear l v = linearBound v
+boundIn lbs l v = lbsBound l v
+
 -- "Endings: floor (v = l(O)), ended, none (first call failed), short-found, short-none (numbers gone)."
 pub data Ending : Type 0 where
   floor : Ending
@@ -101,19 +113,21 @@ unfoldable pub after : Walk Ending → (Assignment → Walk Ending) → Reached 
 after otherwise next failed = otherwise
 after otherwise next (reached b) = found b (next b)
 
--- "linear: O ≤ v − 1, until a call fails". At most `left` further finds; with none possible the cost is l(O).
-unfoldable pub linearSearch : Settings → Plan → ℕ → Assignment → Walk Ending
-linearSearch s p zero a = done floor
-linearSearch s p (suc left) a =
-    let on = call s (tightened p (linearBound (cost p a))) >>= after (done ended) (linearSearch s p left) in
+-- Calls under the bound that the last find gives, until one fails. At most `left` further finds; with none possible the cost is l(O).
+unfoldable pub descending : Settings → Plan → Mode → (ℕ → Assignment → Walk Ending) → ℕ → Assignment → Walk Ending
+descending s p mode otherwise zero a = done floor
+descending s p mode otherwise (suc left) a =
+    let next = tightened p (boundIn mode (floorCost p) (cost p a)) in
+    let on = call s next >>= after (otherwise (suc left) a) (descending s p mode otherwise left) in
     cond (atFloor p a) (done floor) on
+
+-- "linear: O ≤ v − 1, until a call fails"
+unfoldable pub linearSearch : Settings → Plan → ℕ → Assignment → Walk Ending
+linearSearch s p = descending s p linear (λ left a. done ended)
 
 -- "LBS next calls with the added last clause O ≤ m [..]; after each find it repeats, and at the first failure goes over to linear"
 unfoldable pub lbsSearch : Settings → Plan → ℕ → Assignment → Walk Ending
-lbsSearch s p zero a = done floor
-lbsSearch s p (suc left) a =
-    let on = call s (tightened p (lbsBound (floorCost p) (cost p a))) >>= after (linearSearch s p (suc left) a) (lbsSearch s p left) in
-    cond (atFloor p a) (done floor) on
+lbsSearch s p = descending s p lbs (linearSearch s p)
 
 unfoldable pub tighten : Mode → Settings → Plan → ℕ → Assignment → Walk Ending
 tighten linear s p left a = linearSearch s p left a

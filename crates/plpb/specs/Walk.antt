@@ -30,6 +30,19 @@ pub record Mark : Type 0 where
   pub flips : ℕ
   pub finds : List Assignment
 
+abbrev pub at : ℕ → ℕ → List Assignment → Mark
+at used flips finds = record { used = used; flips = flips; finds = finds }
+
+-- .. after numbers drawn, one flip more, one find more.
+abbrev pub drawn : ℕ → Mark → Mark
+drawn used m = at used (m .flips) (m .finds)
+
+abbrev pub oneFlip : Mark → Mark
+oneFlip m = at (m .used) (m .flips + 1) (m .finds)
+
+abbrev pub oneFind : Assignment → Mark → Mark
+oneFind b m = at (m .used) (m .flips) (b ∷ m .finds)
+
 -- It ends with its result, or where the numbers are gone.
 pub data Outcome (A : Type 0) : Type 0 where
   ends : A → Mark → Outcome A
@@ -37,19 +50,11 @@ pub data Outcome (A : Type 0) : Type 0 where
 
 unfoldable pub run : {A : Type 0} → Walk A → List ℕ → Mark → Outcome A
 run (done a) ns m = ends a m
-run (words k f) ns m =
-    elim (takeWords k ns (m .used)) [
-      | taken ws u ↦ run (f ws) ns (record { used = u; flips = m .flips; finds = m .finds })
-      | tooFew u ↦ short (record { used = u; flips = m .flips; finds = m .finds })
-    ]
-run (pick k f) ns m =
-    elim (takePick k ns (m .used)) [
-      | taken r u ↦ run (f r) ns (record { used = u; flips = m .flips; finds = m .finds })
-      | tooFew u ↦ short (record { used = u; flips = m .flips; finds = m .finds })
-    ]
+run (words k f) ns m = elim (takeWords k ns (m .used)) [ taken ws u ↦ run (f ws) ns (drawn u m) | tooFew u ↦ short (drawn u m) ]
+run (pick k f) ns m = elim (takePick k ns (m .used)) [ taken r u ↦ run (f r) ns (drawn u m) | tooFew u ↦ short (drawn u m) ]
 run (look b w) ns m = run w ns m
-run (flipped w) ns m = run w ns (record { used = m .used; flips = m .flips + 1; finds = m .finds })
-run (found b w) ns m = run w ns (record { used = m .used; flips = m .flips; finds = b ∷ m .finds })
+run (flipped w) ns m = run w ns (oneFlip m)
+run (found b w) ns m = run w ns (oneFind b m)
 
 -- The assignments looked at on the way, in order: what the walk could have found.
 unfoldable pub looks : {A : Type 0} → Walk A → List ℕ → ℕ → List Assignment

@@ -1,9 +1,11 @@
 // The counts as functions of numbers alone, for the tests and benchmarks that compare them with other programs. Nothing else links this crate.
 // Numbers that no lawful plan has are answered by 0.
 ghost use mathlib.Core.Path.{_≡_};
-ghost use Prim.Native.Nat.{_+_, _-_, _<_};
-ghost use Rattle.plpb.specs.Count.{capped};
-ghost use Rattle.plpb.specs.Equations.{binom};
+ghost use Prim.Native.Nat.{_+_, _<_};
+ghost use Rattle.plpb.specs.Search.{third as thirdOf};
+ghost use Rattle.counting.specs.Bound.{boundOf};
+ghost use Rattle.counting.specs.Shares.{sharesIn, cappedShares, joinedShares};
+ghost use Rattle.probe.specs.Answers.{binomialAnswer, differenceAnswer, threeIn, boundIf, standingFor, sharesAnswer};
 use counting::binomial::binomial;
 use counting::binomial::difference;
 use counting::bound::Bound;
@@ -21,10 +23,14 @@ pub struct Three {
     pub g: u32,
 }
 
+impl Three {
+    const NONE: Three = Three { e: 0, f: 0, g: 0 };
+}
+
 // m over k.
 #[no_mangle]
 pub extern "C" fn probe_binomial(m: u64, k: u64) -> u32
-    ensures { λ r. ⌜ (m < 4294967296 → r ≡ capped (binom m k)) ⌝ }
+    ensures { λ r. ⌜ r ≡ binomialAnswer m k ⌝ }
 {
     if 4294967295 < m {
         return 0;
@@ -35,7 +41,7 @@ pub extern "C" fn probe_binomial(m: u64, k: u64) -> u32
 // m + w over k less m over k.
 #[no_mangle]
 pub extern "C" fn probe_difference(m: u32, w: u32, k: u64) -> u32
-    ensures { λ r. ⌜ (m + w < 4294967296 → r ≡ capped (binom (m + w) k - binom m k)) ⌝ }
+    ensures { λ r. ⌜ r ≡ differenceAnswer m w k ⌝ }
 {
     let low = m as u64;
     let more = w as u64;
@@ -45,7 +51,9 @@ pub extern "C" fn probe_difference(m: u32, w: u32, k: u64) -> u32
     difference(low, more, k).value
 }
 
-fn bound(present: bool, size: u64) -> Bound {
+fn bound(present: bool, size: u64) -> Bound
+    ensures { λ r. ⌜ boundOf r ≡ boundIf present size ⌝ }
+{
     if present {
         Bound::Present(size)
     } else {
@@ -53,7 +61,9 @@ fn bound(present: bool, size: u64) -> Bound {
     }
 }
 
-fn flat(s: Shares) -> Three {
+fn flat(s: Shares) -> Three
+    ensures { λ r. ⌜ threeIn r ≡ sharesIn s ⌝ }
+{
     Three {
         e: s.e.value,
         f: s.f.value,
@@ -61,7 +71,9 @@ fn flat(s: Shares) -> Three {
     }
 }
 
-fn lifted(s: Three) -> Shares {
+fn lifted(s: Three) -> Shares
+    ensures { λ r. ⌜ sharesIn r ≡ threeIn s ⌝ }
+{
     Shares {
         e: Count { value: s.e },
         f: Count { value: s.f },
@@ -69,7 +81,27 @@ fn lifted(s: Three) -> Shares {
     }
 }
 
-// e, f and g of a rule for a variable that it does not name (case 0), or whose literal is true (1) or false (2).
+// A literal that weighs more than the sum it counts in is answered by 0 too.
+fn shares(case: u32, w: u64, n: u64, p: u64, a: Bound, b: Bound) -> Three
+    requires { ⌜ n + p < 4294967296 ⌝ }
+    ensures { λ r. ⌜ threeIn r ≡ sharesAnswer (standingFor case w) n p (boundOf a) (boundOf b) ⌝ }
+{
+    if case == 0 {
+        return flat(literal_absent(n, p, a, b));
+    }
+    if case == 1 {
+        if p < w {
+            return Three::NONE;
+        }
+        return flat(literal_true(w, n, p, a, b));
+    }
+    if n < w {
+        return Three::NONE;
+    }
+    flat(literal_false(w, n, p, a, b))
+}
+
+// e, f and g of a rule for a variable that it does not name (case 0), or whose literal is true (1) or false (any other).
 #[no_mangle]
 pub extern "C" fn probe_shares(
     case: u32,
@@ -80,37 +112,36 @@ pub extern "C" fn probe_shares(
     a: u64,
     upper: bool,
     b: u64,
-) -> Three {
-    let none = Three { e: 0, f: 0, g: 0 };
-    let weight = w as u64;
+) -> Three
+    ensures { λ r. ⌜ threeIn r ≡ sharesAnswer (standingFor case w) n p (boundIf lower a) (boundIf upper b) ⌝ }
+{
     let falses = n as u64;
     let trues = p as u64;
     if 4294967295 < falses + trues {
-        return none;
+        return Three::NONE;
     }
-    if case == 0 {
-        return flat(literal_absent(falses, trues, bound(lower, a), bound(upper, b)));
-    }
-    if case == 1 {
-        if trues < weight {
-            return none;
-        }
-        return flat(literal_true(weight, falses, trues, bound(lower, a), bound(upper, b)));
-    }
-    if falses < weight {
-        return none;
-    }
-    flat(literal_false(weight, falses, trues, bound(lower, a), bound(upper, b)))
+    shares(
+        case,
+        w as u64,
+        falses,
+        trues,
+        bound(lower, a),
+        bound(upper, b),
+    )
 }
 
 // The shares of a clause's rules so far, joined with those of one more.
 #[no_mangle]
-pub extern "C" fn probe_joined(clause: Three, rule: Three) -> Three {
+pub extern "C" fn probe_joined(clause: Three, rule: Three) -> Three
+    ensures { λ r. ⌜ threeIn r ≡ cappedShares (joinedShares (threeIn clause) (threeIn rule)) ⌝ }
+{
     flat(lifted(clause).joined(lifted(rule)))
 }
 
 // A third, rounded down.
 #[no_mangle]
-pub extern "C" fn probe_third(a: i64) -> i64 {
+pub extern "C" fn probe_third(a: i64) -> i64
+    ensures { λ r. ⌜ r ≡ thirdOf a ⌝ }
+{
     third(a)
 }

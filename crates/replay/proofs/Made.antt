@@ -12,8 +12,8 @@ use Rattle.words.specs.Words.{numAt, bytesOf, wordBytes}
 use Rattle.words.specs.Writes.{front, put}
 use Rattle.words.proofs.Words.{length-bytesOf}
 use Rattle.words.proofs.Writes.{put-put, front-none}
-use Rattle.tallies.specs.Calls.{Lent, callRefusal, flipAssignment, flipTallies, countsBreak, countsMake}
-use Rattle.tallies.specs.Demand.{answer, leaves, answers, after}
+use Rattle.tallies.specs.Calls.{Lent, lent, callRefusal, flipAssignment, flipTallies, countsBreak, countsMake, answer, leftBy}
+use Rattle.tallies.specs.Demand.{answers, after}
 use Rattle.replay.specs.Replay.{callOf, callsFrom, callsOf, answerWords, answerBytes}
 
 -- ---- one call
@@ -39,16 +39,16 @@ counts-words l x (suc k) e = rw (sym e, eqb·suc-zero k)
 module _ (l : Lent) (kind x k : ℕ) (e : k ≡ callRefusal l x) where
   pub flip-made : kind ≡ 0
       → (k ∷ 0 ∷ 0 ∷ [] ≡ answerWords (answer l (callOf kind x)))
-      × (flipAssignment l x ≡ leaves l (callOf kind x) .assignment)
-      × (flipTallies l x ≡ leaves l (callOf kind x) .tallies)
-  unfolding leaves
+      × (flipAssignment l x ≡ leftBy l (callOf kind x) .assignment)
+      × (flipTallies l x ≡ leftBy l (callOf kind x) .tallies)
+  unfolding leftBy
   flip-made z = rw (is-flip kind x z) (flip-words l x k e, refl, refl)
 
   pub counts-made : (b m : ℕ) → (kind ≡ 0 → ⊥) → b ≡ countsBreak l x → m ≡ countsMake l x
       → (k ∷ b ∷ m ∷ [] ≡ answerWords (answer l (callOf kind x)))
-      × (l .assignment ≡ leaves l (callOf kind x) .assignment)
-      × (l .tallies ≡ leaves l (callOf kind x) .tallies)
-  unfolding leaves
+      × (l .assignment ≡ leftBy l (callOf kind x) .assignment)
+      × (l .tallies ≡ leftBy l (callOf kind x) .tallies)
+  unfolding leftBy
   counts-made b m n p q = rw (is-counts kind x n, p, q) (counts-words l x k e, refl, refl)
 
 -- ---- an answer written
@@ -72,11 +72,11 @@ answer-size (counted b m) = refl
 -- ---- a list of calls
 
 -- What a call leaves, told by the two buffers that it may change.
-left-by : (l : Lent) (c : Call) (a t : List ℕ) → a ≡ leaves l c .assignment → t ≡ leaves l c .tallies
-    → record { tables = l .tables; terms = l .terms; assignment = a; tallies = t } ≡ leaves l c
-unfolding leaves
-left-by l (flipCall x) a t p q = ap₂ (λ (a' t' : List ℕ). record { tables = l .tables; terms = l .terms; assignment = a'; tallies = t' }) p q
-left-by l (countsCall x) a t p q = ap₂ (λ (a' t' : List ℕ). record { tables = l .tables; terms = l .terms; assignment = a'; tallies = t' }) p q
+left-by : (l : Lent) (c : Call) (a t : List ℕ) → a ≡ leftBy l c .assignment → t ≡ leftBy l c .tallies
+    → lent (l .tables) (l .terms) a t ≡ leftBy l c
+unfolding leftBy
+left-by l (flipCall x) a t p q = ap₂ (lent (l .tables) (l .terms)) p q
+left-by l (countsCall x) a t p q = ap₂ (lent (l .tables) (l .terms)) p q
 
 calls-more : (left at : ℕ) (s : List ℕ) → 0 < left
     → callsFrom left s at ≡ callOf (getD s at 0) (numAt 4 s (at + 1)) ∷ callsFrom (left - 1) s (at + 5)
@@ -85,25 +85,25 @@ calls-more zero at s h = absurd (omega arith)
 calls-more (suc k) at s h = let e : suc k - 1 ≡ k = omega arith in rw e
 
 write-more : (l : Lent) (c : Call) (cs : List Call) (to : ℕ) (out : List ℕ) → to + 12 ≤ length out
-    → put (to + 12) (answerBytes (answers (leaves l c) cs)) (put to (wordBytes (answerWords (answer l c))) out) ≡ put to (answerBytes (answers l (c ∷ cs))) out
+    → put (to + 12) (answerBytes (answers (leftBy l c) cs)) (put to (wordBytes (answerWords (answer l c))) out) ≡ put to (answerBytes (answers l (c ∷ cs))) out
 unfolding answers answerBytes
 write-more l c cs to out h =
     let bs = wordBytes (answerWords (answer l c)) in
-    let rest = answerBytes (answers (leaves l c) cs) in
+    let rest = answerBytes (answers (leftBy l c) cs) in
     let n : length bs ≡ 12 = answer-size (answer l c) in
     ap (λ k. put (to + k) rest (put to bs out)) (sym n) ∙ put-put to bs rest out (rw n h)
 
 -- One turn: a call, and its answer written.
 module _ (l : Lent) (s : List ℕ) (left at x : ℕ) (a t : List ℕ) (some : 0 < left) (named : x ≡ numAt 4 s (at + 1))
-    (p : a ≡ leaves l (callOf (getD s at 0) x) .assignment) (q : t ≡ leaves l (callOf (getD s at 0) x) .tallies) where
-  pub after-turn : after (record { tables = l .tables; terms = l .terms; assignment = a; tallies = t }) (callsFrom (left - 1) s (at + 5)) ≡ after l (callsFrom left s at)
+    (p : a ≡ leftBy l (callOf (getD s at 0) x) .assignment) (q : t ≡ leftBy l (callOf (getD s at 0) x) .tallies) where
+  pub after-turn : after (lent (l .tables) (l .terms) a t) (callsFrom (left - 1) s (at + 5)) ≡ after l (callsFrom left s at)
   unfolding after
   after-turn =
       rw (calls-more left at s some, sym named)
       (ap (λ m. after m (callsFrom (left - 1) s (at + 5))) (left-by l (callOf (getD s at 0) x) a t p q))
 
   pub answers-turn : (to : ℕ) (ws out now : List ℕ) → to + 12 ≤ length out → ws ≡ answerWords (answer l (callOf (getD s at 0) x)) → now ≡ put to (wordBytes ws) out
-      → put (to + 12) (answerBytes (answers (record { tables = l .tables; terms = l .terms; assignment = a; tallies = t }) (callsFrom (left - 1) s (at + 5)))) now
+      → put (to + 12) (answerBytes (answers (lent (l .tables) (l .terms) a t) (callsFrom (left - 1) s (at + 5)))) now
       ≡ put to (answerBytes (answers l (callsFrom left s at))) out
   answers-turn to ws out now h w e =
       let c = callOf (getD s at 0) x in

@@ -1,20 +1,17 @@
 -- What a refused and an accepted replay come to: as lent, or what the book says. Assumes nothing.
 use Prim.Native.Nat.{ℕ, zero, suc, _*_, _/_, _≤_, _<_}
 use native.Mathlib.Omega.{arith}
-use mathlib.Core.Path.{_≡_, refl, sym, ap, _∙_}
+use mathlib.Core.Path.{_≡_, refl, sym, ap}
 use mathlib.Core.List.{List}
 use lib.Dec.{eqb·suc-zero}
 use lib.ListN.{length}
 use borrow.Author.Tests.{lt-ltb, le-ltb}
-use Rattle.plpb.specs.Book.{Call}
 use Rattle.words.specs.Writes.{front}
 use Rattle.format.specs.File.{refuse}
-use Rattle.tallies.specs.Layout.{bitsOf}
-use Rattle.tallies.specs.Calls.{Lent, plan, openRefusal, openTallies}
-use Rattle.tallies.specs.Demand.{answers, after, opened, account}
-use Rattle.tallies.proofs.Bits.{length-bitsOf}
-use Rattle.tallies.proofs.Refusals.{Opens, opens, assignment-room}
-use Rattle.tallies.proofs.Steps.{holding, answers-of-book, after-book, opened-holding}
+use Rattle.tallies.specs.Calls.{Lent, lent, openRefusal, openTallies}
+use Rattle.tallies.specs.Demand.{answers, after, opened}
+use Rattle.tallies.proofs.Refusals.{opens}
+use Rattle.tallies.proofs.Demand3.{agrees}
 use Rattle.replay.specs.Replay.{callsOf, answerBytes, replayRefusal, replayOut, replayAssignment, replayTallies}
 
 -- ---- the refusal
@@ -36,29 +33,19 @@ module _ (l : Lent) (list out : List ℕ) where
 
 -- ---- what an accepted opening leaves, and a list after it
 
-pub opened-by : (l : Lent) (t : List ℕ) → t ≡ openTallies l → record { tables = l .tables; terms = l .terms; assignment = l .assignment; tallies = t } ≡ opened l
+pub opened-by : (l : Lent) (t : List ℕ) → t ≡ openTallies l → lent (l .tables) (l .terms) (l .assignment) t ≡ opened l
 unfolding opened
-opened-by l t e = ap (λ t'. record { tables = l .tables; terms = l .terms; assignment = l .assignment; tallies = t' }) e
-
-module _ (l : Lent) (o : Opens l) (cs : List Call) where
-  bits-size : length (bitsOf (plan l .variables) (l .assignment)) ≡ plan l .variables
-  bits-size = length-bitsOf (plan l .variables) (l .assignment) (assignment-room l o)
-
-  book-answers : answers (opened l) cs ≡ account (plan l) l cs .answers
-  book-answers = ap (λ m. answers m cs) (opened-holding l o) ∙ answers-of-book l o (bitsOf (plan l .variables) (l .assignment)) cs bits-size
-
-  book-leaves : after (opened l) cs ≡ holding l (account (plan l) l cs .bits)
-  book-leaves = ap (λ m. after m cs) (opened-holding l o) ∙ after-book l o (bitsOf (plan l .variables) (l .assignment)) cs bits-size
+opened-by l t e = ap (lent (l .tables) (l .terms) (l .assignment)) e
 
 module _ (l : Lent) (list out : List ℕ) (z : openRefusal l ≡ 0) (r : 0 ≡ replayRefusal l list out) where
   pub told-answers : front (answerBytes (answers (opened l) (callsOf list))) out ≡ replayOut l list out
   unfolding replayOut
-  told-answers = rw (sym r) (ap (λ rs. front (answerBytes rs) out) (book-answers l (opens l z) (callsOf list)))
+  told-answers = rw (sym r) (ap (λ rs. front (answerBytes rs) out) (agrees l (opens l z) (callsOf list) .same-answers))
 
   pub told-assignment : after (opened l) (callsOf list) .assignment ≡ replayAssignment l list out
   unfolding replayAssignment
-  told-assignment = rw (sym r, book-leaves l (opens l z) (callsOf list)) (unfold holding in refl)
+  told-assignment = rw (sym r, agrees l (opens l z) (callsOf list) .same-state) refl
 
   pub told-tallies : after (opened l) (callsOf list) .tallies ≡ replayTallies l list out
   unfolding replayTallies
-  told-tallies = rw (sym r, book-leaves l (opens l z) (callsOf list)) (unfold holding in refl)
+  told-tallies = rw (sym r, agrees l (opens l z) (callsOf list) .same-state) refl

@@ -2,22 +2,19 @@
 -- Assumes nothing.
 use Prim.Native.Nat.{ℕ}
 use mathlib.Core.Path.{_≡_}
-use mathlib.Core.List.{List, _++_}
-use lib.ListN.{drop}
+use mathlib.Core.List.{List}
 use Rattle.plpb.specs.Plan.{Plan}
-use Rattle.plpb.specs.Tallies.{freshCount}
 use Rattle.words.specs.Writes.{front}
 use Rattle.format.specs.File.{read, accepted}
 use Rattle.format.specs.Tables.{Holds}
-use Rattle.tallies.specs.Layout.{tallySize, bitBytes, tallyBytes}
-use Rattle.tallies.specs.Calls.{Lent}
+use Rattle.tallies.specs.Calls.{Lent, told}
 use Rattle.tallies.specs.Demand.{account, Agrees}
 use Rattle.replay.specs.Replay.{callsOf, answerBytes, replayRefusal, replayOut, replayAssignment, replayTallies}
 
 pub record Accounted (p : Plan) (l : Lent) (list out : List ℕ) : Type 0 where
   pub answers-written : replayOut l list out ≡ front (answerBytes (account p l (callsOf list) .answers)) out
-  pub bits-left : replayAssignment l list out ≡ bitBytes (account p l (callsOf list) .bits) ++ drop (p .variables) (l .assignment)
-  pub tallies-left : replayTallies l list out ≡ tallyBytes (freshCount p (account p l (callsOf list) .bits)) ++ drop tallySize (l .tallies)
+  pub bits-left : replayAssignment l list out ≡ told p l (account p l (callsOf list) .bits) .assignment
+  pub tallies-left : replayTallies l list out ≡ told p l (account p l (callsOf list) .bits) .tallies
   pub agrees : Agrees p l (callsOf list)
 
 abbrev pub FileAccounted : Type 0

@@ -4,14 +4,12 @@ use Prim.Native.Nat.{ℕ, zero, suc, _+_, _*_, _/_}
 use mathlib.Core.Bool.{cond}
 use mathlib.Core.List.{List, [], _∷_, _++_}
 use lib.Dec.{ltb, eqb}
-use lib.ListN.{length, getD, drop}
-use Rattle.plpb.specs.Tallies.{freshCount}
+use lib.ListN.{length, getD}
 use Rattle.plpb.specs.Book.{Call, flipCall, countsCall, Answer, refused, accepted, counted}
 use Rattle.words.specs.Words.{numAt, wordBytes}
 use Rattle.words.specs.Writes.{front}
 use Rattle.format.specs.File.{refuse}
-use Rattle.tallies.specs.Layout.{tallySize, bitBytes, tallyBytes}
-use Rattle.tallies.specs.Calls.{Lent, plan, openRefusal}
+use Rattle.tallies.specs.Calls.{Lent, plan, told, openRefusal}
 use Rattle.tallies.specs.Demand.{account}
 
 -- A call in 5 bytes: its kind, 0 for flip and any other for counts, and its variable.
@@ -49,11 +47,11 @@ replayOut l list out =
 unfoldable pub replayAssignment : Lent → List ℕ → List ℕ → List ℕ
 replayAssignment l list out =
     cond (eqb (replayRefusal l list out) 0)
-    (bitBytes (account (plan l) l (callsOf list) .bits) ++ drop (plan l .variables) (l .assignment))
+    (told (plan l) l (account (plan l) l (callsOf list) .bits) .assignment)
     (l .assignment)
 
 unfoldable pub replayTallies : Lent → List ℕ → List ℕ → List ℕ
 replayTallies l list out =
     cond (eqb (replayRefusal l list out) 0)
-    (tallyBytes (freshCount (plan l) (account (plan l) l (callsOf list) .bits)) ++ drop tallySize (l .tallies))
+    (told (plan l) l (account (plan l) l (callsOf list) .bits) .tallies)
     (l .tallies)

@@ -5,9 +5,9 @@ ghost use mathlib.Core.List.{[], _∷_};
 ghost use lib.ListN.{length};
 ghost use Rattle.words.specs.Words.{wordBytes};
 ghost use Rattle.words.specs.Writes.{put, front};
-ghost use Rattle.tallies.specs.Demand.{answer, leaves, answers, after};
+ghost use Rattle.tallies.specs.Demand.{answers, after};
 ghost use Rattle.replay.specs.Replay.{callOf, callsOf, answerWords, answerBytes, replayRefusal, replayOut, replayAssignment, replayTallies};
-ghost use Rattle.tallies.specs.Calls.{lent};
+ghost use Rattle.tallies.specs.Calls.{lent, answer, leftBy};
 use calls::counts::Counted;
 use calls::counts::counts;
 use calls::flip::flip;
@@ -27,9 +27,9 @@ fn make_call(
     ensures { λ r. ⌜ r .refusal ∷ r .breaks ∷ r .makes ∷ []
         ≡ answerWords (answer (lent (now (tables .entry)) (now (terms .entry)) (now (assignment .entry)) (now (tallies .entry))) (callOf kind x)) ⌝ }
     ensures { λ _. ⌜ now (assignment .exit)
-        ≡ leaves (lent (now (tables .entry)) (now (terms .entry)) (now (assignment .entry)) (now (tallies .entry))) (callOf kind x) .assignment ⌝ }
+        ≡ leftBy (lent (now (tables .entry)) (now (terms .entry)) (now (assignment .entry)) (now (tallies .entry))) (callOf kind x) .assignment ⌝ }
     ensures { λ _. ⌜ now (tallies .exit)
-        ≡ leaves (lent (now (tables .entry)) (now (terms .entry)) (now (assignment .entry)) (now (tallies .entry))) (callOf kind x) .tallies ⌝ }
+        ≡ leftBy (lent (now (tables .entry)) (now (terms .entry)) (now (assignment .entry)) (now (tallies .entry))) (callOf kind x) .tallies ⌝ }
 {
     if kind == 0 {
         let refusal = flip(tables, terms, assignment, tallies, x);

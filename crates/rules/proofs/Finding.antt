@@ -12,10 +12,9 @@ use borrow.Author.Tests.{ne-eqb}
 use Rattle.plpb.specs.Lists.{_or_, all, any, row, sumBy}
 use Rattle.plpb.specs.Plan.{Term, Assignment, value, risingAbove, rising, namedIn}
 use Rattle.plpb.specs.Normal.{literal, literalTrue, size, K, P}
-use Rattle.plpb.specs.Equations.{out, on, off, standing}
+use Rattle.plpb.specs.Equations.{out, on, off, standing, lost, gained}
 use Rattle.plpb.proofs.Lists.{and-left, and-right}
 use Rattle.plpb.proofs.Normal.{P-at-most-K}
-use Rattle.plpb.proofs.Equations.{lost, gained}
 use Rattle.format.specs.Limits.{termsLawful}
 use Rattle.format.specs.Tables.{termOf}
 use Rattle.rules.specs.declared.place.Place.{Place}

@@ -5,16 +5,15 @@ use native.Mathlib.Omega.{arith}
 use mathlib.Core.Path.{_≡_, refl, sym, ap, ap₂, _∙_}
 use mathlib.Core.Bool.{Bool, true, false, not, cond}
 use mathlib.Core.List.{List, [], _∷_}
-use lib.Dec.{T, eqb}
+use lib.Dec.{eqb}
 use lib.ListN.{length}
 use borrow.Author.Tests.{eqb-true}
-use Rattle.plpb.specs.Lists.{_and_, _or_}
-use Rattle.plpb.specs.Plan.{Term, Rule, Assignment, flip, rising, ruleHolds, namedIn}
-use Rattle.plpb.specs.Normal.{literal, literalTrue, size, rise, K, P, N}
-use Rattle.plpb.specs.Equations.{out, on, off, standing, sharesOf}
-use Rattle.plpb.proofs.Normal.{N-and-P, belowSize, lower-by-size, upper-by-size}
+use Rattle.plpb.specs.Lists.{_and_}
+use Rattle.plpb.specs.Plan.{Term, Rule, Assignment, flip, ruleHolds, namedIn}
+use Rattle.plpb.specs.Normal.{literal, literalTrue, size, rise, K, P, N, belowSize}
+use Rattle.plpb.specs.Equations.{out, on, off, standing, sharesOf, lost, gained}
+use Rattle.plpb.proofs.Normal.{N-and-P, lower-by-size, upper-by-size}
 use Rattle.plpb.proofs.Flip.{flip-literal-same}
-use Rattle.plpb.proofs.Equations.{lost, gained, P-flipped}
 use Rattle.counting.specs.Bound.{boundOf}
 use Rattle.words.specs.Words.{wordAt}
 use Rattle.format.specs.File.{boundOf as boundIn}
@@ -140,22 +139,6 @@ standing-turned a x (t ∷ ts) low high = at (eqb (t .variable) x) refl (standin
     at : (b : Bool) → eqb (t .variable) x ≡ b → standing (flip a x) x ts ≡ opposite (standing a x ts) → cond b (cond (literalTrue (flip a x) (literal t)) (on (size t)) (off (size t))) (standing (flip a x) x ts) ≡ opposite (cond b (cond (literalTrue a (literal t)) (on (size t)) (off (size t))) (standing a x ts))
     at true e ih = rw (flip-literal-same a x (literal t) low high (eqb-true (t .variable) x e)) (one (literalTrue a (literal t)))
     at false e ih = ih
-
--- It is the rule's under the flipped assignment.
-pub state-turned : {a : Assignment} {x : ℕ} {q : Rule} {s r : State} → T (rising (q .terms)) → 0 < x → x ≤ length a → StateOf a x q s → Turned s r → StateOf (flip a x) x q r
-state-turned {a} {x} {q} {s} {r} rises low high h t =
-    let ts = q .terms in
-    let loses : lost (standingIn (s .stands)) ≡ lost (standing a x ts) = ap lost (h .stands) in
-    let gains : gained (standingIn (s .stands)) ≡ gained (standing a x ts) = ap gained (h .stands) in
-    let after = P-flipped a x ts rises low high in
-    record {
-      falses = omega (arith, t .falses, h .falses, loses, gains, after, N-and-P a ts, N-and-P (flip a x) ts);
-      trues = omega (arith, t .trues, h .trues, loses, gains, after);
-      stands = t .stands ∙ ap opposite (h .stands) ∙ sym (standing-turned a x ts low high);
-      lower = ap boundOf (t .lower) ∙ h .lower;
-      upper = ap boundOf (t .upper) ∙ h .upper;
-      balanced = t .balanced;
-    }
 
 -- What the code makes of a state whose variable does not occur, or whose literal is true or false.
 module _ (s : State) (b : Balanced s) where

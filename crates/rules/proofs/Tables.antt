@@ -6,7 +6,6 @@ use mathlib.Core.Path.{_≡_, refl, ap, _∙_}
 use mathlib.Core.List.{List}
 use lib.Dec.{T}
 use lib.ListN.{length, take}
-use Rattle.plpb.specs.Lists.{_and_}
 use Rattle.plpb.specs.Plan.{Rule, Assignment, value, rising}
 use Rattle.plpb.specs.Normal.{rise, K, P, N}
 use Rattle.words.specs.Words.{wordAt}
@@ -16,11 +15,12 @@ use Rattle.format.proofs.Bools.{T-true, true-T}
 use Rattle.format.proofs.Lawful.{rule-parts, terms-whole}
 use Rattle.rules.specs.declared.state.State.{State}
 use Rattle.rules.specs.Terms.{bitsIn, termsAt}
-use Rattle.rules.specs.Rules.{ruleAt, RuleInside, RuleReadable}
+use Rattle.rules.specs.Rules.{ruleAt, RuleReadable}
 use Rattle.rules.specs.State.{StateOf}
 use Rattle.rules.proofs.Terms.{first-bits, lawful-legal, readable}
 use Rattle.rules.proofs.Summing.{P-same}
 use Rattle.rules.proofs.Finding.{standing-same}
+use Rattle.format.specs.Layout.{ruleCountAt, ruleFirstAt, ruleLowerAt, ruleModeAt, ruleRoom, ruleUpperAt, tableSize}
 
 -- A rule with lawful terms can be read ..
 module _ (tables terms assignment : List ℕ) (at n : ℕ) where
@@ -28,10 +28,6 @@ module _ (tables terms assignment : List ℕ) (at n : ℕ) where
   unfolding ruleAt
   rule-readable entry inside small bytes t =
       record { entry = entry; body = readable terms assignment (wordAt tables at) (wordAt tables (at + 1)) n inside small bytes t }
-
-  -- .. and so searched ..
-  pub readable-inside : RuleReadable tables terms assignment at → RuleInside tables terms at
-  readable-inside r = record { entry = r .entry; body = r .body .inside }
 
 -- .. and its state is that under any assignment that says the same of the plan's variables, so that under the first n bytes.
 pub state-same : (n : ℕ) {a b : Assignment} {x : ℕ} {q : Rule} {s : State} → ((v : ℕ) → v ≤ n → value a v ≡ value b v) → T (termsLawful n (q .terms)) → StateOf a x q s → StateOf b x q s
@@ -60,25 +56,25 @@ module _ (n : ℕ) (q : Rule) (t : T (ruleLawful n q)) where
   rule-rises = true-T _ (rule-parts n q (T-true _ t) .terms .rise)
 
 -- Rule r has its entry at word 1,542 + 5·r.
-pub rule-at : (f g : ℕ → ℕ) (r : ℕ) → ruleAt f g (1_542 + 5 * r) ≡ ruleOf f g r
+pub rule-at : (f g : ℕ → ℕ) (r : ℕ) → ruleAt f g (ruleFirstAt r) ≡ ruleOf f g r
 unfolding ruleAt ruleOf termsAt
 rule-at f g r =
-    let one : 1_542 + 5 * r + 1 ≡ 1_543 + 5 * r = omega arith in
-    let two : 1_542 + 5 * r + 2 ≡ 1_544 + 5 * r = omega arith in
-    let three : 1_542 + 5 * r + 3 ≡ 1_545 + 5 * r = omega arith in
-    let four : 1_542 + 5 * r + 4 ≡ 1_546 + 5 * r = omega arith in
+    let one : ruleFirstAt r + 1 ≡ ruleCountAt r = omega arith in
+    let two : ruleFirstAt r + 2 ≡ ruleModeAt r = omega arith in
+    let three : ruleFirstAt r + 3 ≡ ruleLowerAt r = omega arith in
+    let four : ruleFirstAt r + 4 ≡ ruleUpperAt r = omega arith in
     rw (one, two, three, four) refl
 
 -- Both at once, for a lawful rule of the tables.
 module _ (tables terms assignment : List ℕ) (n r : ℕ) (t : T (ruleLawful n (ruleOf (wordAt tables) (wordAt terms) r))) where
-  terms-at : T (termsLawful n (ruleAt (wordAt tables) (wordAt terms) (1_542 + 5 * r) .terms))
+  terms-at : T (termsLawful n (ruleAt (wordAt tables) (wordAt terms) (ruleFirstAt r) .terms))
   terms-at = rw (rule-at (wordAt tables) (wordAt terms) r) (rule-terms n (ruleOf (wordAt tables) (wordAt terms) r) t)
 
-  pub table-rule-readable : 26_668 ≤ length tables → r < 1_025 → 8 * (wordAt tables (1_542 + 5 * r) + wordAt tables (1_543 + 5 * r)) ≤ length terms → n ≤ maxVariables → n ≤ length assignment → RuleReadable tables terms assignment (1_542 + 5 * r)
+  pub table-rule-readable : tableSize ≤ length tables → r < ruleRoom → 8 * (wordAt tables (ruleFirstAt r) + wordAt tables (ruleCountAt r)) ≤ length terms → n ≤ maxVariables → n ≤ length assignment → RuleReadable tables terms assignment (ruleFirstAt r)
   table-rule-readable whole few inside small bytes =
-      let one : 1_542 + 5 * r + 1 ≡ 1_543 + 5 * r = omega arith in
-      rule-readable tables terms assignment (1_542 + 5 * r) n (omega arith) (rw one inside) small bytes terms-at
+      let one : ruleFirstAt r + 1 ≡ ruleCountAt r = omega arith in
+      rule-readable tables terms assignment (ruleFirstAt r) n (omega arith) (rw one inside) small bytes terms-at
 
-  pub table-rule-state : {x : ℕ} {s : State} → StateOf (bitsIn assignment) x (ruleAt (wordAt tables) (wordAt terms) (1_542 + 5 * r)) s → StateOf (bitsIn (take n assignment)) x (ruleOf (wordAt tables) (wordAt terms) r) s
+  pub table-rule-state : {x : ℕ} {s : State} → StateOf (bitsIn assignment) x (ruleAt (wordAt tables) (wordAt terms) (ruleFirstAt r)) s → StateOf (bitsIn (take n assignment)) x (ruleOf (wordAt tables) (wordAt terms) r) s
   table-rule-state {x} {s} h =
       rw (rule-at (wordAt tables) (wordAt terms) r) at (state-first n assignment terms-at h)

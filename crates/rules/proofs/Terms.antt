@@ -10,7 +10,7 @@ use mathlib.Core.List.{List, [], _∷_}
 use lib.Dec.{T, leb, ltb, eqb, leb→le, le→leb, ltb→lt, lt→ltb}
 use lib.IntN.{ℤ, natAbs}
 use lib.ListN.{length, getD, take, length-map, List·getD-map}
-use lib.Seq.{getD-take, length-take-le}
+use lib.Seq.{getD-take}
 use Rattle.plpb.specs.Lists.{_and_, all, row}
 use Rattle.plpb.specs.Plan.{Term, value, risingAbove, rising}
 use Rattle.plpb.proofs.Lists.{and-left, and-right, and-both, length-row}
@@ -35,10 +35,6 @@ first-bits n bytes (suc i) h =
     List·getD-map (λ b. eqb b 1) bytes i 0
     ∙ ap (λ b. eqb b 1) (sym (getD-take n bytes i 0 h))
     ∙ sym (List·getD-map (λ b. eqb b 1) (take n bytes) i 0)
-
-pub length-first-bits : (n : ℕ) (bytes : List ℕ) → n ≤ length bytes → length (bitsIn (take n bytes)) ≡ n
-unfolding bitsIn
-length-first-bits n bytes h = length-map (take n bytes) (λ b. eqb b 1) ∙ length-take-le n bytes h
 
 -- ---- terms in a row
 

@@ -5,11 +5,9 @@ use mathlib.Core.Path.{_≡_}
 use mathlib.Core.Bool.{Bool}
 use Rattle.plpb.specs.Lists.{_and_}
 use Rattle.plpb.specs.Plan.{Rule, Assignment}
-use Rattle.plpb.specs.Normal.{N, P, sizeA, sizeB}
-use Rattle.plpb.specs.Equations.{Standing, out, on, off, standing, shares}
+use Rattle.plpb.specs.Normal.{N, P, sizeA, sizeB, belowSize}
+use Rattle.plpb.specs.Equations.{Standing, out, on, off, standing, shares, lost, gained}
 use Rattle.plpb.specs.Equations.{Shares as SharesOf}
-use Rattle.plpb.proofs.Normal.{belowSize}
-use Rattle.plpb.proofs.Equations.{lost, gained}
 use Rattle.counting.specs.Bound.{boundOf}
 use Rattle.format.specs.File.{boundOf as boundIn}
 use Rattle.rules.specs.declared.entry.Entry.{Entry}

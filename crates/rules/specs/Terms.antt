@@ -3,21 +3,18 @@
 use Prim.Native.Nat.{ℕ, _+_, _*_, _≤_, _<_}
 use mathlib.Core.Path.{_≡_}
 use mathlib.Core.List.{List, map}
-use lib.Dec.{T, eqb}
+use lib.Dec.{T}
 use lib.ListN.{length}
 use Rattle.plpb.specs.Lists.{row}
 use Rattle.plpb.specs.Plan.{Assignment}
 use Rattle.plpb.specs.Plan.{Term as TermOf}
 use Rattle.plpb.specs.Normal.{isNegative, literal, literalTrue, size}
 use Rattle.words.specs.Words.{wordAt}
+unfoldable pub use Rattle.format.specs.Assignment.{bitsIn}
 use Rattle.format.specs.Limits.{termsLawful}
 use Rattle.format.specs.Tables.{termOf}
 use Rattle.rules.specs.declared.term.Term.{Term}
 use Rattle.rules.specs.declared.term.Literal.{Literal}
-
--- The assignment that all bytes of a list say, 1 for true.
-unfoldable pub bitsIn : List ℕ → Assignment
-bitsIn bytes = map (λ b. eqb b 1) bytes
 
 -- The term that a Term of the code is.
 abbrev pub termIn : Term → TermOf

@@ -3,7 +3,7 @@
 ghost use mathlib.Core.Path.{_≡_};
 ghost use Prim.Native.Nat.{_≤_};
 ghost use Rattle.plpb.specs.Plan.{namedIn};
-ghost use Rattle.plpb.proofs.Normal.{belowSize};
+ghost use Rattle.plpb.specs.Normal.{belowSize};
 ghost use Rattle.counting.specs.Bound.{boundOf};
 ghost use Rattle.counting.specs.Shares.{sharesIn, cappedShares};
 ghost use Rattle.words.specs.Words.{wordAt};

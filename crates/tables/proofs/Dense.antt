@@ -11,7 +11,7 @@ use mathlib.Core.List.{List, [], _∷_, map}
 use lib.ListN.{length, getD, set, replicate, length-set, length-replicate, getD-replicate, length-map}
 use lib.Seq.{ext-getD, getD-set-same, getD-set-other}
 use borrow.Author.Tests.{eq-eqb, ne-eqb, leb-true, ltb-true, le-leb}
-use Rattle.plpb.specs.Lists.{_and_, all, row}
+use Rattle.plpb.specs.Lists.{all, row}
 use Rattle.plpb.specs.Plan.{Term, Plan, rising, risingAbove}
 use Rattle.words.specs.Words.{numAt, bytesOf, wordBytes, unsigned}
 use Rattle.words.specs.Writes.{put}

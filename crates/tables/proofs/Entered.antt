@@ -12,13 +12,12 @@ use Rattle.words.specs.Writes.{front, put}
 use Rattle.words.proofs.Words.{Below, numAt-lt, unsigned-signed, length-wordBytes}
 use Rattle.words.proofs.Writes.{front-none, front-put, length-front, lent-tail, wordBytes-append}
 use Rattle.format.specs.File.{tagAt, lengthAt, termsIn, termAt, termsAt, fieldTerms, ruleAt, modeAt, lowerAt, upperAt}
-use Rattle.format.specs.Writer.{mode}
 use Rattle.format.specs.Tables.{ruleEntries, termEntries}
 use Rattle.format.proofs.Bounds.{Meant, bounds-tested, bounds-meant}
 use Rattle.format.proofs.Peel.{length-termsAt}
 use Rattle.format.proofs.Sections.{length-termEntries}
 use Rattle.tables.specs.Places.{RuleHere, behindField}
-use Rattle.tables.proofs.Judged.{tag-byte}
+use Rattle.judge.proofs.Judged.{tag-byte}
 
 -- A field's length has two bytes.
 pub size-small : (s : List ℕ) (at : ℕ) → Below 256 s → termsIn 4 (lengthAt s at) < 4_294_967_296

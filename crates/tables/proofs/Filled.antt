@@ -15,15 +15,16 @@ use Rattle.words.proofs.Words.{length-wordBytes}
 use Rattle.words.proofs.Writes.{front-none, front-put, length-front, lent-tail, lent-clear, lent-long, clear-same, fill-rest, wordBytes-append}
 use Rattle.format.specs.Limits.{termCount}
 use Rattle.format.specs.File.{read, accepted, tagAt, lengthAt, termsIn, termsAt, fieldTerms, ruleAt}
-use Rattle.format.specs.Tables.{padTo, clauseEntries, ruleEntries, termEntries, allTerms, termWords}
+use Rattle.format.specs.Tables.{padTo, padWith, clauseEntries, ruleEntries, termEntries, allTerms, termWords}
 use Rattle.format.proofs.Lawful.{LawfulPlan, plan-parts}
 use Rattle.format.proofs.Accepted.{accepted-lawful}
 use Rattle.format.proofs.Sections.{length-clauseEntries, length-ruleEntries, length-termEntries, length-allTerms}
 use Rattle.tables.specs.Places.{Found, Reads, Ran, RuleHere, firstClause, firstRule, nextRule, behindField}
 use Rattle.tables.specs.Sections.{clauseWords, ruleWords}
-use Rattle.tables.proofs.Judged.{tag-byte}
+use Rattle.judge.proofs.Judged.{tag-byte}
 use Rattle.tables.proofs.Entered.{here-terms, entries-more, terms-lent, front-long}
 use Rattle.tables.proofs.Found.{Begun, RulesLeft, rules-start, rules-next, rules-end, rules-here, found-clause, found-room, no-clause-left as none-left}
+use Rattle.format.specs.Layout.{clauseSectionSize, clauseWordCount, ruleSectionSize, ruleWordCount, termSize, termWordCount}
 
 -- Words written behind those at the front of a section.
 pub words-lent :
@@ -39,7 +40,7 @@ words-lent o t ws us at ys p q l e =
 pub rest-lent :
     (o t ws : List ℕ) (k at : ℕ) (ys : List ℕ) → t ≡ front (wordBytes ws) o → at ≡ 4 * length ws → length t ≡ length o → length o ≡ 4 * k → length ws ≤ k
     → ys ≡ replicate (length (midOf at (length t - at) t)) 0 → putMid at (length t - at) t ys ≡ wordBytes (padTo k ws)
-unfolding padTo
+unfolding padWith
 rest-lent o t ws k at ys p q n m l e =
     fill-rest o ws k at p q l m
     (lent-clear at t ys (omega arith) e ∙ ap (λ (j : ℕ). put at (replicate (j - at) 0) t) n)
@@ -49,6 +50,8 @@ front-same o ws h = length-front (wordBytes ws) o (omega (arith, length-wordByte
 
 -- The rules.
 pub record RuleFill (s : List ℕ) (p : Plan) (o : List ℕ) (at rules first : ℕ) (t : List ℕ) : Type 0 where
+  pub lawful : LawfulPlan p
+  pub size : length o ≡ ruleSectionSize
   pub rest : List Rule
   pub left : RulesLeft s at rest
   pub words : List ℕ
@@ -58,10 +61,12 @@ pub record RuleFill (s : List ℕ) (p : Plan) (o : List ℕ) (at rules first : �
   pub sum : first + sumBy (λ r. length (r .terms)) rest ≡ termCount p
   pub same : length t ≡ length o
 
-pub rule-start : (s : List ℕ) (p : Plan) (o : List ℕ) (at : ℕ) → Begun s p → at ≡ firstRule s → RuleFill s p o at 0 0 o
+pub rule-start : (s : List ℕ) (p : Plan) (o : List ℕ) (at : ℕ) → LawfulPlan p → length o ≡ ruleSectionSize → Begun s p → at ≡ firstRule s → RuleFill s p o at 0 0 o
 unfolding wordBytes termCount
-rule-start s p o at b e =
+rule-start s p o at l n b e =
     record {
+      lawful = l;
+      size = n;
       rest = rulesOf p;
       left = subst (λ (n : ℕ). RulesLeft s n (rulesOf p)) (sym e) (rules-start s p b);
       words = [];
@@ -72,7 +77,7 @@ rule-start s p o at b e =
       same = refl;
     }
 
-module _ {s : List ℕ} {p : Plan} {o : List ℕ} {at rules first : ℕ} {t : List ℕ} (q : LawfulPlan p) (n : length o ≡ 20_500) (h : RuleFill s p o at rules first t) where
+module _ {s : List ℕ} {p : Plan} {o : List ℕ} {at rules first : ℕ} {t : List ℕ} (h : RuleFill s p o at rules first t) where
   total : 5 * rules + 5 * length (h .rest) ≡ 5 * length (rulesOf p)
   total =
       omega (
@@ -85,13 +90,13 @@ module _ {s : List ℕ} {p : Plan} {o : List ℕ} {at rules first : ℕ} {t : Li
       )
 
   pub rule-few : rules ≤ 1_024
-  rule-few = omega (arith, total, q .ruleCount)
+  rule-few = omega (arith, total, h .lawful .ruleCount)
 
   pub rule-space : 20 * rules ≤ length t
-  rule-space = omega (arith, rule-few, n, h .same)
+  rule-space = omega (arith, rule-few, h .size, h .same)
 
   pub rule-first : first ≤ 6_000
-  rule-first = omega (arith, h .sum, q .terms)
+  rule-first = omega (arith, h .sum, h .lawful .terms)
 
   pub rule-same : (ys : List ℕ) → ys ≡ replicate (length (midOf (20 * rules) (length t - 20 * rules) t)) 0 → length (putMid (20 * rules) (length t - 20 * rules) t ys) ≡ length o
   rule-same ys k = clear-same (20 * rules) t ys k ∙ h .same
@@ -104,10 +109,10 @@ module _ {s : List ℕ} {p : Plan} {o : List ℕ} {at rules first : ℕ} {t : Li
     rule-here = rules-here (h .left) rule-tag
 
     pub rule-more-space : rules < 1_024
-    rule-more-space = let (rest, c, g) = rules-next (h .left) rule-tag in omega (arith, total, q .ruleCount, ap length c)
+    rule-more-space = let (rest, c, g) = rules-next (h .left) rule-tag in omega (arith, total, h .lawful .ruleCount, ap length c)
 
     pub rule-part : 20 ≤ length (midOf (20 * rules) (length t - 20 * rules) t)
-    rule-part = omega (arith, lent-long (20 * rules) t, rule-more-space, n, h .same)
+    rule-part = omega (arith, lent-long (20 * rules) t, rule-more-space, h .size, h .same)
 
     more-sum : (rest : List Rule) → h .rest ≡ ruleAt s at ∷ rest → first + termsIn 4 (lengthAt s at) + sumBy (λ r. length (r .terms)) rest ≡ termCount p
     unfolding sumBy
@@ -115,7 +120,7 @@ module _ {s : List ℕ} {p : Plan} {o : List ℕ} {at rules first : ℕ} {t : Li
         omega (arith, h .sum, ap (λ (x : List Rule). sumBy (λ r. length (r .terms)) x) c, here-terms s at rule-here)
 
     pub rule-more-terms : first + termsIn 4 (lengthAt s at) ≤ 6_000
-    rule-more-terms = let (rest, c, g) = rules-next (h .left) rule-tag in omega (arith, more-sum rest c, q .terms)
+    rule-more-terms = let (rest, c, g) = rules-next (h .left) rule-tag in omega (arith, more-sum rest c, h .lawful .terms)
 
     pub rule-more :
         (on terms : ℕ) (ys : List ℕ) → on ≡ nextRule s at → terms ≡ termsIn 4 (lengthAt s at)
@@ -129,6 +134,8 @@ module _ {s : List ℕ} {p : Plan} {o : List ℕ} {at rules first : ℕ} {t : Li
         let m : length (h .words ++ us) ≡ 5 * (rules + 1) = length-append (h .words) us ∙ omega (arith, five, h .count) in
         let step : first + length (ruleAt s at .terms) ≡ first + terms = omega (arith, here-terms s at rule-here, r) in
         record {
+          lawful = h .lawful;
+          size = h .size;
           rest = rest;
           left = subst (λ (x : ℕ). RulesLeft s x rest) (sym e') g;
           words = h .words ++ us;
@@ -140,7 +147,7 @@ module _ {s : List ℕ} {p : Plan} {o : List ℕ} {at rules first : ℕ} {t : Li
               ∙ ap (λ (x : List ℕ). h .words ++ x) (sym (entries-more first (ruleAt s at) rest) ∙ ap (ruleEntries first) (sym c))
               ∙ h .whole;
           sum = ap (λ (x : ℕ). first + x + sumBy (λ r. length (r .terms)) rest) r ∙ more-sum rest c;
-          same = ap length f ∙ front-same o (h .words ++ us) (omega (arith, m, rule-more-space, n));
+          same = ap length f ∙ front-same o (h .words ++ us) (omega (arith, m, rule-more-space, h .size));
         }
 
   module _ (e : getD s at 0 ≡ 4 → ⊥) where
@@ -163,11 +170,13 @@ module _ {s : List ℕ} {p : Plan} {o : List ℕ} {at rules first : ℕ} {t : Li
         → putMid (20 * rules) (length t - 20 * rules) t ys ≡ wordBytes (ruleWords p)
     unfolding ruleWords
     rule-end ys k =
-        rest-lent o t (h .words) 5_125 (20 * rules) ys (h .filled) (omega (arith, h .count)) (h .same) n (omega (arith, h .count, rule-few)) k
-        ∙ ap (λ (x : List ℕ). wordBytes (padTo 5_125 x)) all-words
+        rest-lent o t (h .words) ruleWordCount (20 * rules) ys (h .filled) (omega (arith, h .count)) (h .same) (h .size) (omega (arith, h .count, rule-few)) k
+        ∙ ap (λ (x : List ℕ). wordBytes (padTo ruleWordCount x)) all-words
 
 -- The terms.
 pub record TermFill (s : List ℕ) (p : Plan) (o : List ℕ) (at end : ℕ) (t : List ℕ) : Type 0 where
+  pub lawful : LawfulPlan p
+  pub size : length o ≡ termSize
   pub rest : List Rule
   pub left : RulesLeft s at rest
   pub done : List Term
@@ -176,10 +185,12 @@ pub record TermFill (s : List ℕ) (p : Plan) (o : List ℕ) (at end : ℕ) (t :
   pub whole : done ++ concat (map (λ r. r .terms) rest) ≡ allTerms p
   pub same : length t ≡ length o
 
-pub term-start : (s : List ℕ) (p : Plan) (o : List ℕ) (at : ℕ) → Begun s p → at ≡ firstRule s → TermFill s p o at 0 o
+pub term-start : (s : List ℕ) (p : Plan) (o : List ℕ) (at : ℕ) → LawfulPlan p → length o ≡ termSize → Begun s p → at ≡ firstRule s → TermFill s p o at 0 o
 unfolding wordBytes termEntries allTerms
-term-start s p o at b e =
+term-start s p o at l n b e =
     record {
+      lawful = l;
+      size = n;
       rest = rulesOf p;
       left = subst (λ (n : ℕ). RulesLeft s n (rulesOf p)) (sym e) (rules-start s p b);
       done = [];
@@ -189,7 +200,7 @@ term-start s p o at b e =
       same = refl;
     }
 
-module _ {s : List ℕ} {p : Plan} {o : List ℕ} {at end : ℕ} {t : List ℕ} (q : LawfulPlan p) (n : length o ≡ 52_096) (h : TermFill s p o at end t) where
+module _ {s : List ℕ} {p : Plan} {o : List ℕ} {at end : ℕ} {t : List ℕ} (h : TermFill s p o at end t) where
   term-total : length (h .done) + length (concat (map (λ r. r .terms) (h .rest))) ≤ 6_000
   term-total =
       omega (
@@ -197,11 +208,11 @@ module _ {s : List ℕ} {p : Plan} {o : List ℕ} {at end : ℕ} {t : List ℕ} 
         length-append (h .done) (concat (map (λ r. r .terms) (h .rest))),
         ap length (h .whole),
         length-allTerms p,
-        q .terms,
+        h .lawful .terms,
       )
 
   pub term-space : end ≤ length t
-  term-space = omega (arith, term-total, h .place, n, h .same)
+  term-space = omega (arith, term-total, h .place, h .size, h .same)
 
   pub term-same : (ys : List ℕ) → ys ≡ replicate (length (midOf (end) (length t - end) t)) 0 → length (putMid (end) (length t - end) t ys) ≡ length o
   term-same ys k = clear-same (end) t ys k ∙ h .same
@@ -237,12 +248,12 @@ module _ {s : List ℕ} {p : Plan} {o : List ℕ} {at end : ℕ} {t : List ℕ} 
           length-append (h .done ++ ruleAt s at .terms) (concat (map (λ r. r .terms) rest)),
           ap length (more-terms rest c),
           length-allTerms p,
-          q .terms,
+          h .lawful .terms,
         )
 
     pub term-more-space : end + 8 * termsIn 4 (lengthAt s at) ≤ length t
     term-more-space =
-        omega (arith, term-long, length-append (h .done) (ruleAt s at .terms), here-terms s at term-here, h .place, n, h .same)
+        omega (arith, term-long, length-append (h .done) (ruleAt s at .terms), here-terms s at term-here, h .place, h .size, h .same)
 
     pub term-part : 8 * termsIn 4 (lengthAt s at) ≤ length (midOf end (length t - end) t)
     term-part = omega (arith, lent-long end t, term-more-space)
@@ -258,13 +269,15 @@ module _ {s : List ℕ} {p : Plan} {o : List ℕ} {at end : ℕ} {t : List ℕ} 
         let f = terms-lent o t (h .done) us end ys (h .filled) (h .place) term-space k' in
         let m = length-append (h .done) us in
         record {
+          lawful = h .lawful;
+          size = h .size;
           rest = rest;
           left = subst (λ (x : ℕ). RulesLeft s x rest) (sym e') g;
           done = h .done ++ us;
           filled = f;
           place = omega (arith, m, h .place, r, here-terms s at term-here);
           whole = more-terms rest c;
-          same = ap length f ∙ front-long o (h .done ++ us) (omega (arith, term-long, n));
+          same = ap length f ∙ front-long o (h .done ++ us) (omega (arith, term-long, h .size));
         }
 
   module _ (e : getD s at 0 ≡ 4 → ⊥) where
@@ -281,11 +294,13 @@ module _ {s : List ℕ} {p : Plan} {o : List ℕ} {at end : ℕ} {t : List ℕ} 
     unfolding termWords
     term-end ys k =
         let m = length-termEntries (h .done) in
-        rest-lent o t (termEntries (h .done)) 13_024 end ys (h .filled) (omega (arith, h .place, m)) (h .same) n (omega (arith, m, term-total)) k
-        ∙ ap (λ (x : List Term). wordBytes (padTo 13_024 (termEntries x))) all-terms
+        rest-lent o t (termEntries (h .done)) termWordCount end ys (h .filled) (omega (arith, h .place, m)) (h .same) (h .size) (omega (arith, m, term-total)) k
+        ∙ ap (λ (x : List Term). wordBytes (padTo termWordCount (termEntries x))) all-terms
 
 -- The clauses.
 pub record ClauseFill (s : List ℕ) (p : Plan) (o : List ℕ) (at clauses first : ℕ) (t : List ℕ) : Type 0 where
+  pub lawful : LawfulPlan p
+  pub size : length o ≡ clauseSectionSize
   pub rest : List Clause
   pub left : Found s at [] rest
   pub words : List ℕ
@@ -295,10 +310,12 @@ pub record ClauseFill (s : List ℕ) (p : Plan) (o : List ℕ) (at clauses first
   pub sum : first + length (concat rest) ≡ length (rulesOf p)
   pub same : length t ≡ length o
 
-pub clause-start : (s : List ℕ) (p : Plan) (o : List ℕ) (at : ℕ) → Begun s p → at ≡ firstClause s → ClauseFill s p o at 0 0 o
+pub clause-start : (s : List ℕ) (p : Plan) (o : List ℕ) (at : ℕ) → LawfulPlan p → length o ≡ clauseSectionSize → Begun s p → at ≡ firstClause s → ClauseFill s p o at 0 0 o
 unfolding wordBytes rulesOf
-clause-start s p o at b e =
+clause-start s p o at l n b e =
     record {
+      lawful = l;
+      size = n;
       rest = p .clauses;
       left = subst (λ (n : ℕ). Found s n [] (p .clauses)) (sym e) (b .found);
       words = [];
@@ -309,7 +326,7 @@ clause-start s p o at b e =
       same = refl;
     }
 
-module _ {s : List ℕ} {p : Plan} {o : List ℕ} {at clauses first : ℕ} {t : List ℕ} (q : LawfulPlan p) (n : length o ≡ 4_104) (h : ClauseFill s p o at clauses first t) where
+module _ {s : List ℕ} {p : Plan} {o : List ℕ} {at clauses first : ℕ} {t : List ℕ} (h : ClauseFill s p o at clauses first t) where
   clause-total : 2 * clauses + 2 * length (h .rest) ≡ 2 * length (p .clauses)
   clause-total =
       omega (
@@ -322,10 +339,10 @@ module _ {s : List ℕ} {p : Plan} {o : List ℕ} {at clauses first : ℕ} {t : 
       )
 
   pub clause-few : clauses ≤ 512
-  clause-few = omega (arith, clause-total, q .clauseCount)
+  clause-few = omega (arith, clause-total, h .lawful .clauseCount)
 
   pub clause-space : 8 * clauses ≤ length t
-  clause-space = omega (arith, clause-few, n, h .same)
+  clause-space = omega (arith, clause-few, h .size, h .same)
 
   pub clause-room : at + 3 ≤ length s
   clause-room = found-room (h .left)
@@ -346,10 +363,10 @@ module _ {s : List ℕ} {p : Plan} {o : List ℕ} {at clauses first : ℕ} {t : 
     clause-reads = let (z, c, rest, k, g, four) = found-clause (h .left) clause-tag in (c, rest, g)
 
     pub clause-more-space : clauses < 512
-    clause-more-space = let (z, c, rest, k, g, four) = found-clause (h .left) clause-tag in omega (arith, clause-total, q .clauseCount, ap length k)
+    clause-more-space = let (z, c, rest, k, g, four) = found-clause (h .left) clause-tag in omega (arith, clause-total, h .lawful .clauseCount, ap length k)
 
     pub clause-part : 8 ≤ length (midOf (8 * clauses) (length t - 8 * clauses) t)
-    clause-part = omega (arith, lent-long (8 * clauses) t, clause-more-space, n, h .same)
+    clause-part = omega (arith, lent-long (8 * clauses) t, clause-more-space, h .size, h .same)
 
     more-rules : (c : Clause) (rest : List Clause) → h .rest ≡ c ∷ rest → first + length c + length (concat rest) ≡ length (rulesOf p)
     unfolding concat
@@ -359,7 +376,7 @@ module _ {s : List ℕ} {p : Plan} {o : List ℕ} {at clauses first : ℕ} {t : 
     unfolding Ran
     clause-rules count on r =
         let (z, c, rest, k, g, four) = found-clause (h .left) clause-tag in
-        omega (arith, r .1 c rest g .0, more-rules c rest k, q .ruleCount)
+        omega (arith, r .1 c rest g .0, more-rules c rest k, h .lawful .ruleCount)
 
     pub clause-more :
         (count on : ℕ) (ys : List ℕ) → Ran s (at + 3) count on
@@ -373,6 +390,8 @@ module _ {s : List ℕ} {p : Plan} {o : List ℕ} {at clauses first : ℕ} {t : 
         let f = words-lent o t (h .words) us (8 * clauses) ys (h .filled) (omega (arith, h .count)) clause-space k in
         let l : length (h .words ++ us) ≡ 2 * (clauses + 1) = length-append (h .words) us ∙ omega (arith, h .count) in
         record {
+          lawful = h .lawful;
+          size = h .size;
           rest = rest;
           left = there;
           words = h .words ++ us;
@@ -384,7 +403,7 @@ module _ {s : List ℕ} {p : Plan} {o : List ℕ} {at clauses first : ℕ} {t : 
               ∙ ap (λ (x : List Clause). h .words ++ clauseEntries first x) (sym d)
               ∙ h .whole;
           sum = omega (arith, more-rules c rest d, m);
-          same = ap length f ∙ front-same o (h .words ++ us) (omega (arith, l, clause-more-space, n));
+          same = ap length f ∙ front-same o (h .words ++ us) (omega (arith, l, clause-more-space, h .size));
         }
 
   module _ (e : getD s at 0 ≡ 3 → ⊥) where
@@ -403,8 +422,8 @@ module _ {s : List ℕ} {p : Plan} {o : List ℕ} {at clauses first : ℕ} {t : 
         → putMid (8 * clauses) (length t - 8 * clauses) t ys ≡ wordBytes (clauseWords p)
     unfolding clauseWords
     clause-end ys k =
-        rest-lent o t (h .words) 1_026 (8 * clauses) ys (h .filled) (omega (arith, h .count)) (h .same) n (omega (arith, h .count, clause-few)) k
-        ∙ ap (λ (x : List ℕ). wordBytes (padTo 1_026 x)) all-clauses
+        rest-lent o t (h .words) clauseWordCount (8 * clauses) ys (h .filled) (omega (arith, h .count)) (h .same) (h .size) (omega (arith, h .count, clause-few)) k
+        ∙ ap (λ (x : List ℕ). wordBytes (padTo clauseWordCount x)) all-clauses
 
 pub lawful-file : (s : List ℕ) (p : Plan) → read s ≡ accepted p → LawfulPlan p
 lawful-file s p a = plan-parts p (accepted-lawful s p a)

@@ -1,6 +1,6 @@
 -- Laws of places of an accepted file: what stands there, and what is found behind it. Each takes one field from an accepted reading.
 -- Assumes nothing.
-use Prim.Native.Nat.{ℕ, zero, suc, _+_, _-_, _/_, _≤_, _<_}
+use Prim.Native.Nat.{ℕ, zero, suc, _+_, _/_, _≤_, _<_}
 use native.Mathlib.Omega.{arith}
 use native.Mathlib.Nat.{zero-add}
 use mathlib.Core.Path.{_≡_, refl, sym, ap, ap₂, _∙_, subst}
@@ -15,13 +15,13 @@ use Rattle.plpb.specs.Plan.{Rule, Clause, Plan}
 use Rattle.plpb.specs.Tallies.{rulesOf}
 use Rattle.words.specs.Words.{numAt}
 use Rattle.format.specs.File as File
-use Rattle.format.specs.File.{State, Contents, refused, accepted, readFrom, read, begin, planOf, next, stageAfter, addField, finish, mayStand, tagAt, lengthAt, lengthLawful, termsIn, termsAt, fieldTerms, ruleAt, boundsLawful, modeAt, lowerAt, upperAt, wrongBounds}
+use Rattle.format.specs.File.{State, Contents, refused, accepted, readFrom, read, begin, planOf, next, stageAfter, addField, finish, mayStand, tagAt, lengthAt, lengthLawful, termsIn, termsAt, fieldTerms, ruleAt, boundsLawful, modeAt, lowerAt, upperAt, wrongBounds, behind}
 use Rattle.format.proofs.Bools.{and-left, true-T}
-use Rattle.format.proofs.Order.{behind, Standing, begins, rules, ends, standing}
+use Rattle.format.proofs.Order.{Standing, begins, rules, ends, standing}
 use Rattle.format.proofs.Fields.{Clean, read-end}
 use Rattle.format.proofs.Held.{not-refused, accepted-clean, accepted-behind, mapped}
 use Rattle.tables.specs.Places.{Found, Reads, Ran, RuleHere, firstClause, behindField, ruleFrom}
-use Rattle.tables.proofs.Judged.{tag-byte}
+use Rattle.judge.proofs.Judged.{tag-byte}
 
 -- What a field adds, by its tag.
 module _ (s : List ℕ) (at : ℕ) (d c : Contents) (same : addField s at d ≡ c) where

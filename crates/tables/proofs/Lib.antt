@@ -1,9 +1,8 @@
--- What holds of the code's answers beside the definitions of the file.
-pub mod Judged
-pub mod TermLaws
-pub mod Stepped
+-- What holds of the places of an accepted file, of the tables filled from it, and of loading.
 pub mod Found
 pub mod Entered
 pub mod Filled
 pub mod Dense
 pub mod Whole
+pub mod Holding
+pub mod Within

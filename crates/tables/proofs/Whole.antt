@@ -1,6 +1,6 @@
 -- Laws of the whole tables: the sections side by side, and what loading comes to.
 -- Assumes nothing.
-use Prim.Native.Nat.{ℕ, _+_, _-_, _≤_, _<_}
+use Prim.Native.Nat.{ℕ, _+_, _≤_, _<_}
 use native.Mathlib.Omega.{arith}
 use mathlib.Core.Path.{_≡_, refl, sym, ap, ap₂, _∙_}
 use mathlib.Core.Bool.{Bool, true, false}
@@ -23,65 +23,66 @@ use Rattle.format.proofs.Lists.{length-row}
 use Rattle.format.proofs.Lawful.{LawfulPlan, room-for}
 use Rattle.format.proofs.Spells.{length-padTo}
 use Rattle.format.proofs.Sections.{length-clauseEntries, length-ruleEntries, length-tableWords, length-termWords}
-use Rattle.tables.specs.declared.judge.Answer.{Answer}
-use Rattle.tables.specs.declared.judge.Answer.the-variants.{Accepted, Refused}
+use Rattle.judge.specs.declared.Answer.{Answer}
+use Rattle.judge.specs.declared.Answer.the-variants.{Accepted, Refused}
 use Rattle.tables.specs.Load.{outcome, tooSmall, loading, tablesOf, termsOf, tablesAfter, termsAfter}
 use Rattle.tables.specs.Places.{said}
 use Rattle.tables.specs.Sections.{objectiveWords, clauseWords, ruleWords}
 use Rattle.tables.proofs.Filled.{lawful-file}
+use Rattle.format.specs.Layout.{clauseSectionSize, clauseWordCount, clausesByte, objectiveByte, objectiveSize, ruleSectionSize, ruleWordCount, rulesByte}
 
 -- How long each section is.
 module _ (p : Plan) (q : LawfulPlan p) where
-  objective-long : length (wordBytes (objectiveWords p)) ≡ 2_048
+  objective-long : length (wordBytes (objectiveWords p)) ≡ objectiveSize
   unfolding objectiveWords
   objective-long =
       length-wordBytes (objectiveWords p)
       ∙ omega (arith, length-map (row 1 512) (λ x. unsigned (coefficient (p .objective) x)), length-row 1 512)
 
-  clauses-long : length (wordBytes (clauseWords p)) ≡ 4_104
+  clauses-long : length (wordBytes (clauseWords p)) ≡ clauseSectionSize
   unfolding clauseWords
   clauses-long =
       let n = length-clauseEntries 0 (p .clauses) in
-      length-wordBytes (clauseWords p) ∙ omega (arith, length-padTo 1_026 (clauseEntries 0 (p .clauses)) (omega (arith, n, q .clauseCount)))
+      length-wordBytes (clauseWords p) ∙ omega (arith, length-padTo clauseWordCount (clauseEntries 0 (p .clauses)) (omega (arith, n, q .clauseCount)))
 
-  rules-long : length (wordBytes (ruleWords p)) ≡ 20_500
+  rules-long : length (wordBytes (ruleWords p)) ≡ ruleSectionSize
   unfolding ruleWords
   rules-long =
       let n = length-ruleEntries 0 (rulesOf p) in
-      length-wordBytes (ruleWords p) ∙ omega (arith, length-padTo 5_125 (ruleEntries 0 (rulesOf p)) (omega (arith, n, q .ruleCount)))
+      length-wordBytes (ruleWords p) ∙ omega (arith, length-padTo ruleWordCount (ruleEntries 0 (rulesOf p)) (omega (arith, n, q .ruleCount)))
 
-  pub terms-long : length (wordBytes (termWords p)) ≡ 52_096
+  pub terms-long : length (wordBytes (termWords p)) ≡ termSize
   terms-long = omega (arith, length-wordBytes (termWords p), length-termWords p (room-for p q))
 
   -- The three sections behind the counts, written one behind the other.
   module _ (o y z w : List ℕ) (n : tableSize ≤ length o) (a : y ≡ wordBytes (objectiveWords p)) (b : z ≡ wordBytes (clauseWords p)) (c : w ≡ wordBytes (ruleWords p)) where
-    ly : length y ≡ 2_048
+    ly : length y ≡ objectiveSize
     ly = ap length a ∙ objective-long
 
-    lz : length z ≡ 4_104
+    lz : length z ≡ clauseSectionSize
     lz = ap length b ∙ clauses-long
 
-    lw : length w ≡ 20_500
+    lw : length w ≡ ruleSectionSize
     lw = ap length c ∙ rules-long
 
-    two : put 2_064 z (put 16 y o) ≡ put 16 (y ++ z) o
-    two = ap (λ (k : ℕ). put (16 + k) z (put 16 y o)) (sym ly) ∙ put-put 16 y z o (omega (arith, ly, n))
+    two : put clausesByte z (put objectiveByte y o) ≡ put objectiveByte (y ++ z) o
+    two = ap (λ (k : ℕ). put (16 + k) z (put objectiveByte y o)) (sym ly) ∙ put-put objectiveByte y z o (omega (arith, ly, n))
 
-    pub behind-head : putMid 6_168 20_500 (putMid 2_064 4_104 (putMid 16 2_048 o y) z) w ≡ put 16 (y ++ z ++ w) o
+    pub behind-head : putMid rulesByte ruleSectionSize (putMid clausesByte clauseSectionSize (putMid objectiveByte objectiveSize o y) z) w ≡ put objectiveByte (y ++ z ++ w) o
     behind-head =
-        lent-part 6_168 26_668 _ w (omega arith) lw
-        ∙ ap (put 6_168 w) (lent-part 2_064 6_168 _ z (omega arith) lz ∙ ap (put 2_064 z) (lent-part 16 2_064 o y (omega arith) ly) ∙ two)
-        ∙ ap (λ (k : ℕ). put k w (put 16 (y ++ z) o)) (let e : 6_168 ≡ 16 + length (y ++ z) = omega (arith, length-append y z, ly, lz) in e)
-        ∙ put-put 16 (y ++ z) w o (omega (arith, length-append y z, ly, lz, n))
+        lent-part rulesByte tableSize _ w (omega arith) lw
+        ∙ ap (put rulesByte w) (lent-part clausesByte rulesByte _ z (omega arith) lz ∙ ap (put clausesByte z) (lent-part objectiveByte clausesByte o y (omega arith) ly) ∙ two)
+        ∙ ap (λ (k : ℕ). put k w (put objectiveByte (y ++ z) o)) (let e : rulesByte ≡ objectiveByte + length (y ++ z) = omega (arith, length-append y z, ly, lz) in e)
+        ∙ put-put objectiveByte (y ++ z) w o (omega (arith, length-append y z, ly, lz, n))
 
-    pub behind-long : length (putMid 6_168 20_500 (putMid 2_064 4_104 (putMid 16 2_048 o y) z) w) ≡ length o
+    pub behind-long : length (putMid rulesByte ruleSectionSize (putMid clausesByte clauseSectionSize (putMid objectiveByte objectiveSize o y) z) w) ≡ length o
     behind-long =
         ap length behind-head
-        ∙ length-put 16 (y ++ z ++ w) o (omega (arith, length-append (y ++ z) w, length-append y z, ly, lz, lw, n))
+        ∙ length-put objectiveByte (y ++ z ++ w) o (omega (arith, length-append (y ++ z) w, length-append y z, ly, lz, lw, n))
 
     pub tables-whole :
         (u : List ℕ) {v cl ru te : ℕ} → v ≡ p .variables → cl ≡ length (p .clauses) → ru ≡ length (rulesOf p) → te ≡ termCount p
-        → u ≡ front (wordBytes (v ∷ cl ∷ ru ∷ te ∷ [])) (putMid 6_168 20_500 (putMid 2_064 4_104 (putMid 16 2_048 o y) z) w)
+        → u ≡ front (wordBytes (v ∷ cl ∷ ru ∷ te ∷ [])) (putMid rulesByte ruleSectionSize (putMid clausesByte clauseSectionSize (putMid objectiveByte objectiveSize o y) z) w)
         → u ≡ front (wordBytes (tableWords p)) o
     unfolding tableWords objectiveWords clauseWords ruleWords
     tables-whole u {v} {cl} {ru} {te} pv pc pr pt e =
@@ -102,7 +103,7 @@ module _ (p : Plan) (q : LawfulPlan p) where
 
 -- The term table.
 pub terms-whole :
-    (p : Plan) → LawfulPlan p → (o ys : List ℕ) → termSize ≤ length o → ys ≡ wordBytes (termWords p) → ys ++ postOf 0 52_096 o ≡ front (wordBytes (termWords p)) o
+    (p : Plan) → LawfulPlan p → (o ys : List ℕ) → termSize ≤ length o → ys ≡ wordBytes (termWords p) → ys ++ postOf 0 termSize o ≡ front (wordBytes (termWords p)) o
 unfolding front
 terms-whole p q o ys n e = ap₂ (λ (x : List ℕ) (k : ℕ). x ++ drop k o) e (sym (terms-long p q))
 

@@ -2,6 +2,7 @@
 -- (document 01, "The plan file" and "Who can cause which refusal").
 -- Assumes nothing.
 use Prim.Native.Nat.{ℕ}
+use mathlib.Core.Path.{_≡_}
 use mathlib.Core.Bool.{Bool, cond}
 use mathlib.Core.List.{List, _++_}
 use lib.Dec.{ltb}
@@ -9,25 +10,12 @@ use lib.ListN.{length, drop}
 use Rattle.plpb.specs.Lists.{_or_}
 use Rattle.plpb.specs.Plan.{Plan}
 use Rattle.words.specs.Words.{wordBytes}
+use Rattle.words.specs.Writes.{SameWithin}
 use Rattle.format.specs.File.{Reading, refused, accepted, read}
-use Rattle.format.specs.Tables.{tableWords, termWords, tableSize, termSize}
-use Rattle.tables.specs.declared.judge.Answer.{Answer}
-use Rattle.tables.specs.declared.judge.Answer.the-variants.{Accepted, Refused}
-
--- "A refusal carries its number": 0 stands for none.
-unfoldable pub refusalOf : Answer → ℕ
-refusalOf Accepted = 0
-refusalOf (Refused number offset) = number
-
--- ".. the number and the offset of the field's first byte", 0 where nothing is refused.
-unfoldable pub offsetOf : Answer → ℕ
-offsetOf Accepted = 0
-offsetOf (Refused number offset) = offset
-
--- What a reading comes to.
-unfoldable pub outcome : {A : Type 0} → Reading A → Answer
-outcome (refused number offset) = Refused number offset
-outcome (accepted a) = Accepted
+use Rattle.format.specs.Tables.{tableWords, termWords, tableSize, termSize, Holds}
+use Rattle.judge.specs.declared.Answer.{Answer}
+use Rattle.judge.specs.declared.Answer.the-variants.{Accepted, Refused}
+unfoldable pub use Rattle.judge.specs.Answers.{refusalOf, offsetOf, outcome}
 
 -- "21: a buffer or table smaller than the full limits need"
 unfoldable pub tooSmall : List ℕ → List ℕ → Bool
@@ -51,3 +39,18 @@ tablesAfter file tables terms = cond (tooSmall tables terms) tables (tablesOf (r
 
 unfoldable pub termsAfter : List ℕ → List ℕ → List ℕ → List ℕ
 termsAfter file tables terms = cond (tooSmall tables terms) terms (termsOf (read file) terms)
+
+-- "any file whose accepted loading leaves the tables": they hold the plan of that file, as demand 3 asks of the tables opened.
+abbrev pub LoadingHolds : Type 0
+LoadingHolds = (file tables terms : List ℕ)
+    → loading file tables terms ≡ Accepted
+    → (p : Plan) × (read file ≡ accepted p) × Holds p (tablesAfter file tables terms) (termsAfter file tables terms)
+
+-- "Places past the full limits are neither read [..]": tables that differ only there get the same answer, and are left the same within the limits.
+abbrev pub LoadsWithin : Type 0
+LoadsWithin = (file t u t' u' : List ℕ)
+    → SameWithin tableSize t t'
+    → SameWithin termSize u u'
+    → (loading file t u ≡ loading file t' u')
+    × SameWithin tableSize (tablesAfter file t u) (tablesAfter file t' u')
+    × SameWithin termSize (termsAfter file t u) (termsAfter file t' u')

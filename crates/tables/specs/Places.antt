@@ -7,8 +7,7 @@ use mathlib.Core.List.{List, []}
 use lib.Dec.{eqb}
 use lib.ListN.{length}
 use Rattle.plpb.specs.Plan.{Rule, Clause, Plan}
-use Rattle.format.specs.File.{State, Contents, Reading, refused, accepted, readFrom, read, tagAt, lengthAt, boundsLawful, modeAt, lowerAt, upperAt}
-use Rattle.format.proofs.Order.{behind}
+use Rattle.format.specs.File.{State, Contents, Reading, refused, accepted, readFrom, read, tagAt, lengthAt, boundsLawful, modeAt, lowerAt, upperAt, behind}
 
 -- The plan that a file says, and that it says one.
 unfoldable pub said : Reading Plan → Plan

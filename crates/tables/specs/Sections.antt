@@ -4,26 +4,22 @@ use Prim.Native.Nat.{ℕ, _*_, _-_}
 use mathlib.Core.Bool.{Bool}
 use mathlib.Core.List.{List, [], _∷_, map}
 use lib.Dec.{leb}
-use lib.ListN.{length}
 use Rattle.plpb.specs.Lists.{_and_, all, row}
 use Rattle.plpb.specs.Plan.{Term, Plan}
 use Rattle.plpb.specs.Tallies.{rulesOf}
 use Rattle.words.specs.Words.{bytesOf, unsigned}
 use Rattle.words.specs.Writes.{put}
-use Rattle.format.specs.Limits.{termCount}
 use Rattle.format.specs.Tables.{coefficient, padTo, clauseEntries, ruleEntries}
-
-unfoldable pub headWords : Plan → List ℕ
-headWords p = p .variables ∷ length (p .clauses) ∷ length (rulesOf p) ∷ termCount p ∷ []
+use Rattle.format.specs.Layout.{clauseWordCount, ruleWordCount}
 
 unfoldable pub objectiveWords : Plan → List ℕ
 objectiveWords p = map (λ x. unsigned (coefficient (p .objective) x)) (row 1 512)
 
 unfoldable pub clauseWords : Plan → List ℕ
-clauseWords p = padTo 1_026 (clauseEntries 0 (p .clauses))
+clauseWords p = padTo clauseWordCount (clauseEntries 0 (p .clauses))
 
 unfoldable pub ruleWords : Plan → List ℕ
-ruleWords p = padTo 5_125 (ruleEntries 0 (rulesOf p))
+ruleWords p = padTo ruleWordCount (ruleEntries 0 (rulesOf p))
 
 -- Terms written over a table that is dense by variable: each at its variable's place.
 unfoldable pub placed : List Term → List ℕ → List ℕ

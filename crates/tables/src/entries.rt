@@ -9,29 +9,17 @@ ghost use Rattle.format.specs.File.{termAt, termsAt, ruleAt};
 ghost use Rattle.format.specs.Tables.{ruleEntries, termEntries};
 ghost use Rattle.tables.specs.Places.{RuleHere};
 use crate::fields;
-
-fn narrow(n: usize) -> u32
-    requires { ⌜ n < 4_294_967_296 ⌝ }
-    ensures { λ r. ⌜ r ≡ n ⌝ }
-{
-    n as u32
-}
-
-fn put2(out: &mut [u8], a: u32, b: u32)
-    requires { ⌜ 8 ≤ length (now out) ⌝ }
-    ensures { λ _. ⌜ now (out .exit) ≡ front (wordBytes (a ∷ b ∷ [])) (now (out .entry)) ⌝ }
-{
-    words::write_u32(out, 0, a);
-    words::write_u32(out, 4, b);
-}
+use words::byte_word;
+use words::narrow;
+use words::write_two;
+use words::write_word;
 
 fn put4(out: &mut [u8], a: u32, b: u32, c: u32, d: u32)
     requires { ⌜ 16 ≤ length (now out) ⌝ }
     ensures { λ _. ⌜ now (out .exit) ≡ front (wordBytes (a ∷ b ∷ c ∷ d ∷ [])) (now (out .entry)) ⌝ }
 {
-    put2(out, a, b);
-    words::write_u32(out, 8, c);
-    words::write_u32(out, 12, d);
+    write_two(out, 0, a, b);
+    write_two(out, 2, c, d);
 }
 
 fn put5(out: &mut [u8], a: u32, b: u32, c: u32, d: u32, e: u32)
@@ -39,7 +27,7 @@ fn put5(out: &mut [u8], a: u32, b: u32, c: u32, d: u32, e: u32)
     ensures { λ _. ⌜ now (out .exit) ≡ front (wordBytes (a ∷ b ∷ c ∷ d ∷ e ∷ [])) (now (out .entry)) ⌝ }
 {
     put4(out, a, b, c, d);
-    words::write_u32(out, 16, e);
+    write_word(out, 4, e);
 }
 
 // The counts of variables, clauses, rules and terms.
@@ -61,13 +49,7 @@ pub fn put_clause(out: &mut [u8], first: usize, rules: usize)
     requires { ⌜ (8 ≤ length (now out)) × (first < 4_294_967_296) × (rules < 4_294_967_296) ⌝ }
     ensures { λ _. ⌜ now (out .exit) ≡ front (wordBytes (first ∷ rules ∷ [])) (now (out .entry)) ⌝ }
 {
-    put2(out, narrow(first), narrow(rules));
-}
-
-fn byte_word(b: u8) -> u32
-    ensures { λ r. ⌜ r ≡ b ⌝ }
-{
-    b as u32
+    write_two(out, 0, narrow(first), narrow(rules));
 }
 
 // A rule: its first term, how many it has, its mode and its two bounds.
@@ -88,8 +70,9 @@ fn put_term(file: &[u8], at: usize, out: &mut [u8])
     requires { ⌜ (at + 6 ≤ length (now file)) × (8 ≤ length (now out)) ⌝ }
     ensures { λ _. ⌜ now (out .exit) ≡ front (wordBytes (termEntries (termAt (now (file .entry)) at ∷ []))) (now (out .entry)) ⌝ }
 {
-    put2(
+    write_two(
         out,
+        0,
         words::read_u16(file, at),
         words::read_u32(file, at + 2),
     );

@@ -1,4 +1,4 @@
-// The plan file judged, and the tables filled from it (document 01, "The plan file").
+// The tables filled from a plan file that was judged lawful (document 01, "The plan file").
 // The whole file is judged before a byte is written; then each section of the tables is filled by a loop of its own.
 ghost use mathlib.Core.Path.{_≡_};
 ghost use Prim.Native.Nat.{_≤_};
@@ -10,11 +10,8 @@ ghost use Rattle.tables.specs.Load.{loading, tablesAfter, termsAfter};
 ghost use Rattle.tables.specs.Places.{Accepts, planOfFile};
 
 mod entries;
-mod field;
 mod fields;
-mod judge;
 mod sections;
-mod terms;
 
 pub use judge::Answer;
 
@@ -24,9 +21,15 @@ fn fill_tables(file: &[u8], tables: &mut [u8])
     requires { ⌜ tableSize ≤ length (now tables) ⌝ }
     ensures { λ _. ⌜ now (tables .exit) ≡ front (wordBytes (tableWords (planOfFile (now (file .entry))))) (now (tables .entry)) ⌝ }
 {
-    sections::objective_section(file, &mut tables[16..2064]);
-    let clauses = sections::clause_section(file, &mut tables[2064..6168]);
-    let counted = sections::rule_section(file, &mut tables[6168..format::TABLES]);
+    sections::objective_section(
+        file,
+        &mut tables[format::OBJECTIVE_BYTE..format::CLAUSES_BYTE],
+    );
+    let clauses = sections::clause_section(
+        file,
+        &mut tables[format::CLAUSES_BYTE..format::RULES_BYTE],
+    );
+    let counted = sections::rule_section(file, &mut tables[format::RULES_BYTE..format::TABLES]);
     let variables = words::read_u16(file, 3);
     entries::put_head(tables, variables, clauses, counted.rules, counted.terms);
 }

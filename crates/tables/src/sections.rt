@@ -11,6 +11,7 @@ ghost use Rattle.format.specs.File.{termsAt};
 ghost use Rattle.format.specs.Tables.{termWords};
 ghost use Rattle.tables.specs.Places.{Accepts, planOfFile};
 ghost use Rattle.tables.specs.Sections.{objectiveWords, clauseWords, ruleWords, placed, inRange};
+ghost use Rattle.format.specs.Layout.{clauseSectionSize, ruleSectionSize, termSize};
 use crate::entries;
 use crate::fields;
 
@@ -49,7 +50,7 @@ pub fn objective_section(file: &[u8], out: &mut [u8])
 // The clauses; it answers how many there are.
 pub fn clause_section(file: &[u8], out: &mut [u8]) -> usize
     requires { ⌜ Accepts (now file) ⌝ }
-    requires { ⌜ length (now out) ≡ 4_104 ⌝ }
+    requires { ⌜ length (now out) ≡ clauseSectionSize ⌝ }
     ensures { λ r. ⌜ (r ≡ length (planOfFile (now (file .entry)) .clauses))
         × (now (out .exit) ≡ wordBytes (clauseWords (planOfFile (now (file .entry))))) ⌝ }
 {
@@ -78,7 +79,7 @@ pub struct Counted {
 // The rules; it answers how many there are, and how many terms they have.
 pub fn rule_section(file: &[u8], out: &mut [u8]) -> Counted
     requires { ⌜ Accepts (now file) ⌝ }
-    requires { ⌜ length (now out) ≡ 20_500 ⌝ }
+    requires { ⌜ length (now out) ≡ ruleSectionSize ⌝ }
     ensures { λ r. ⌜ (r .rules ≡ length (rulesOf (planOfFile (now (file .entry))))) × (r .terms ≡ termCount (planOfFile (now (file .entry))))
         × (now (out .exit) ≡ wordBytes (ruleWords (planOfFile (now (file .entry))))) ⌝ }
 {
@@ -103,7 +104,7 @@ pub fn rule_section(file: &[u8], out: &mut [u8]) -> Counted
 // The terms of the rules: the term table is lent from its current end onward to the function that writes one rule's terms.
 pub fn term_section(file: &[u8], terms: &mut [u8])
     requires { ⌜ Accepts (now file) ⌝ }
-    requires { ⌜ length (now terms) ≡ 52_096 ⌝ }
+    requires { ⌜ length (now terms) ≡ termSize ⌝ }
     ensures { λ _. ⌜ now (terms .exit) ≡ wordBytes (termWords (planOfFile (now (file .entry)))) ⌝ }
 {
     let mut at = fields::first_rule(file);

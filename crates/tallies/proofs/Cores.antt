@@ -17,12 +17,13 @@ use Rattle.format.specs.Tables.{planOfTables}
 use Rattle.rules.specs.Terms.{bitsIn}
 use Rattle.tallies.specs.Layout.{tallySize, bitsOf, tallyBytes}
 use Rattle.tallies.specs.Calls.{turned}
-use Rattle.tallies.specs.Core.{Ready, tallyWord, Countable, Unused, Flippable, counted}
+use Rattle.tallies.specs.Core.{Ready, tallyWord, Countable, Unused, Flippable, recounted}
 use Rattle.tallies.proofs.Bits.{length-turned, turned-bits}
 use Rattle.tallies.proofs.TallyBytes.{roomy-fits, length-fresh}
 use Rattle.tallies.proofs.Tallied.{fresh-words, unused-rule, unused-clause}
 use Rattle.tallies.proofs.Laid.{variables-word}
 use Rattle.tallies.proofs.Narrow.{other-words}
+use Rattle.format.specs.Layout.{holdingAt}
 
 -- ---- the first n bytes
 
@@ -40,7 +41,7 @@ module _ (tables terms assignment : List ℕ) (y : Ready tables terms assignment
   pub first-bits-of : bitsIn (take n assignment) ≡ bitsOf (planOfTables tables terms .variables) assignment
   first-bits-of = bits-first n assignment ∙ ap (λ k. bitsOf k assignment) (e ∙ sym (variables-word tables terms (y .laid)))
 
-  pub first-counted : (t r u : List ℕ) → r ≡ drop tallySize t → u ≡ tallyBytes (freshCount (planOfTables tables terms) (bitsIn (take n assignment))) ++ r → u ≡ counted tables terms assignment t
+  pub first-counted : (t r u : List ℕ) → r ≡ drop tallySize t → u ≡ tallyBytes (freshCount (planOfTables tables terms) (bitsIn (take n assignment))) ++ r → u ≡ recounted tables terms assignment t
   first-counted t r u h k = k ∙ ap₂ (λ a l. tallyBytes (freshCount (planOfTables tables terms) a) ++ l) first-bits-of h
 
   pub first-fresh : (x : ℕ) (s : List ℕ) → s ≡ tallyBytes (freshCount (planOfTables tables terms) (flip (bitsOf (planOfTables tables terms .variables) assignment) x)) → s ≡ tallyBytes (freshCount (planOfTables tables terms) (flip (bitsIn (take n assignment)) x))
@@ -80,7 +81,7 @@ module _ (s ys : List ℕ) (room : tallySize ≤ length s) (e : ys ≡ replicate
   cleared-unused p =
       record {
         rules = λ i h k. zero-word (length (take tallySize s)) ys (drop tallySize s) i e (omega (arith, full));
-        clauses = λ c h k. zero-word (length (take tallySize s)) ys (drop tallySize s) (1_025 + c) e (omega (arith, full));
+        clauses = λ c h k. zero-word (length (take tallySize s)) ys (drop tallySize s) (holdingAt c) e (omega (arith, full));
       }
 
 module _ (tables terms assignment s ys : List ℕ) (y : Ready tables terms assignment) (n : ℕ) (e : n ≡ wordAt tables 0) (room : tallySize ≤ length s) (z : ys ≡ replicate (length (take tallySize s)) 0) where
@@ -100,7 +101,7 @@ module _ (tables terms bits tallies : List ℕ) (y : Ready tables terms bits) (x
       let word = fresh-words p (y .laid .room) (flip (bitsIn bits) x) tallies e in
       record {
         rules = λ i h k. word i (omega arith) ∙ unused-rule p fits (flip (bitsIn bits) x) i h k;
-        clauses = λ c h k. word (1_025 + c) (omega arith) ∙ unused-clause p fits (flip (bitsIn bits) x) c h k;
+        clauses = λ c h k. word (holdingAt c) (omega arith) ∙ unused-clause p fits (flip (bitsIn bits) x) c h k;
       }
 
   pub follow-countable : Countable tables terms bits tallies x false

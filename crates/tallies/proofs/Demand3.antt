@@ -9,7 +9,8 @@ use mathlib.Core.Bool.{Bool, true, false, not, cond, true≢false, false≢true}
 use mathlib.Core.List.{List, [], _∷_}
 use borrow.Author.Tests.{eqb-true, eqb-false}
 use lib.Dec.{eqb}
-use lib.ListN.{length, drop}
+use lib.ListN.{length}
+use Rattle.plpb.specs.Lists.{_and_}
 use Rattle.plpb.specs.Plan.{Plan, Assignment, value, flip, isVariable}
 use Rattle.plpb.specs.Book.{Call, flipCall, countsCall, entry, book}
 use Rattle.plpb.proofs.Lists.{not-not}
@@ -17,13 +18,14 @@ use Rattle.plpb.proofs.Flip.{length-flip, flip-same, flip-other}
 use Rattle.format.proofs.Accepted.{accepted-lawful}
 use Rattle.format.proofs.Lawful.{lawful-roomy}
 use Rattle.format.proofs.ReadBack.{read-back}
-use Rattle.tallies.specs.Layout.{tallySize, bitsOf}
-use Rattle.tallies.specs.Calls.{Lent, plan}
+use Rattle.tallies.specs.Calls.{Lent, plan, bits, told}
+use Rattle.tallies.specs.Narrow.{isRefused, isFlipOf}
 use Rattle.tallies.specs.Demand.{answers, after, opened, flipsOf, end, account, Agrees, Demand3}
-use Rattle.tallies.proofs.Bits.{length-bitsOf, take-bytes, drop-bytes}
-use Rattle.tallies.proofs.TallyBytes.{take-fresh, drop-fresh}
+use Rattle.tallies.proofs.Bits.{length-bitsOf, length-bitBytes}
+use Rattle.tallies.proofs.TallyBytes.{length-fresh}
 use Rattle.tallies.proofs.Refusals.{either, Opens, opens, assignment-room, plan-fits}
-use Rattle.tallies.proofs.Steps.{holding, held-bits, book-size, answers-of-book, after-book, opened-holding}
+use Rattle.tallies.proofs.Steps.{told-bits, book-size, answers-of-book, after-book, opened-told}
+use Rattle.tallies.proofs.Narrow.{each-call}
 
 -- ---- odd and even
 
@@ -47,44 +49,48 @@ turned-odd (suc (suc k)) v =
 
 -- ---- the book's bits turn once with each accepted flip
 
-one-flip : (b : Assignment) (x y k : ℕ) → 1 ≤ x → x ≤ length b → turns k (value (flip b y) x) ≡ turns (cond (eqb y x) 1 0 + k) (value b x)
-unfolding turns
+one-flip : (b : Assignment) (x y k : ℕ) → 1 ≤ x → x ≤ length b → turns k (value (flip b y) x) ≡ turns (cond (eqb y x and true) 1 0 + k) (value b x)
+unfolding turns _and_
 one-flip b x y k low high =
     either (eqb y x)
     (λ e. rw (e, eqb-true y x e, one-add, flip-same b x low high) (turns-not k (value b x)))
     (λ e. rw (e, zero-add, flip-other b y x (λ q. eqb-false y x e (sym q))))
 
+no-flip : (x y k : ℕ) → cond (eqb y x and false) 1 0 + k ≡ k
+unfolding _and_
+no-flip x y k = either (eqb y x) (λ e. rw (e, zero-add)) (λ e. rw (e, zero-add))
+
 value-turns : (p : Plan) (x : ℕ) (b : Assignment) (cs : List Call) → 1 ≤ x → x ≤ length b → value (book p b cs .bits) x ≡ turns (flipsOf x cs (book p b cs .answers)) (value b x)
-unfolding book flipsOf entry turns
+unfolding book flipsOf entry turns isFlipOf isRefused
 value-turns p x b [] low high = refl
 value-turns p x b (flipCall y ∷ cs) low high =
     either (isVariable p y)
     (λ e. rw (e, book) (value-turns p x (flip b y) cs low (rw length-flip high) ∙ one-flip b x y _ low high))
-    (λ e. rw (e, book) (value-turns p x b cs low high))
+    (λ e. rw (e, book, no-flip x y) (value-turns p x b cs low high))
 value-turns p x b (countsCall y ∷ cs) low high =
-    either (isVariable p y) (λ e. rw (e, book) (value-turns p x b cs low high)) (λ e. rw (e, book) (value-turns p x b cs low high))
+    either (isVariable p y) (λ e. rw (e, book, zero-add) (value-turns p x b cs low high)) (λ e. rw (e, book, zero-add) (value-turns p x b cs low high))
 
 -- ---- the whole list
 
 module _ (l : Lent) (o : Opens l) (cs : List Call) where
   lent-bits : Assignment
-  lent-bits = bitsOf (plan l .variables) (l .assignment)
+  lent-bits = bits l
 
-  bits-size : length lent-bits ≡ plan l .variables
+  lent-size : length lent-bits ≡ plan l .variables
   unfolding lent-bits
-  bits-size = length-bitsOf (plan l .variables) (l .assignment) (assignment-room l o)
+  lent-size = length-bitsOf (plan l .variables) (l .assignment) (assignment-room l o)
 
-  end-holding : end l cs ≡ holding l (account (plan l) l cs .bits)
+  end-told : end l cs ≡ told (plan l) l (account (plan l) l cs .bits)
   unfolding lent-bits
-  end-holding = ap (λ m. after m cs) (opened-holding l o) ∙ after-book l o lent-bits cs bits-size
+  end-told = ap (λ m. after m cs) (opened-told l o) ∙ after-book l o lent-bits cs lent-size
 
   end-size : length (account (plan l) l cs .bits) ≡ plan l .variables
   unfolding lent-bits
-  end-size = book-size (plan l) lent-bits cs ∙ bits-size
+  end-size = book-size (plan l) lent-bits cs ∙ lent-size
 
   end-answers : answers (opened l) cs ≡ account (plan l) l cs .answers
   unfolding lent-bits
-  end-answers = ap (λ m. answers m cs) (opened-holding l o) ∙ answers-of-book l o lent-bits cs bits-size
+  end-answers = ap (λ m. answers m cs) (opened-told l o) ∙ answers-of-book l o lent-bits cs lent-size
 
   pub agrees : Agrees (plan l) l cs
   unfolding lent-bits
@@ -92,13 +98,11 @@ module _ (l : Lent) (o : Opens l) (cs : List Call) where
       let b = account (plan l) l cs .bits in
       record {
         same-answers = end-answers;
-        same-bits = rw end-holding (unfold holding in take-bytes (plan l .variables) b (drop (plan l .variables) (l .assignment)) end-size);
-        fresh-tallies = rw end-holding (unfold holding in take-fresh (plan l) (plan-fits l o) b (drop tallySize (l .tallies)));
-        tables-kept = rw end-holding (unfold holding in refl);
-        terms-kept = rw end-holding (unfold holding in refl);
-        other-bytes-kept = rw end-holding (unfold holding in drop-bytes (plan l .variables) b (drop (plan l .variables) (l .assignment)) end-size);
-        other-tallies-kept = rw end-holding (unfold holding in drop-fresh (plan l) (plan-fits l o) b (drop tallySize (l .tallies)));
-        odd-flips = λ x low high. rw (end-holding, held-bits l b end-size, end-answers, value-turns (plan l) x lent-bits cs low (rw bits-size high)) (turned-odd (flipsOf x cs (account (plan l) l cs .answers)) (value lent-bits x));
+        same-state = end-told;
+        bits-size = length-bitBytes b ∙ end-size;
+        tallies-size = length-fresh (plan l) (plan-fits l o) b;
+        odd-flips = λ x low high. rw (end-told, told-bits l b end-size, end-answers, value-turns (plan l) x lent-bits cs low (rw lent-size high)) (turned-odd (flipsOf x cs (account (plan l) l cs .answers)) (value lent-bits x));
+        each-step = each-call (plan l) (opened l) cs (unfold opened plan in refl);
       }
 
 -- The plan of the file is the plan read back from the tables that hold it.

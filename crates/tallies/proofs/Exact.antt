@@ -5,21 +5,21 @@ use mathlib.Core.Path.{_≡_, sym, _∙_}
 use mathlib.Core.Bool.{Bool, true}
 use mathlib.Core.List.{List, [], _∷_, _++_, map}
 use lib.Dec.{T}
-use lib.ListN.{length, getD, length-append}
+use lib.ListN.{length, length-append}
 use Rattle.plpb.specs.Lists.{all, count, concat, sumBy}
 use Rattle.plpb.specs.Plan.{Term, Rule, Clause, Plan, Assignment, ruleHolds, rising}
 use Rattle.plpb.specs.Normal.{size, K, P}
 use Rattle.plpb.specs.Tallies.{rulesOf, unsatisfied, freshCount}
 use Rattle.plpb.proofs.Lists.{all-and, all-concat, count-le}
 use Rattle.plpb.proofs.Normal.{P-at-most-K}
-use Rattle.words.specs.Words.{wordAt}
-use Rattle.words.proofs.Words.{Below, below-nil, below-cons, below-append, wordAt-wordBytes}
+use Rattle.words.proofs.Words.{Below, below-nil, below-cons, below-append}
 use Rattle.format.specs.Limits.{ruleLawful, roomy}
 use Rattle.format.specs.Tables.{padTo}
 use Rattle.format.proofs.Bools.{and-left, and-right}
 use Rattle.format.proofs.Lawful.{termWithin, weight-small, terms-short, rule-parts, clauseLawful, RoomyPlan, roomy-parts}
-use Rattle.tallies.specs.Layout.{tallyWords, tallyBytes}
-use Rattle.tallies.proofs.TallyBytes.{padded, roomy-fits, length-fresh-words}
+use Rattle.tallies.specs.Layout.{tallyOrder, tallyWords}
+use Rattle.tallies.proofs.Order.{padded}
+use Rattle.format.specs.Layout.{clauseRoom, ruleRoom}
 
 K-small : (n : ℕ) (ts : List Term) → all (termWithin n) ts ≡ true → K ts ≤ 1_000_000 * length ts
 unfolding K sumBy all termWithin size
@@ -48,7 +48,7 @@ below-clauses b f h (c ∷ cs) e =
     below-cons b (f c) (map f cs) (omega (arith, h c)) (below-clauses b f h cs (omega arith))
 
 below-padTo : (b k : ℕ) (ws : List ℕ) → Below b ws → Below b (padTo k ws)
-below-padTo b k ws h i = rw (padded ws k i) (h i)
+below-padTo b k ws h i = rw (padded 0 ws k i) (h i)
 
 module _ (p : Plan) (t : T (roomy p)) (a : Assignment) where
   rules-below : Below 4_294_967_296 (freshCount p a .trueWeights)
@@ -67,14 +67,10 @@ module _ (p : Plan) (t : T (roomy p)) (a : Assignment) where
   total-below = omega (arith, count-le (unsatisfied a) (p .clauses), roomy-parts p t .clauseCount)
 
   pub fresh-below : Below 4_294_967_296 (tallyWords (freshCount p a))
-  unfolding tallyWords
+  unfolding tallyWords tallyOrder
   fresh-below =
-      below-append 4_294_967_296 (padTo 1_025 (freshCount p a .trueWeights)) (padTo 513 (freshCount p a .rulesHolding) ++ (freshCount p a .clausesUnsatisfied ∷ []))
-      (below-padTo 4_294_967_296 1_025 (freshCount p a .trueWeights) rules-below)
-      (below-append 4_294_967_296 (padTo 513 (freshCount p a .rulesHolding)) (freshCount p a .clausesUnsatisfied ∷ [])
-      (below-padTo 4_294_967_296 513 (freshCount p a .rulesHolding) clauses-below)
+      below-append 4_294_967_296 (padTo ruleRoom (freshCount p a .trueWeights)) (padTo clauseRoom (freshCount p a .rulesHolding) ++ (freshCount p a .clausesUnsatisfied ∷ []))
+      (below-padTo 4_294_967_296 ruleRoom (freshCount p a .trueWeights) rules-below)
+      (below-append 4_294_967_296 (padTo clauseRoom (freshCount p a .rulesHolding)) (freshCount p a .clausesUnsatisfied ∷ [])
+      (below-padTo 4_294_967_296 clauseRoom (freshCount p a .rulesHolding) clauses-below)
       (below-cons 4_294_967_296 (freshCount p a .clausesUnsatisfied) [] total-below (below-nil 4_294_967_296 (omega arith))))
-
-  pub fresh-word : (rest : List ℕ) (i : ℕ) → i < 1_539 → wordAt (tallyBytes (freshCount p a) ++ rest) i ≡ getD (tallyWords (freshCount p a)) i 0
-  unfolding tallyBytes
-  fresh-word rest i h = wordAt-wordBytes (tallyWords (freshCount p a)) rest i fresh-below (rw (length-fresh-words p (roomy-fits p t) a) h)

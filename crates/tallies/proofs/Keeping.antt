@@ -14,6 +14,7 @@ use Rattle.words.proofs.Words.{length-bytesOf}
 use Rattle.words.proofs.Writes.{length-put, read-put, read-before, read-behind}
 use Rattle.tallies.specs.Layout.{tallySize}
 use Rattle.tallies.specs.Core.{Wrote, Kept}
+use Rattle.format.specs.Layout.{tallyWordCount}
 
 -- What stands past a write is as it was.
 drop-put : (n at : ℕ) (bs s : List ℕ) → at + length bs ≤ n → n ≤ length s → drop n (put at bs s) ≡ drop n s
@@ -38,7 +39,7 @@ put-beside s i j v h n = at (decLt j i)
     at (yes l) = read-before 4 (4 * i) (4 * j) (bytesOf 4 v) s (omega arith) (omega arith)
     at (no l) = read-behind 4 (4 * i) (4 * j) (bytesOf 4 v) s (omega arith) (rw (length-bytesOf 4 v) (omega arith))
 
-pub put-wrote : (s : List ℕ) (i v : ℕ) → i < 1_539 → v < 4_294_967_296 → tallySize ≤ length s → Wrote i v s (put (4 * i) (bytesOf 4 v) s)
+pub put-wrote : (s : List ℕ) (i v : ℕ) → i < tallyWordCount → v < 4_294_967_296 → tallySize ≤ length s → Wrote i v s (put (4 * i) (bytesOf 4 v) s)
 unfolding wordAt
 put-wrote s i v h k l =
     let long = length-bytesOf 4 v in

@@ -27,6 +27,7 @@ use Rattle.rules.specs.Rules.{RuleInside, RuleReadable}
 use Rattle.rules.proofs.Tables.{rule-rises, table-rule-readable}
 use Rattle.tallies.specs.Core.{Laid, Ready, RunReadable}
 use Rattle.tallies.proofs.Exact.{rules-lawful}
+use Rattle.format.specs.Layout.{clauseCountAt, clauseFirstAt, clauseRoom, clausesAt, ruleCountAt, ruleFirstAt, ruleRoom, tableSize, termSize}
 
 -- ---- lists
 
@@ -74,23 +75,23 @@ all-follow p q h (x ∷ xs) t = and-both _ _ (h x (and-left _ _ t)) (all-follow 
 
 -- A clause's entry says where its rules begin and how many they are.
 clause-entry :
-    (f : ℕ → ℕ) (i first : ℕ) (cs : List Clause) → Spells f (516 + 2 * i) (clauseEntries first cs) → (c : ℕ) → c < length cs
-    → (f (516 + 2 * (i + c)) ≡ first + startOf cs c) × (f (517 + 2 * (i + c)) ≡ length (getD cs c []))
+    (f : ℕ → ℕ) (i first : ℕ) (cs : List Clause) → Spells f (clauseFirstAt i) (clauseEntries first cs) → (c : ℕ) → c < length cs
+    → (f (clauseFirstAt (i + c)) ≡ first + startOf cs c) × (f (clauseCountAt (i + c)) ≡ length (getD cs c []))
 unfolding Spells clauseEntries startOf concat
 clause-entry f i first [] s c h = absurd (omega arith)
 clause-entry f i first (q ∷ cs) s zero h =
-    let a : 517 + 2 * i ≡ suc (516 + 2 * i) = omega arith in
+    let a : clauseCountAt i ≡ suc (clauseFirstAt i) = omega arith in
     (rw (add-zero i, add-zero first) (s .0), rw (add-zero i, a) (s .1 .0))
 clause-entry f i first (q ∷ cs) s (suc c) h =
-    let b : 516 + 2 * suc i ≡ suc (suc (516 + 2 * i)) = omega arith in
+    let b : clausesAt + 2 * suc i ≡ suc (suc (clauseFirstAt i)) = omega arith in
     let ih = clause-entry f (suc i) (first + length q) cs (rw b (s .1 .1)) c (omega arith) in
     let sum : first + length (q ++ concat (take c cs)) ≡ first + length q + length (concat (take c cs)) = rw (length-append q (concat (take c cs))) (omega arith) in
     (rw (add-suc i c, ← suc-add i c, sum) (ih .0), rw (add-suc i c, ← suc-add i c) (ih .1))
 
 -- A rule's terms end where all terms do or before.
 rule-end :
-    (f : ℕ → ℕ) (i first : ℕ) (rs : List Rule) → Spells f (1_542 + 5 * i) (ruleEntries first rs) → (r : ℕ) → r < length rs
-    → f (1_542 + 5 * (i + r)) + f (1_543 + 5 * (i + r)) ≤ first + sumBy (λ q. length (q .terms)) rs
+    (f : ℕ → ℕ) (i first : ℕ) (rs : List Rule) → Spells f (ruleFirstAt i) (ruleEntries first rs) → (r : ℕ) → r < length rs
+    → f (ruleFirstAt (i + r)) + f (ruleCountAt (i + r)) ≤ first + sumBy (λ q. length (q .terms)) rs
 unfolding sumBy
 rule-end f i first [] s r h = absurd (omega arith)
 rule-end f i first (q ∷ rs) s zero h =
@@ -112,15 +113,15 @@ module _ (tables terms : List ℕ) (l : Laid tables terms) where
   pub sections : Sections (planOfTables tables terms) (wordAt tables) (wordAt terms)
   sections = holds-sections here parts tables terms (l .holds)
 
-  pub tables-long : 26_668 ≤ length tables
+  pub tables-long : tableSize ≤ length tables
   unfolding Holds
   tables-long =
-      omega (arith, sym (length-take 26_668 tables) ∙ ap length (l .holds .0) ∙ length-wordBytes (tableWords here) ∙ ap (λ k. 4 * k) (length-tableWords here parts))
+      omega (arith, sym (length-take tableSize tables) ∙ ap length (l .holds .0) ∙ length-wordBytes (tableWords here) ∙ ap (λ k. 4 * k) (length-tableWords here parts))
 
-  pub terms-long : 52_096 ≤ length terms
+  pub terms-long : termSize ≤ length terms
   unfolding Holds
   terms-long =
-      omega (arith, sym (length-take 52_096 terms) ∙ ap length (l .holds .1) ∙ length-wordBytes (termWords here) ∙ ap (λ k. 4 * k) (length-termWords here parts))
+      omega (arith, sym (length-take termSize terms) ∙ ap length (l .holds .1) ∙ length-wordBytes (termWords here) ∙ ap (λ k. 4 * k) (length-termWords here parts))
 
   pub variables-word : planOfTables tables terms .variables ≡ wordAt tables 0
   unfolding planOfTables planIn
@@ -132,10 +133,10 @@ module _ (tables terms : List ℕ) (l : Laid tables terms) where
   pub rules-word : wordAt tables 2 ≡ length (rulesOf (planOfTables tables terms))
   rules-word = sections .ruleCount
 
-  pub clauses-few : wordAt tables 1 ≤ 513
+  pub clauses-few : wordAt tables 1 ≤ clauseRoom
   clauses-few = omega (arith, clauses-word, parts .clauseCount)
 
-  pub rules-few : wordAt tables 2 ≤ 1_025
+  pub rules-few : wordAt tables 2 ≤ ruleRoom
   rules-few = omega (arith, rules-word, parts .ruleCount)
 
   -- The clauses and the rules as they are read.
@@ -149,16 +150,16 @@ module _ (tables terms : List ℕ) (l : Laid tables terms) where
 
   -- The rules of a clause begin where those of the one before it end.
   module _ (c : ℕ) (h : c < wordAt tables 1) where
-    pub first-rule : wordAt tables (516 + 2 * c) ≡ startOf (planOfTables tables terms .clauses) c
+    pub first-rule : wordAt tables (clauseFirstAt c) ≡ startOf (planOfTables tables terms .clauses) c
     first-rule =
         rw (zero-add, zero-add) at (clause-entry (wordAt tables) 0 0 (here .clauses) (sections .clauseEntry) c (omega (arith, clauses-word)) .0)
 
-    pub next-rule : startOf (planOfTables tables terms .clauses) (suc c) ≡ wordAt tables (516 + 2 * c) + wordAt tables (517 + 2 * c)
+    pub next-rule : startOf (planOfTables tables terms .clauses) (suc c) ≡ wordAt tables (clauseFirstAt c) + wordAt tables (clauseCountAt c)
     next-rule =
         let n = rw zero-add at (clause-entry (wordAt tables) 0 0 (here .clauses) (sections .clauseEntry) c (omega (arith, clauses-word)) .1) in
         omega (arith, start-next (here .clauses) c (omega (arith, clauses-word)), first-rule, n)
 
-    pub rules-inside : wordAt tables (516 + 2 * c) + wordAt tables (517 + 2 * c) ≤ wordAt tables 2
+    pub rules-inside : wordAt tables (clauseFirstAt c) + wordAt tables (clauseCountAt c) ≤ wordAt tables 2
     unfolding rulesOf
     rules-inside = omega (arith, next-rule, start-within (here .clauses) (suc c), rules-word)
 
@@ -176,18 +177,18 @@ module _ (tables terms : List ℕ) (l : Laid tables terms) where
         let q = ruleOf (wordAt tables) (wordAt terms) r in
         rw (rule-here r q h) at (all-at (ruleLawful (here .variables)) (rulesOf here) r q (true-T _ (rules-lawful here parts)) (omega (arith, rules-word)))
 
-    pub entry-inside : 4 * (1_542 + 5 * r) + 20 ≤ length tables
+    pub entry-inside : 4 * (ruleFirstAt r) + 20 ≤ length tables
     entry-inside = omega (arith, tables-long, rules-few)
 
-    pub terms-inside : 8 * (wordAt tables (1_542 + 5 * r) + wordAt tables (1_543 + 5 * r)) ≤ length terms
+    pub terms-inside : 8 * (wordAt tables (ruleFirstAt r) + wordAt tables (ruleCountAt r)) ≤ length terms
     unfolding termCount
     terms-inside =
         let e = rw zero-add at (rule-end (wordAt tables) 0 0 (rulesOf here) (sections .ruleEntry) r (omega (arith, rules-word))) in
         omega (arith, e, parts .terms, terms-long)
 
-    pub rule-inside : RuleInside tables terms (1_542 + 5 * r)
+    pub rule-inside : RuleInside tables terms (ruleFirstAt r)
     rule-inside =
-        let one : 1_542 + 5 * r + 1 ≡ 1_543 + 5 * r = omega arith in
+        let one : ruleFirstAt r + 1 ≡ ruleCountAt r = omega arith in
         record { entry = entry-inside; body = rw one terms-inside }
 
   -- Variable numbers rise in every rule.
@@ -197,7 +198,7 @@ module _ (tables terms : List ℕ) (l : Laid tables terms) where
       rw (← all-concat (λ r. rising (r .terms)) (here .clauses))
       (all-follow (ruleLawful (here .variables)) (λ r. rising (r .terms)) (rule-rises (here .variables)) (concat (here .clauses)) (unfold rulesOf in true-T _ (rules-lawful here parts)))
 
-pub rule-ready : (tables terms assignment : List ℕ) → Ready tables terms assignment → (r : ℕ) → r < wordAt tables 2 → RuleReadable tables terms assignment (1_542 + 5 * r)
+pub rule-ready : (tables terms assignment : List ℕ) → Ready tables terms assignment → (r : ℕ) → r < wordAt tables 2 → RuleReadable tables terms assignment (ruleFirstAt r)
 rule-ready tables terms assignment y r h =
     let l = y .laid in
     table-rule-readable tables terms assignment (planOfTables tables terms .variables) r (rule-lawful tables terms l r h)

@@ -1,6 +1,7 @@
 -- What holds of opening, flip and counts.
 pub mod Along
 pub mod Bits
+pub mod Order
 pub mod TallyBytes
 pub mod Exact
 pub mod Tallied
@@ -8,8 +9,9 @@ pub mod Laid
 pub mod Keeping
 pub mod Refusals
 pub mod Steps
-pub mod Demand3
 pub mod Narrow
+pub mod Demand3
+pub mod Within
 pub mod Unnamed
 pub mod Recounting
 pub mod Cores

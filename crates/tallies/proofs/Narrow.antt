@@ -3,34 +3,36 @@ use Prim.Native.Nat.{ℕ, zero, suc, _+_, _-_, _/_, _≤_, _<_}
 use native.Mathlib.Nat.{le-trans}
 use native.Mathlib.Decide.{decLt}
 use native.Mathlib.Omega.{arith}
-use mathlib.Core.Path.{_≡_, refl, sym, ap, ap₂, _∙_}
-use mathlib.Core.Logic.{_≢_}
-use mathlib.Core.Bool.{Bool, true, false, cond, true≢false}
+use mathlib.Core.Path.{_≡_, refl, sym, ap, ap₂, subst, _∙_}
+use mathlib.Core.Bool.{Bool, true, false, not, cond, true≢false, false≢true}
 use mathlib.Core.List.{List, [], _∷_, _++_, map}
-use borrow.Author.Tests.{eqb-true, eqb-false, lt-ltb, le-ltb}
+use borrow.Author.Tests.{eq-eqb, eqb-true, eqb-false}
 use lib.Dec.{eqb, eqb·suc-zero}
 use lib.IntN.{pos, _+ℤ_}
-use lib.ListN.{length, getD, drop, List·getD-append}
+use lib.ListN.{length, getD, drop, length-map, List·getD-append, List·getD-eq-default}
 use lib.Seq.{getD-append-add, getD-set-same, getD-set-other}
 use Rattle.plpb.specs.Lists.{_or_, _and_, any, count, sumBy}
 use Rattle.plpb.specs.Plan.{Term, Rule, Clause, Plan, Assignment, flip, total, atLeast, atMost, ruleHolds, namedIn, names}
 use Rattle.plpb.specs.Normal.{literal, size, P}
-use Rattle.plpb.specs.Tallies.{Tallies, rulesOf, freshCount}
-use Rattle.plpb.specs.Book.{flipCall, countsCall}
+use Rattle.plpb.specs.Tallies.{rulesOf, freshCount}
+use Rattle.plpb.specs.Book.{Call, flipCall, countsCall, refused, accepted}
 use Rattle.plpb.proofs.Lists.{count-nil, count-cons}
 use Rattle.plpb.proofs.Flip.{length-flip, flip-other, flip-twice, flip-literal-other}
 use Rattle.words.specs.Words.{bytesOf, wordBytes}
 use Rattle.words.proofs.Words.{length-bytesOf}
-use Rattle.format.specs.Tables.{padTo}
-use Rattle.format.proofs.Spells.{length-padTo}
-use Rattle.tallies.specs.Layout.{tallySize, bitsOf, tallyWords, tallyBytes}
-use Rattle.tallies.specs.Calls.{Lent, plan, callRefusal, turned, flipAssignment, flipTallies}
-use Rattle.tallies.specs.Demand.{answer, leaves}
-use Rattle.tallies.proofs.TallyBytes.{Fits, padded, fresh-rules, fresh-clauses, length-fresh-words, length-fresh}
+use Rattle.format.specs.Layout.{clauseRoom, holdingAt, ruleRoom, tallyWordCount, unsatisfiedAt}
+use Rattle.format.proofs.Bools.{and-left, and-right}
+use Rattle.tallies.specs.Layout.{tallySize, tallyWords, tallyBytes}
+use Rattle.tallies.specs.Calls.{Lent, plan, bits, told, callRefusal, turned, flipAssignment, answer, leftBy}
+use Rattle.tallies.specs.Narrow.{rulesNaming, clausesNaming, concerns, isRefused, isFlipOf, Narrow, Step, EveryCall}
+use Rattle.tallies.specs.Demand.{EachStep}
+use Rattle.tallies.specs.Core.{tallyWord}
+use Rattle.tallies.proofs.Order.{order-rule, order-clause, order-whole}
+use Rattle.tallies.proofs.TallyBytes.{Fits, length-fresh-words, length-fresh}
+use Rattle.tallies.proofs.Tallied.{weights-at, holding-at}
 use Rattle.tallies.proofs.Bits.{length-bitsOf, length-turned}
-use Rattle.tallies.proofs.Refusals.{either, variable-range, Opens, takes, plan-fits, assignment-room, counts-leaves, refused-leaves}
-use Rattle.tallies.proofs.Steps.{holding, holding-tallies-room, holding-flip, holding-refusal, lent-holding}
-use Rattle.tallies.specs.Narrow.{rulesNaming, clausesNaming, concerns, Narrow, FlipsNarrow, OthersChangeNothing}
+use Rattle.tallies.proofs.Refusals.{either, variable-range, Opens, takes, plan-fits, assignment-room, counts-left, refused-left}
+use Rattle.tallies.proofs.Steps.{told-tallies-room, told-flip, told-refusal, lent-told}
 
 -- ---- what a flip leaves of a rule and a clause that do not name its variable
 
@@ -93,11 +95,6 @@ same-parts xs us ys vs k i e d f g = at (decLt i k)
     at (yes h) = List·getD-append xs ys 0 i (rw e h) ∙ f h ∙ sym (List·getD-append us vs 0 i (rw d h))
     at (no h) = behind xs ys k i e (omega arith) ∙ g (omega arith) ∙ sym (behind us vs k i d (omega arith))
 
-same-padded : (ws us ys vs : List ℕ) (k i : ℕ) → length ws ≤ k → length us ≤ k → (i < k → getD ws i 0 ≡ getD us i 0) → (k ≤ i → getD ys (i - k) 0 ≡ getD vs (i - k) 0) → getD (padTo k ws ++ ys) i 0 ≡ getD (padTo k us ++ vs) i 0
-same-padded ws us ys vs k i e d f g =
-    same-parts (padTo k ws) (padTo k us) ys vs k i (length-padTo k ws e) (length-padTo k us d)
-    (λ h. padded ws k i ∙ f h ∙ sym (padded us k i)) g
-
 same-bytes-at : (ws us : List ℕ) (i : ℕ) → length ws ≡ length us → getD ws (i / 4) 0 ≡ getD us (i / 4) 0 → getD (wordBytes ws) i 0 ≡ getD (wordBytes us) i 0
 unfolding wordBytes
 same-bytes-at [] [] i e h = refl
@@ -108,45 +105,52 @@ same-bytes-at (w ∷ ws) (u ∷ us) i e h =
     (λ l. let z : i / 4 ≡ 0 = omega arith in ap (λ v. getD (bytesOf 4 v) i 0) (rw z at h))
     (λ l. let z : i / 4 ≡ suc ((i - 4) / 4) = omega arith in same-bytes-at ws us (i - 4) (omega arith) (rw z at h))
 
-module _ (p : Plan) (x i : ℕ) where
-  concerns-rule : i < 1_025 → concerns p x i ≡ getD (rulesNaming p x) i false
-  unfolding concerns
-  concerns-rule h = rw (lt-ltb i 1_025 h)
+-- Which words concern a variable, section by section.
+module _ (p : Plan) (fits : Fits p) (x : ℕ) where
+  few-rules : length (rulesNaming p x) ≤ ruleRoom
+  unfolding rulesNaming
+  few-rules = simp length-map (fits .rules)
 
-  concerns-clause : 1_025 ≤ i → i < 1_538 → concerns p x i ≡ getD (clausesNaming p x) (i - 1_025) false
-  unfolding concerns
-  concerns-clause h k = rw (le-ltb i 1_025 h, lt-ltb i 1_538 k)
+  few-clauses : length (clausesNaming p x) ≤ clauseRoom
+  unfolding clausesNaming
+  few-clauses = simp length-map (fits .clauses)
 
-  concerns-total : 1_538 ≤ i → concerns p x i ≡ eqb i 1_538
+  pub concerns-rule : (r : ℕ) → r < ruleRoom → concerns p x r ≡ getD (rulesNaming p x) r false
   unfolding concerns
-  concerns-total h = rw (le-ltb i 1_025 (omega arith), le-ltb i 1_538 h)
+  concerns-rule r h = order-rule false _ _ _ few-rules few-clauses r h
 
--- The last word is one alone.
-past-last : (t u j : ℕ) → j ≢ 0 → getD (t ∷ []) j 0 ≡ getD (u ∷ []) j 0
-past-last t u zero h = absurd (h refl)
-past-last t u (suc j) h = refl
+  pub concerns-clause : (c : ℕ) → c < clauseRoom → concerns p x (holdingAt c) ≡ getD (clausesNaming p x) c false
+  unfolding concerns
+  concerns-clause c h = order-clause false _ _ _ few-rules few-clauses c h
+
+  concerns-total : concerns p x unsatisfiedAt ≡ true
+  unfolding concerns
+  concerns-total = order-whole false _ _ _ few-rules few-clauses
+
+-- Past the total there is no word.
+past-words : (p : Plan) → Fits p → (a : Assignment) (i : ℕ) → tallyWordCount ≤ i → tallyWord p a i ≡ 0
+unfolding tallyWord
+past-words p fits a i h = List·getD-eq-default (tallyWords (freshCount p a)) 0 (rw (length-fresh-words p fits a) h)
 
 module _ (p : Plan) (fits : Fits p) (a : Assignment) (x : ℕ) where
-  pub other-words : (i : ℕ) → concerns p x i ≡ false → getD (tallyWords (freshCount p (flip a x))) i 0 ≡ getD (tallyWords (freshCount p a)) i 0
-  unfolding tallyWords
-  other-words i e =
-      same-padded (u .trueWeights) (t .trueWeights) (padTo 513 (u .rulesHolding) ++ (u .clausesUnsatisfied ∷ []))
-      (padTo 513 (t .rulesHolding) ++ (t .clausesUnsatisfied ∷ [])) 1_025 i
-      (fresh-rules p fits (flip a x)) (fresh-rules p fits a)
-      (λ h. other-rules p a x i (sym (concerns-rule p x i h) ∙ e))
-      (λ h. same-padded (u .rulesHolding) (t .rulesHolding) (u .clausesUnsatisfied ∷ []) (t .clausesUnsatisfied ∷ []) 513 (i - 1_025)
-      (fresh-clauses p fits (flip a x)) (fresh-clauses p fits a)
-      (λ k. other-clauses p a x (i - 1_025) (sym (concerns-clause p x i h (omega arith)) ∙ e))
-      (λ k. past-last (u .clausesUnsatisfied) (t .clausesUnsatisfied) (i - 1_025 - 513) (λ z. eqb-false i 1_538 (sym (concerns-total p x i (omega arith)) ∙ e) (omega arith))))
-    where
-      t : Tallies
-      t = freshCount p a
+  other-clause : (i : ℕ) → ruleRoom ≤ i → i < unsatisfiedAt → concerns p x i ≡ false → tallyWord p (flip a x) i ≡ tallyWord p a i
+  other-clause i h k e =
+      let z : i ≡ holdingAt (i - ruleRoom) = omega arith in
+      let c = i - ruleRoom in
+      let l : c < clauseRoom = omega arith in
+      rw z (holding-at p fits (flip a x) c l ∙ other-clauses p a x c (sym (concerns-clause p fits x c l) ∙ rw z at e) ∙ sym (holding-at p fits a c l))
 
-      u : Tallies
-      u = freshCount p (flip a x)
+  pub other-words : (i : ℕ) → concerns p x i ≡ false → tallyWord p (flip a x) i ≡ tallyWord p a i
+  other-words i e = at (decLt i ruleRoom) (decLt i unsatisfiedAt) (decLt unsatisfiedAt i)
+    where
+      at : Dec (i < ruleRoom) → Dec (i < unsatisfiedAt) → Dec (unsatisfiedAt < i) → tallyWord p (flip a x) i ≡ tallyWord p a i
+      at (yes h) k m = weights-at p fits (flip a x) i h ∙ other-rules p a x i (sym (concerns-rule p fits x i h) ∙ e) ∙ sym (weights-at p fits a i h)
+      at (no h) (yes k) m = other-clause i (omega arith) k e
+      at (no h) (no k) (yes m) = past-words p fits (flip a x) i m ∙ sym (past-words p fits a i m)
+      at (no h) (no k) (no m) = let z : i ≡ unsatisfiedAt = omega arith in absurd (true≢false (sym (concerns-total p fits x) ∙ rw z at e))
 
   pub other-bytes : (i : ℕ) (rest : List ℕ) → concerns p x (i / 4) ≡ false → getD (tallyBytes (freshCount p (flip a x)) ++ rest) i 0 ≡ getD (tallyBytes (freshCount p a) ++ rest) i 0
-  unfolding tallyBytes
+  unfolding tallyBytes tallyWord
   other-bytes i rest e =
       same-parts (tallyBytes (freshCount p (flip a x))) (tallyBytes (freshCount p a)) rest rest tallySize i
       (length-fresh p fits (flip a x)) (length-fresh p fits a)
@@ -166,7 +170,7 @@ getD-turned a (suc j) i h =
 
 module _ (l : Lent) (x : ℕ) (e : callRefusal l x ≡ 0) where
   b : Assignment
-  b = bitsOf (plan l .variables) (l .assignment)
+  b = bits l
 
   o : Opens l
   o = takes l x e .opening
@@ -175,51 +179,82 @@ module _ (l : Lent) (x : ℕ) (e : callRefusal l x ≡ 0) where
   unfolding b
   bits-size = length-bitsOf (plan l .variables) (l .assignment) (assignment-room l o)
 
-  lent-now : l ≡ holding l b
+  lent-now : l ≡ told (plan l) l b
   unfolding b
-  lent-now = lent-holding l o (takes l x e .fresh)
+  lent-now = lent-told l o (takes l x e .fresh)
 
-  left : leaves l (flipCall x) ≡ holding l (flip b x)
-  left = ap (λ m. leaves m (flipCall x)) lent-now ∙ holding-flip l o b bits-size x (takes l x e .variable)
+  left : leftBy l (flipCall x) ≡ told (plan l) l (flip b x)
+  left = ap (λ m. leftBy m (flipCall x)) lent-now ∙ told-flip l o b bits-size x (takes l x e .variable)
 
   left-size : length (flip b x) ≡ plan l .variables
   left-size = length-flip b x ∙ bits-size
 
-  left-assignment : flipAssignment l x ≡ turned (l .assignment) x
-  unfolding flipAssignment
+  left-assignment : leftBy l (flipCall x) .assignment ≡ turned (l .assignment) x
+  unfolding leftBy flipAssignment
   left-assignment = rw e refl
 
-  left-tallies : flipTallies l x ≡ holding l (flip b x) .tallies
-  unfolding leaves
+  left-tallies : leftBy l (flipCall x) .tallies ≡ told (plan l) l (flip b x) .tallies
   left-tallies = ap (λ m. m .tallies) left
 
-  other-tallies : (i : ℕ) → concerns (plan l) x (i / 4) ≡ false → getD (flipTallies l x) i 0 ≡ getD (l .tallies) i 0
-  unfolding holding
+  other-tallies : (i : ℕ) → concerns (plan l) x (i / 4) ≡ false → getD (leftBy l (flipCall x) .tallies) i 0 ≡ getD (l .tallies) i 0
+  unfolding told
   other-tallies i h =
       ap (λ s. getD s i 0) left-tallies
       ∙ other-bytes (plan l) (plan-fits l o) b x i (drop tallySize (l .tallies)) h
       ∙ sym (ap (λ m. getD (m .tallies) i 0) lent-now)
 
-  narrow : Narrow l x
+  again : isRefused (answer (told (plan l) l (flip b x)) (flipCall x)) ≡ false
+  unfolding answer isRefused
+  again = rw (told-refusal l o (flip b x) left-size x, takes l x e .variable)
+
+  narrow : Narrow (plan l) x l (leftBy l (flipCall x))
   narrow =
       let v = variable-range (plan l) x (takes l x e .variable) in
       record {
         one-byte = λ i. rw left-assignment (getD-turned (l .assignment) x i (le-trans (v .1) (assignment-room l o)));
         other-tallies = other-tallies;
         assignment-length = rw left-assignment (length-turned (l .assignment) x);
-        tallies-length = rw left-tallies (holding-tallies-room l o (flip b x) left-size);
-        accepted-again = rw (left, holding-refusal l o (flip b x) left-size x, takes l x e .variable);
-        restored = rw left (holding-flip l o (flip b x) left-size x (takes l x e .variable) ∙ ap (holding l) (flip-twice b x) ∙ sym lent-now);
+        tallies-length = rw left-tallies (told-tallies-room l o (flip b x) left-size);
+        tables-kept = unfold leftBy in refl;
+        terms-kept = unfold leftBy in refl;
+        accepted-again = rw left again;
+        restored = rw left (told-flip l o (flip b x) left-size x (takes l x e .variable) ∙ ap (told (plan l) l) (flip-twice b x) ∙ sym lent-now);
       }
 
-pub flips-narrow : FlipsNarrow
-flips-narrow = narrow
+-- A call is an accepted flip of a variable where it is a flip of it that is not refused.
+accepted-only : (k : ℕ) → not (isRefused (cond (eqb k 0) accepted (refused k))) ≡ eqb k 0
+unfolding isRefused
+accepted-only zero = refl
+accepted-only (suc k) = rw (eqb·suc-zero k)
 
-pub others-change-nothing : OthersChangeNothing
-unfolding answer
-others-change-nothing l (flipCall x) h = go (callRefusal l x) refl
+is-flip : (l : Lent) (x y : ℕ) → isFlipOf x (flipCall y) (answer l (flipCall y)) ≡ (eqb y x and eqb (callRefusal l y) 0)
+unfolding isFlipOf answer
+is-flip l x y = ap (λ b. eqb y x and b) (accepted-only (callRefusal l y))
+
+flip-step : (l : Lent) (x y : ℕ) → isFlipOf x (flipCall y) (answer l (flipCall y)) ≡ true → Narrow (plan l) x l (leftBy l (flipCall y))
+flip-step l x y h =
+    let t = sym (is-flip l x y) ∙ h in
+    let z : x ≡ y = sym (eqb-true y x (and-left _ _ t)) in
+    rw z (narrow l y (eqb-true (callRefusal l y) 0 (and-right _ _ t)))
+
+flip-refused : (l : Lent) (y : ℕ) → isFlipOf y (flipCall y) (answer l (flipCall y)) ≡ false → leftBy l (flipCall y) ≡ l
+unfolding _and_
+flip-refused l y h = go (callRefusal l y) refl
   where
-    go : (k : ℕ) → callRefusal l x ≡ k → leaves l (flipCall x) ≡ l
-    go zero e = absurd (h (rw e refl))
-    go (suc k) e = refused-leaves l x e
-others-change-nothing l (countsCall x) h = counts-leaves l x
+    go : (k : ℕ) → callRefusal l y ≡ k → leftBy l (flipCall y) ≡ l
+    go zero e = absurd (true≢false (sym (is-flip l y y ∙ rw (e, eq-eqb y y refl) refl) ∙ h))
+    go (suc k) e = refused-left l y e
+
+pub every-call : EveryCall
+every-call l (flipCall y) = record { flip-narrow = λ x h. flip-step l x y h; others-nothing = λ h. flip-refused l y (h y) }
+every-call l (countsCall y) = record { flip-narrow = λ x h. absurd (false≢true (unfold isFlipOf in h)); others-nothing = λ h. counts-left l y }
+
+-- .. and of each call of a list, because no call changes the tables.
+left-plan : (l : Lent) (c : Call) → plan (leftBy l c) ≡ plan l
+unfolding plan leftBy
+left-plan l (flipCall x) = refl
+left-plan l (countsCall x) = refl
+
+pub each-call : (p : Plan) (l : Lent) (cs : List Call) → plan l ≡ p → EachStep p l cs
+each-call p l [] e = tt
+each-call p l (c ∷ cs) e = (subst (λ q. Step q l c) e (every-call l c), each-call p (leftBy l c) cs (left-plan l c ∙ e))

@@ -15,8 +15,7 @@ use Rattle.format.specs.Limits.{lawful}
 use Rattle.format.specs.Tables.{isLoaded, sameBytes}
 use Rattle.format.proofs.Lawful.{plan-parts}
 use Rattle.tallies.specs.Layout.{assignmentSize, tallySize, areBits}
-use Rattle.tallies.specs.Calls.{Lent, plan, tooSmall, freshBytes, openRefusal, callRefusal, flipAssignment, flipTallies}
-use Rattle.tallies.specs.Demand.{leaves}
+use Rattle.tallies.specs.Calls.{Lent, plan, tooSmall, freshBytes, openRefusal, callRefusal, flipAssignment, flipTallies, leftBy}
 use Rattle.tallies.proofs.TallyBytes.{Fits, lawful-fits, same-self, same-bytes}
 
 -- ---- what is not refused
@@ -103,13 +102,13 @@ only-variable l x o e =
 
 -- ---- what is left as it was
 
-pub counts-leaves : (l : Lent) (x : ℕ) → leaves l (countsCall x) ≡ l
-unfolding leaves
-counts-leaves l x = refl
+pub counts-left : (l : Lent) (x : ℕ) → leftBy l (countsCall x) ≡ l
+unfolding leftBy
+counts-left l x = refl
 
-pub refused-leaves : (l : Lent) (x : ℕ) {k : ℕ} → callRefusal l x ≡ suc k → leaves l (flipCall x) ≡ l
-unfolding leaves flipAssignment flipTallies
-refused-leaves l x {k} e = rw (e, eqb·suc-zero k) refl
+pub refused-left : (l : Lent) (x : ℕ) {k : ℕ} → callRefusal l x ≡ suc k → leftBy l (flipCall x) ≡ l
+unfolding leftBy flipAssignment flipTallies
+refused-left l x {k} e = rw (e, eqb·suc-zero k) refl
 
 -- ---- sizes
 

@@ -1,6 +1,6 @@
 -- Laws of the counts of a variable: the shares of a clause joined rule by rule, its counts summed clause by clause, each capped at each step.
 -- Assumes nothing.
-use Prim.Native.Nat.{ℕ, _+_, _*_, _-_, _≤_, _<_}
+use Prim.Native.Nat.{ℕ, _+_, _-_, _≤_, _<_}
 use native.Mathlib.Nat.{add-zero, zero-add}
 use native.Mathlib.Omega.{arith}
 use mathlib.Core.Path.{_≡_, refl, sym, ap, _∙_}
@@ -32,10 +32,11 @@ use Rattle.tallies.proofs.Bits.{length-bitsOf}
 use Rattle.tallies.proofs.Laid.{rises}
 use Rattle.tallies.proofs.Unnamed.{no-break, no-make}
 use Rattle.tallies.proofs.Cores.{first-bits-of}
+use Rattle.format.specs.Layout.{clauseCountAt, clauseFirstAt, ruleFirstAt}
 
 -- ---- a rule
 
-pub rule-joined : (f g : ℕ → ℕ) (a : Assignment) (r x : ℕ) {s : State} (before rule after : SharesOf) → StateOf a x (ruleAt f g (1_542 + 5 * r)) s → rule ≡ cappedShares (sharesFrom s) → after ≡ cappedShares (joinedShares before rule) → after ≡ cappedShares (joinedShares before (cappedShares (sharesOf a x (ruleOf f g r))))
+pub rule-joined : (f g : ℕ → ℕ) (a : Assignment) (r x : ℕ) {s : State} (before rule after : SharesOf) → StateOf a x (ruleAt f g (ruleFirstAt r)) s → rule ≡ cappedShares (sharesFrom s) → after ≡ cappedShares (joinedShares before rule) → after ≡ cappedShares (joinedShares before (cappedShares (sharesOf a x (ruleOf f g r))))
 rule-joined f g a r x {s} before rule after h k e =
     let here : StateOf a x (ruleOf f g r) s = rw (rule-at f g r) at h in
     e ∙ ap (λ t. cappedShares (joinedShares before t)) (k ∙ ap cappedShares (shares-rule here))
@@ -44,16 +45,16 @@ rule-joined f g a r x {s} before rule after h k e =
 
 -- Those before r are joined.
 pub record SharesDone (f g : ℕ → ℕ) (a : Assignment) (c x end r : ℕ) (s : SharesOf) : Type 0 where
-  pub ends : end ≡ f (516 + 2 * c) + f (517 + 2 * c)
+  pub ends : end ≡ f (clauseFirstAt c) + f (clauseCountAt c)
   pub high : r ≤ end
   pub stays : cappedShares s ≡ s
   pub along : cappedShares (joinedAlong (sharesOf a x) s (map (ruleOf f g) (row r (end - r)))) ≡ cappedShares (joinedAlong (sharesOf a x) startShares (clauseOf f g c))
 
 module _ (f g : ℕ → ℕ) (a : Assignment) (c x : ℕ) where
-  pub shares-start : (first end : ℕ) (s : SharesOf) → first ≡ f (516 + 2 * c) → end ≡ f (516 + 2 * c) + f (517 + 2 * c) → s ≡ startShares → SharesDone f g a c x end first s
+  pub shares-start : (first end : ℕ) (s : SharesOf) → first ≡ f (clauseFirstAt c) → end ≡ f (clauseFirstAt c) + f (clauseCountAt c) → s ≡ startShares → SharesDone f g a c x end first s
   unfolding clauseOf
   shares-start first end s e k z =
-      let n : end - first ≡ f (517 + 2 * c) = omega arith in
+      let n : end - first ≡ f (clauseCountAt c) = omega arith in
       record { ends = k; high = omega arith; stays = rw z capped-start; along = rw (n, e, z) refl }
 
   module _ (end r : ℕ) (s : SharesOf) (d : SharesDone f g a c x end r s) where

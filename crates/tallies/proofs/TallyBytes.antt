@@ -1,47 +1,28 @@
 -- The bytes of a fresh count fill the tallies' full limits, because each section is padded to its size and a word is four bytes.
-use Prim.Native.Nat.{ℕ, zero, suc, _*_, _-_, _≤_}
-use mathlib.Core.Path.{_≡_, refl, ap, _∙_}
-use mathlib.Core.List.{List, [], _∷_, _++_}
+use Prim.Native.Nat.{ℕ, _*_, _≤_}
+use mathlib.Core.Path.{_≡_, ap, _∙_}
+use mathlib.Core.List.{List, _++_}
 use lib.Dec.{T}
-use lib.ListN.{length, getD, take, drop, replicate, length-append, length-map}
+use lib.ListN.{length, take, drop, length-map}
 use lib.Seq.{take-at, drop-at}
 use Rattle.plpb.specs.Plan.{Plan, Assignment}
-use Rattle.plpb.specs.Tallies.{Tallies, rulesOf, freshCount}
+use Rattle.plpb.specs.Tallies.{rulesOf, freshCount}
 use Rattle.words.proofs.Words.{length-wordBytes}
-use Rattle.format.specs.Tables.{padTo, sameBytes}
+use Rattle.format.specs.Tables.{sameBytes}
 use Rattle.format.specs.Limits.{lawful, roomy}
 use Rattle.format.proofs.Bools.{T-true, true-T}
 use Rattle.format.proofs.IsLoaded.{same-equal, same-self as same-itself}
 use Rattle.format.proofs.Lawful.{lawful-roomy, roomy-parts}
-use Rattle.format.proofs.Spells.{length-padTo}
 use Rattle.tallies.specs.Layout.{tallySize, tallyWords, tallyBytes}
+use Rattle.format.specs.Layout.{clauseRoom, ruleRoom, tallyWordCount}
+use Rattle.tallies.proofs.Order.{length-order}
 
 -- ---- sizes
 
--- What is padded with 0 is the same everywhere.
-zeros : (m i : ℕ) → _≡_ {A = ℕ} (getD (replicate m 0) i 0) 0
-zeros zero i = refl
-zeros (suc m) zero = refl
-zeros (suc m) (suc i) = zeros m i
-
-pub padded : (ws : List ℕ) (k i : ℕ) → getD (padTo k ws) i 0 ≡ getD ws i 0
-unfolding padTo
-padded ws k i = more ws (k - length ws) i
-  where
-    more : (us : List ℕ) (m j : ℕ) → getD (us ++ replicate m 0) j 0 ≡ getD us j 0
-    more [] m j = zeros m j
-    more (u ∷ us) m zero = refl
-    more (u ∷ us) m (suc j) = more us m j
-
-pub length-tallyWords : (t : Tallies) → length (t .trueWeights) ≤ 1_025 → length (t .rulesHolding) ≤ 513 → length (tallyWords t) ≡ 1_539
-unfolding tallyWords
-length-tallyWords t h k =
-    simp (length-append, length-padTo 1_025 (t .trueWeights) h, length-padTo 513 (t .rulesHolding) k)
-
 -- A plan whose rules and clauses the tallies have room for.
 pub record Fits (p : Plan) : Type 0 where
-  pub rules : length (rulesOf p) ≤ 1_025
-  pub clauses : length (p .clauses) ≤ 513
+  pub rules : length (rulesOf p) ≤ ruleRoom
+  pub clauses : length (p .clauses) ≤ clauseRoom
 
 pub roomy-fits : (p : Plan) → T (roomy p) → Fits p
 roomy-fits p t = let q = roomy-parts p t in record { rules = q .ruleCount; clauses = q .clauseCount }
@@ -50,16 +31,17 @@ pub lawful-fits : (p : Plan) → T (lawful p) → Fits p
 lawful-fits p t = roomy-fits p (lawful-roomy p t)
 
 module _ (p : Plan) (fits : Fits p) (a : Assignment) where
-  pub fresh-rules : length (freshCount p a .trueWeights) ≤ 1_025
+  pub fresh-rules : length (freshCount p a .trueWeights) ≤ ruleRoom
   unfolding freshCount
   fresh-rules = simp length-map (fits .rules)
 
-  pub fresh-clauses : length (freshCount p a .rulesHolding) ≤ 513
+  pub fresh-clauses : length (freshCount p a .rulesHolding) ≤ clauseRoom
   unfolding freshCount
   fresh-clauses = simp length-map (fits .clauses)
 
-  pub length-fresh-words : length (tallyWords (freshCount p a)) ≡ 1_539
-  length-fresh-words = length-tallyWords (freshCount p a) fresh-rules fresh-clauses
+  pub length-fresh-words : length (tallyWords (freshCount p a)) ≡ tallyWordCount
+  unfolding tallyWords
+  length-fresh-words = length-order 0 _ _ _ fresh-rules fresh-clauses
 
   pub length-fresh : length (tallyBytes (freshCount p a)) ≡ tallySize
   unfolding tallyBytes

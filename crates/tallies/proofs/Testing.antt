@@ -1,12 +1,10 @@
 -- Laws of the test of tallies: it goes through the words as a recount does and writes none, so that where it ends all are right; and where it
 -- stops one is not.
 -- Assumes nothing.
-use Prim.Native.Nat.{ℕ, zero, _+_, _*_, _-_, _≤_, _<_}
-use native.Mathlib.Nat.{eq-or-lt-of-le}
+use Prim.Native.Nat.{ℕ, zero, _+_, _-_, _≤_, _<_}
 use native.Mathlib.Omega.{arith}
 use mathlib.Core.Path.{_≡_, refl, sym, ap, _∙_}
-use mathlib.Core.Logic.{⊎-elim}
-use mathlib.Core.Bool.{Bool, true, false, cond, true≢false}
+use mathlib.Core.Bool.{Bool, true, false, cond}
 use mathlib.Core.List.{List}
 use lib.Dec.{eqb}
 use borrow.Author.Tests.{eqb-true, eqb-false}
@@ -15,7 +13,9 @@ use Rattle.plpb.specs.Plan.{ruleHolds}
 use Rattle.plpb.specs.Tallies.{freshCount}
 use Rattle.plpb.proofs.Lists.{is-true, T-true}
 use Rattle.words.specs.Words.{wordAt}
+use Rattle.words.specs.Tests.{Decides}
 use Rattle.words.proofs.Words.{Below}
+use Rattle.words.proofs.Tests.{not-decides}
 use Rattle.format.specs.Tables.{ruleOf, planOfTables, sameBytes}
 use Rattle.rules.specs.Terms.{bitsIn}
 use Rattle.rules.specs.Rules.{ruleAt}
@@ -24,7 +24,7 @@ use Rattle.rules.specs.declared.state.State.{State}
 use Rattle.rules.proofs.States.{holds-rule}
 use Rattle.rules.proofs.Tables.{rule-at}
 use Rattle.tallies.specs.Layout.{tallySize, bitsOf, tallyBytes}
-use Rattle.tallies.specs.Core.{Laid, Ready, tallyWord, ClauseCounted, Unused, Decides, FoundAt}
+use Rattle.tallies.specs.Core.{Laid, Ready, tallyWord, ClauseCounted, Unused, FoundAt}
 use Rattle.tallies.specs.declared.fresh.Found.{Found}
 use Rattle.tallies.specs.declared.fresh.Found.the-variants.{Other, Same}
 use Rattle.tallies.proofs.TallyBytes.{roomy-fits, same-self, same-bytes, take-fresh}
@@ -33,15 +33,9 @@ use Rattle.tallies.proofs.Laid.{rules-word, clauses-word, rules-few, cl
 use Rattle.tallies.proofs.Keeping.{kept-none, none-wrote}
 use Rattle.tallies.proofs.Cores.{first-bits-of}
 use Rattle.tallies.proofs.Recounting.{word-of-rule, RulesDone, rules-step, rules-end, rules-all, ClausesDone, clauses-end, clauses-all}
+use Rattle.format.specs.Layout.{holdingAt, ruleFirstAt, ruleRoom, unsatisfiedAt}
 
 -- ---- tests
-
-module _ {A : Type 0} where
-  pub so-decides : {b : Bool} → b ≡ true → A → Decides b A
-  so-decides e a = record { so = λ t. a; not-so = λ f. absurd (true≢false (sym e ∙ f)) }
-
-  pub not-decides : {b : Bool} → b ≡ false → (A → ⊥) → Decides b A
-  not-decides e n = record { so = λ t. absurd (true≢false (sym t ∙ e)); not-so = λ f. n }
 
 pub decides-same : (b : Bool) (xs ys : List ℕ) → Decides b (xs ≡ ys) → b ≡ sameBytes xs ys
 decides-same true xs ys d = sym (is-true _ (rw (d .so refl) (same-self ys)))
@@ -51,15 +45,9 @@ decides-same false xs ys d = go (sameBytes xs ys) refl
     go true e = absurd (d .not-so refl (same-bytes xs ys (T-true e)))
     go false e = refl
 
--- ---- zeros
-
-module _ (s : List ℕ) (from : ℕ) where
-  pub zeros-more : (i : ℕ) → ((j : ℕ) → from ≤ j → j < i → wordAt s j ≡ 0) → wordAt s i ≡ 0 → (j : ℕ) → from ≤ j → j < i + 1 → wordAt s j ≡ 0
-  zeros-more i h e j l u = ⊎-elim (λ z. rw z e) (λ m. h j l m) (eq-or-lt-of-le {n = j} {m = i} (omega arith))
-
 -- ---- a rule
 
-module _ (tables terms bits tallies : List ℕ) (l : Laid tables terms) (r x : ℕ) (h : r < wordAt tables 2) {s : State} (k : StateOf (bitsIn bits) x (ruleAt (wordAt tables) (wordAt terms) (1_542 + 5 * r)) s) (w : ℕ) (e : w ≡ wordAt tallies r) where
+module _ (tables terms bits tallies : List ℕ) (l : Laid tables terms) (r x : ℕ) (h : r < wordAt tables 2) {s : State} (k : StateOf (bitsIn bits) x (ruleAt (wordAt tables) (wordAt terms) (ruleFirstAt r)) s) (w : ℕ) (e : w ≡ wordAt tallies r) where
   here : StateOf (bitsIn bits) x (ruleOf (wordAt tables) (wordAt terms) r) s
   here = rw (rule-at (wordAt tables) (wordAt terms) r) at k
 
@@ -87,10 +75,10 @@ module _ (tables terms bits s : List ℕ) (c end holding r : ℕ) (d : RulesDone
       g (n .weights r (d .low) (omega (arith, d .ends)))
 
   -- The clause's count tells the rest.
-  pub check-end : Laid tables terms → c < wordAt tables 1 → (w : ℕ) → end ≤ r → w ≡ wordAt s (1_025 + c) → Decides (eqb w holding) (ClauseCounted tables terms bits c s s)
+  pub check-end : Laid tables terms → c < wordAt tables 1 → (w : ℕ) → end ≤ r → w ≡ wordAt s (holdingAt c) → Decides (eqb w holding) (ClauseCounted tables terms bits c s s)
   check-end l g w h e =
       record {
-        so = λ t. rules-end tables terms bits c s end holding r s d l g s h (none-wrote s (1_025 + c) holding (sym e ∙ eqb-true w holding t));
+        so = λ t. rules-end tables terms bits c s end holding r s d l g s h (none-wrote s (holdingAt c) holding (sym e ∙ eqb-true w holding t));
         not-so = λ f n. eqb-false w holding f (e ∙ n .holding ∙ sym (rules-all tables terms bits c s end holding r s d l g h));
       }
 
@@ -103,19 +91,19 @@ module _ (tables terms bits s : List ℕ) (l : Laid tables terms) where
       let word = fresh-words (planOfTables tables terms) (l .room) (bitsIn bits) s e in
       record {
         weights = λ i m n. word i (omega (arith, rules-inside tables terms l c h, rules-few tables terms l));
-        holding = word (1_025 + c) (omega (arith, clauses-few tables terms l));
+        holding = word (holdingAt c) (omega (arith, clauses-few tables terms l));
         kept = kept-none _ s;
       }
 
   module _ (unsat c : ℕ) (d : ClausesDone tables terms bits s unsat c s) where
-    pub whole-end : Below 256 s → tallySize ≤ length s → Unused (planOfTables tables terms) s → (w : ℕ) → wordAt tables 1 ≤ c → w ≡ wordAt s 1_538 → Decides (eqb w unsat) (take tallySize s ≡ tallyBytes (freshCount (planOfTables tables terms) (bitsIn bits)))
+    pub whole-end : Below 256 s → tallySize ≤ length s → Unused (planOfTables tables terms) s → (w : ℕ) → wordAt tables 1 ≤ c → w ≡ wordAt s unsatisfiedAt → Decides (eqb w unsat) (take tallySize s ≡ tallyBytes (freshCount (planOfTables tables terms) (bitsIn bits)))
     whole-end b room u w h e =
         let p = planOfTables tables terms in
         record {
           so = λ t.
-              ap (take tallySize) (clauses-end tables terms bits l s unsat c s d s b room u h (none-wrote s 1_538 unsat (sym e ∙ eqb-true w unsat t)))
+              ap (take tallySize) (clauses-end tables terms bits l s unsat c s d s b room u h (none-wrote s unsatisfiedAt unsat (sym e ∙ eqb-true w unsat t)))
               ∙ take-fresh p (roomy-fits p (l .room)) (bitsIn bits) (drop tallySize s);
-          not-so = λ f n. eqb-false w unsat f (e ∙ fresh-words p (l .room) (bitsIn bits) s n 1_538 (omega arith) ∙ sym (clauses-all tables terms bits l s unsat c s d h));
+          not-so = λ f n. eqb-false w unsat f (e ∙ fresh-words p (l .room) (bitsIn bits) s n unsatisfiedAt (omega arith) ∙ sym (clauses-all tables terms bits l s unsat c s d h));
         }
 
   -- Where all is right unused entries are 0.
@@ -126,7 +114,7 @@ module _ (tables terms bits s : List ℕ) (l : Laid tables terms) where
       let fits = roomy-fits p (l .room) in
       record {
         rules = λ i h k. word i (omega arith) ∙ unused-rule p fits (bitsIn bits) i h k;
-        clauses = λ c h k. word (1_025 + c) (omega arith) ∙ unused-clause p fits (bitsIn bits) c h k;
+        clauses = λ c h k. word (holdingAt c) (omega arith) ∙ unused-clause p fits (bitsIn bits) c h k;
       }
 
 -- ---- the whole test
@@ -138,22 +126,22 @@ module _ (tables terms assignment s : List ℕ) (y : Ready tables terms assignme
       (rw (first-bits-of tables terms assignment y n e) at d)
 
   -- A used word where 0 is wanted ends it.
-  pub rule-used : (r : ℕ) → r ≡ wordAt tables 2 → (((i : ℕ) → r ≤ i → i < 1_025 → wordAt s i ≡ 0) → ⊥) → false ≡ sameBytes (take tallySize s) (tallyBytes (freshCount (planOfTables tables terms) (bitsOf (planOfTables tables terms .variables) assignment)))
+  pub rule-used : (r : ℕ) → r ≡ wordAt tables 2 → (((i : ℕ) → r ≤ i → i < ruleRoom → wordAt s i ≡ 0) → ⊥) → false ≡ sameBytes (take tallySize s) (tallyBytes (freshCount (planOfTables tables terms) (bitsOf (planOfTables tables terms .variables) assignment)))
   rule-used r h k =
       tested (not-decides refl (λ z. k (λ i l u. fresh-unused tables terms (take n assignment) s (y .laid) z .rules i (omega (arith, rules-word tables terms (y .laid))) u)))
 
-  pub clause-used : (c : ℕ) → c ≡ wordAt tables 1 → (((i : ℕ) → 1_025 + c ≤ i → i < 1_538 → wordAt s i ≡ 0) → ⊥) → false ≡ sameBytes (take tallySize s) (tallyBytes (freshCount (planOfTables tables terms) (bitsOf (planOfTables tables terms .variables) assignment)))
+  pub clause-used : (c : ℕ) → c ≡ wordAt tables 1 → (((i : ℕ) → holdingAt c ≤ i → i < unsatisfiedAt → wordAt s i ≡ 0) → ⊥) → false ≡ sameBytes (take tallySize s) (tallyBytes (freshCount (planOfTables tables terms) (bitsOf (planOfTables tables terms .variables) assignment)))
   clause-used c h k = tested (not-decides refl (λ z. k (λ i l u. zero z i l u)))
     where
-      zero : take tallySize s ≡ tallyBytes (freshCount (planOfTables tables terms) (bitsIn (take n assignment))) → (i : ℕ) → 1_025 + c ≤ i → i < 1_538 → wordAt s i ≡ 0
+      zero : take tallySize s ≡ tallyBytes (freshCount (planOfTables tables terms) (bitsIn (take n assignment))) → (i : ℕ) → holdingAt c ≤ i → i < unsatisfiedAt → wordAt s i ≡ 0
       zero z i l u =
-          let j = i - 1_025 in
-          let m : 1_025 + j ≡ i = omega arith in
+          let j = i - ruleRoom in
+          let m : holdingAt j ≡ i = omega arith in
           rw m at (fresh-unused tables terms (take n assignment) s (y .laid) z .clauses j (omega (arith, clauses-word tables terms (y .laid))) (omega arith))
 
-  pub both-unused : (r c : ℕ) → r ≡ wordAt tables 2 → c ≡ wordAt tables 1 → ((i : ℕ) → r ≤ i → i < 1_025 → wordAt s i ≡ 0) → ((i : ℕ) → 1_025 + c ≤ i → i < 1_538 → wordAt s i ≡ 0) → Unused (planOfTables tables terms) s
+  pub both-unused : (r c : ℕ) → r ≡ wordAt tables 2 → c ≡ wordAt tables 1 → ((i : ℕ) → r ≤ i → i < ruleRoom → wordAt s i ≡ 0) → ((i : ℕ) → holdingAt c ≤ i → i < unsatisfiedAt → wordAt s i ≡ 0) → Unused (planOfTables tables terms) s
   both-unused r c h k p q =
       record {
         rules = λ i l u. p i (omega (arith, rules-word tables terms (y .laid))) u;
-        clauses = λ d l u. q (1_025 + d) (omega (arith, clauses-word tables terms (y .laid))) (omega arith);
+        clauses = λ d l u. q (holdingAt d) (omega (arith, clauses-word tables terms (y .laid))) (omega arith);
       }

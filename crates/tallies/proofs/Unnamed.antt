@@ -1,13 +1,12 @@
 -- A variable that a clause does not name: its flip spoils and mends no part of the clause, and the clause's words of the tallies do not concern it.
 -- Assumes nothing.
-use Prim.Native.Nat.{ℕ, zero, suc, _+_, _*_, _-_, _≤_, _<_}
+use Prim.Native.Nat.{ℕ, zero, suc, _+_, _*_, _≤_, _<_}
 use native.Mathlib.Nat.{eq-or-lt-of-le}
 use native.Mathlib.Omega.{arith}
 use mathlib.Core.Path.{_≡_, refl, ap, ap₂, _∙_}
 use mathlib.Core.Logic.{⊎-elim}
 use mathlib.Core.Bool.{Bool, false}
 use mathlib.Core.List.{List, [], _∷_, map}
-use borrow.Author.Tests.{lt-ltb, le-ltb}
 use Rattle.plpb.specs.Lists.{any, row}
 use Rattle.plpb.specs.Plan.{Rule, Clause, Assignment, namedIn, names}
 use Rattle.plpb.specs.Equations.{sharesOf, product, clauseBreak, clauseMake}
@@ -17,9 +16,11 @@ use Rattle.format.specs.Tables.{ruleOf, clauseOf, planOfTables}
 use Rattle.rules.proofs.Unnamed.{unnamed-shares}
 use Rattle.tallies.specs.Narrow.{rulesNaming, clausesNaming, concerns}
 use Rattle.tallies.specs.Core.{Laid}
-use Rattle.tallies.proofs.Narrow.{or-none}
+use Rattle.tallies.proofs.TallyBytes.{roomy-fits}
+use Rattle.tallies.proofs.Narrow.{or-none, concerns-rule, concerns-clause}
 use Rattle.tallies.proofs.Tallied.{getD-map}
 use Rattle.tallies.proofs.Laid.{rule-here, clause-here, rules-word, clauses-word, rules-few, clauses-few}
+use Rattle.format.specs.Layout.{clauseCountAt, clauseFirstAt, holdingAt}
 
 -- ---- counts
 
@@ -50,19 +51,18 @@ module _ (a : Assignment) (x : ℕ) where
 
 module _ (tables terms : List ℕ) (l : Laid tables terms) (x : ℕ) where
   pub rule-unconcerned : (r : ℕ) → r < wordAt tables 2 → namedIn x (ruleOf (wordAt tables) (wordAt terms) r .terms) ≡ false → concerns (planOfTables tables terms) x r ≡ false
-  unfolding concerns rulesNaming
+  unfolding rulesNaming
   rule-unconcerned r h e =
       let q = ruleOf (wordAt tables) (wordAt terms) r in
-      rw (lt-ltb r 1_025 (omega (arith, rules-few tables terms l)))
-      (getD-map (λ k. namedIn x (k .terms)) (rulesOf (planOfTables tables terms)) r q false (omega (arith, rules-word tables terms l))
+      concerns-rule (planOfTables tables terms) (roomy-fits _ (l .room)) x r (omega (arith, rules-few tables terms l))
+      ∙ (getD-map (λ k. namedIn x (k .terms)) (rulesOf (planOfTables tables terms)) r q false (omega (arith, rules-word tables terms l))
       ∙ ap (λ k. namedIn x (k .terms)) (rule-here tables terms l r q h) ∙ e)
 
-  pub clause-unconcerned : (c : ℕ) → c < wordAt tables 1 → names (clauseOf (wordAt tables) (wordAt terms) c) x ≡ false → concerns (planOfTables tables terms) x (1_025 + c) ≡ false
-  unfolding concerns clausesNaming
+  pub clause-unconcerned : (c : ℕ) → c < wordAt tables 1 → names (clauseOf (wordAt tables) (wordAt terms) c) x ≡ false → concerns (planOfTables tables terms) x (holdingAt c) ≡ false
+  unfolding clausesNaming
   clause-unconcerned c h e =
-      let z : 1_025 + c - 1_025 ≡ c = omega arith in
-      rw (le-ltb (1_025 + c) 1_025 (omega arith), lt-ltb (1_025 + c) 1_538 (omega (arith, clauses-few tables terms l)), z)
-      (getD-map (λ k. names k x) (planOfTables tables terms .clauses) c [] false (omega (arith, clauses-word tables terms l))
+      concerns-clause (planOfTables tables terms) (roomy-fits _ (l .room)) x c (omega (arith, clauses-few tables terms l))
+      ∙ (getD-map (λ k. names k x) (planOfTables tables terms .clauses) c [] false (omega (arith, clauses-word tables terms l))
       ∙ ap (λ k. names k x) (clause-here tables terms l c h) ∙ e)
 
 -- The rules of a clause that does not name a variable do not.
@@ -73,6 +73,6 @@ any-row q h i (suc k) e j l u =
     let n = or-none (q (h i)) (any q (map h (row (suc i) k))) e in
     ⊎-elim (λ z. rw (← z) (n .0)) (λ m. any-row q h (suc i) k (n .1) j m (omega arith)) (eq-or-lt-of-le l)
 
-pub rule-of-clause : (f g : ℕ → ℕ) (x c : ℕ) → names (clauseOf f g c) x ≡ false → (r : ℕ) → f (516 + 2 * c) ≤ r → r < f (516 + 2 * c) + f (517 + 2 * c) → namedIn x (ruleOf f g r .terms) ≡ false
+pub rule-of-clause : (f g : ℕ → ℕ) (x c : ℕ) → names (clauseOf f g c) x ≡ false → (r : ℕ) → f (clauseFirstAt c) ≤ r → r < f (clauseFirstAt c) + f (clauseCountAt c) → namedIn x (ruleOf f g r .terms) ≡ false
 unfolding names clauseOf
-rule-of-clause f g x c e r h k = any-row (λ q. namedIn x (q .terms)) (ruleOf f g) (f (516 + 2 * c)) (f (517 + 2 * c)) e r h k
+rule-of-clause f g x c e r h k = any-row (λ q. namedIn x (q .terms)) (ruleOf f g) (f (clauseFirstAt c)) (f (clauseCountAt c)) e r h k

@@ -1,17 +1,19 @@
--- Opening, flip and counts as definitions on what is lent: the refusal, the answer and the bytes left (document 01, "Who can cause which refusal" and "Tallies").
+-- Opening, flip and counts as definitions on what is lent: the refusal, the answer and the bytes left (document 01, "Who can cause which
+-- refusal" and "Tallies").
 -- Assumes nothing.
 use Prim.Native.Nat.{ℕ, zero, suc, _-_}
 use mathlib.Core.Bool.{Bool, not, cond}
-use mathlib.Core.List.{List, _++_}
+use mathlib.Core.List.{List}
 use lib.Dec.{ltb, eqb}
-use lib.ListN.{length, getD, set, take, drop}
+use lib.ListN.{length, getD, set, take}
 use Rattle.plpb.specs.Lists.{_or_}
-use Rattle.plpb.specs.Plan.{Plan, isVariable}
+use Rattle.plpb.specs.Plan.{Plan, Assignment, isVariable}
 use Rattle.plpb.specs.Count.{cappedBreak, cappedMake}
 use Rattle.plpb.specs.Tallies.{freshCount}
+use Rattle.plpb.specs.Book.{Call, flipCall, countsCall, Answer, refused, accepted, counted}
 use Rattle.format.specs.File.{refuse}
 use Rattle.format.specs.Tables.{tableSize, termSize, planOfTables, isLoaded, sameBytes}
-use Rattle.tallies.specs.Layout.{assignmentSize, tallySize, bitsOf, areBits, tallyBytes}
+use Rattle.tallies.specs.Layout.{assignmentSize, tallySize, bitsOf, areBits, withBits, tallyBytes, withTallies}
 
 -- What the host program lends: the two tables, the assignment and the tallies.
 pub record Lent : Type 0 where
@@ -23,8 +25,16 @@ pub record Lent : Type 0 where
 abbrev pub lent : List ℕ → List ℕ → List ℕ → List ℕ → Lent
 lent tables terms assignment tallies = record { tables = tables; terms = terms; assignment = assignment; tallies = tallies }
 
+-- The plan in the tables that are lent, and the bits of the assignment.
 unfoldable pub plan : Lent → Plan
 plan l = planOfTables (l .tables) (l .terms)
+
+abbrev pub bits : Lent → Assignment
+bits l = bitsOf (plan l .variables) (l .assignment)
+
+-- What is lent, with some bits as its assignment and their fresh count as its tallies. All else is as it was.
+unfoldable pub told : Plan → Lent → Assignment → Lent
+told p l b = lent (l .tables) (l .terms) (withBits (p .variables) b (l .assignment)) (withTallies p b (l .tallies))
 
 -- "21: a buffer or table smaller than the full limits need"
 unfoldable pub tooSmall : Lent → Bool
@@ -34,7 +44,7 @@ tooSmall l =
 
 -- The tallies that a fresh count gives for what is lent as assignment.
 unfoldable pub freshBytes : Lent → List ℕ
-freshBytes l = tallyBytes (freshCount (plan l) (bitsOf (plan l .variables) (l .assignment)))
+freshBytes l = tallyBytes (freshCount (plan l) (bits l))
 
 -- "Opening (tallies from an assignment): 21, 22, 24."
 unfoldable pub openRefusal : Lent → ℕ
@@ -43,7 +53,7 @@ openRefusal l =
 
 -- "Opening writes them, and 0 in unused entries." "Opening writes tallies alone"
 unfoldable pub openTallies : Lent → List ℕ
-openTallies l = cond (eqb (openRefusal l) 0) (freshBytes l ++ drop tallySize (l .tallies)) (l .tallies)
+openTallies l = cond (eqb (openRefusal l) 0) (withTallies (plan l) (bits l) (l .tallies)) (l .tallies)
 
 -- "Flip and counts: 21, 22, 24, 25, 23." "25: tallies other than opening would write for this assignment, unused entries too."
 unfoldable pub callRefusal : Lent → ℕ → ℕ
@@ -64,13 +74,22 @@ flipAssignment l x = cond (eqb (callRefusal l x) 0) (turned (l .assignment) x) (
 unfoldable pub flipTallies : Lent → ℕ → List ℕ
 flipTallies l x =
     cond (eqb (callRefusal l x) 0)
-    (freshBytes (record { tables = l .tables; terms = l .terms; assignment = turned (l .assignment) x; tallies = l .tallies })
-    ++ drop tallySize (l .tallies))
+    (withTallies (plan l) (bitsOf (plan l .variables) (turned (l .assignment) x)) (l .tallies))
     (l .tallies)
 
 -- The capped numbers of expansion clauses that the variable's flip would spoil and mend; 0 with a refusal.
 unfoldable pub countsBreak : Lent → ℕ → ℕ
-countsBreak l x = cond (eqb (callRefusal l x) 0) (cappedBreak (plan l) (bitsOf (plan l .variables) (l .assignment)) x) 0
+countsBreak l x = cond (eqb (callRefusal l x) 0) (cappedBreak (plan l) (bits l) x) 0
 
 unfoldable pub countsMake : Lent → ℕ → ℕ
-countsMake l x = cond (eqb (callRefusal l x) 0) (cappedMake (plan l) (bitsOf (plan l .variables) (l .assignment)) x) 0
+countsMake l x = cond (eqb (callRefusal l x) 0) (cappedMake (plan l) (bits l) x) 0
+
+-- One call of a list, on what is lent: what it answers.
+unfoldable pub answer : Lent → Call → Answer
+answer l (flipCall x) = cond (eqb (callRefusal l x) 0) accepted (refused (callRefusal l x))
+answer l (countsCall x) = cond (eqb (callRefusal l x) 0) (counted (countsBreak l x) (countsMake l x)) (refused (callRefusal l x))
+
+-- .. and what it leaves: "each handed what the last one left".
+unfoldable pub leftBy : Lent → Call → Lent
+leftBy l (flipCall x) = lent (l .tables) (l .terms) (flipAssignment l x) (flipTallies l x)
+leftBy l (countsCall x) = l

@@ -3,8 +3,8 @@
 use Prim.Native.Nat.{ℕ, _+_, _*_, _≤_, _<_}
 use mathlib.Core.Path.{_≡_}
 use mathlib.Core.Logic.{_≢_}
-use mathlib.Core.Bool.{Bool, true, false, cond}
-use mathlib.Core.List.{List, _++_}
+use mathlib.Core.Bool.{Bool, false, cond}
+use mathlib.Core.List.{List}
 use lib.Dec.{T}
 use lib.ListN.{length, getD, take, drop}
 use Rattle.plpb.specs.Plan.{Plan, Assignment, ruleHolds}
@@ -17,8 +17,9 @@ use Rattle.rules.specs.Terms.{bitsIn}
 use Rattle.tallies.specs.declared.counts.Counts.{Counts}
 use Rattle.tallies.specs.declared.fresh.Found.{Found}
 use Rattle.tallies.specs.declared.fresh.Found.the-variants.{Other, Same}
-use Rattle.tallies.specs.Layout.{tallySize, bitsOf, areBits, tallyWords, tallyBytes}
+use Rattle.tallies.specs.Layout.{tallySize, bitsOf, areBits, tallyWords, tallyBytes, withTallies}
 use Rattle.tallies.specs.Narrow.{concerns}
+use Rattle.format.specs.Layout.{clauseCountAt, clauseFirstAt, clauseRoom, holdingAt, ruleRoom, tallyWordCount}
 
 -- Two tables hold the plan that is read back from them, and have room for it.
 pub record Laid (tables terms : List ℕ) : Type 0 where
@@ -32,17 +33,16 @@ pub record Ready (tables terms assignment : List ℕ) : Type 0 where
 
 -- What reading a clause's entry needs: it stands there, and its rules are few.
 pub record RunReadable (tables : List ℕ) (c : ℕ) : Type 0 where
-  pub inside : 4 * (518 + 2 * c) ≤ length tables
-  pub few : wordAt tables (516 + 2 * c) + wordAt tables (517 + 2 * c) ≤ 1_025
+  pub inside : 4 * clauseFirstAt (c + 1) ≤ length tables
+  pub few : wordAt tables (clauseFirstAt c) + wordAt tables (clauseCountAt c) ≤ ruleRoom
 
 -- The words that a fresh count gives.
 unfoldable pub tallyWord : Plan → Assignment → ℕ → ℕ
 tallyWord p a i = getD (tallyWords (freshCount p a)) i 0
 
 -- The tallies that a fresh count gives for an assignment, and what stood past their full limits.
-abbrev pub counted : List ℕ → List ℕ → List ℕ → List ℕ → List ℕ
-counted tables terms assignment tallies =
-    tallyBytes (freshCount (planOfTables tables terms) (bitsOf (planOfTables tables terms .variables) assignment)) ++ drop tallySize tallies
+abbrev pub recounted : List ℕ → List ℕ → List ℕ → List ℕ → List ℕ
+recounted tables terms assignment tallies = withTallies (planOfTables tables terms) (bitsOf (planOfTables tables terms .variables) assignment) tallies
 
 -- One word of tallies is written and nothing else.
 pub record Wrote (i v : ℕ) (s t : List ℕ) : Type 0 where
@@ -69,13 +69,15 @@ pub record RuleCounted (tables terms bits : List ℕ) (r : ℕ) (b : Bool) (s t 
 
 -- The words of a clause are right: those of its rules and its count.
 pub record ClauseCounted (tables terms bits : List ℕ) (c : ℕ) (s t : List ℕ) : Type 0 where
-  pub weights : Right (tallyWord (planOfTables tables terms) (bitsIn bits)) t (wordAt tables (516 + 2 * c)) (wordAt tables (516 + 2 * c) + wordAt tables (517 + 2 * c))
-  pub holding : wordAt t (1_025 + c) ≡ tallyWord (planOfTables tables terms) (bitsIn bits) (1_025 + c)
+  pub weights :
+      Right (tallyWord (planOfTables tables terms) (bitsIn bits)) t (wordAt tables (clauseFirstAt c))
+      (wordAt tables (clauseFirstAt c) + wordAt tables (clauseCountAt c))
+  pub holding : wordAt t (holdingAt c) ≡ tallyWord (planOfTables tables terms) (bitsIn bits) (holdingAt c)
   pub kept : Kept (tallyWord (planOfTables tables terms) (bitsIn bits)) s t
 
 -- Where not every entry is due, the words that do not concern the variable are right already.
 abbrev pub Spare : Bool → Plan → Assignment → ℕ → List ℕ → Type 0
-Spare every p a x s = every ≡ false → (i : ℕ) → i < 1_539 → concerns p x i ≡ false → wordAt s i ≡ tallyWord p a i
+Spare every p a x s = every ≡ false → (i : ℕ) → i < tallyWordCount → concerns p x i ≡ false → wordAt s i ≡ tallyWord p a i
 
 -- What a recount needs.
 pub record Countable (tables terms bits tallies : List ℕ) (x : ℕ) (every : Bool) : Type 0 where
@@ -85,13 +87,8 @@ pub record Countable (tables terms bits tallies : List ℕ) (x : ℕ) (every : B
 
 -- Unused entries are 0.
 pub record Unused (p : Plan) (s : List ℕ) : Type 0 where
-  pub rules : (i : ℕ) → length (rulesOf p) ≤ i → i < 1_025 → wordAt s i ≡ 0
-  pub clauses : (c : ℕ) → length (p .clauses) ≤ c → c < 513 → wordAt s (1_025 + c) ≡ 0
-
--- A test decides whether something is so.
-pub record Decides (b : Bool) (A : Type 0) : Type 0 where
-  pub so : b ≡ true → A
-  pub not-so : b ≡ false → A → ⊥
+  pub rules : (i : ℕ) → length (rulesOf p) ≤ i → i < ruleRoom → wordAt s i ≡ 0
+  pub clauses : (c : ℕ) → length (p .clauses) ≤ c → c < clauseRoom → wordAt s (holdingAt c) ≡ 0
 
 -- What a flip needs: bits for the variables, the variable one of them, and the tallies those of the assignment.
 pub record Flippable (tables terms assignment tallies : List ℕ) (x : ℕ) : Type 0 where

@@ -1,37 +1,28 @@
 -- Assignments and tallies in bytes (docs/FORMAT.md has the layout with offsets).
 -- Assumes nothing.
 use Prim.Native.Nat.{ℕ}
-use mathlib.Core.Bool.{Bool, cond}
-use mathlib.Core.List.{List, [], _∷_, _++_, map}
-use lib.Dec.{leb, eqb}
-use lib.ListN.{take}
-use Rattle.plpb.specs.Lists.{all}
-use Rattle.plpb.specs.Plan.{Assignment}
-use Rattle.plpb.specs.Tallies.{Tallies}
+use mathlib.Core.List.{List, [], _∷_, _++_}
+use lib.ListN.{drop}
+use Rattle.plpb.specs.Plan.{Plan, Assignment}
+use Rattle.plpb.specs.Tallies.{Tallies, freshCount}
 use Rattle.words.specs.Words.{wordBytes}
-use Rattle.format.specs.Tables.{padTo}
+use Rattle.format.specs.Tables.{padWith}
+use Rattle.format.specs.Layout.{clauseRoom, ruleRoom}
+unfoldable pub use Rattle.format.specs.Assignment.{bitsOf, bitBytes, areBits}
+pub use Rattle.format.specs.Assignment.{assignmentSize, withBits}
+pub use Rattle.format.specs.Layout.{tallySize}
 
-abbrev pub assignmentSize : ℕ
-assignmentSize = 512
+-- A list in the tallies' order: an entry for each of 1,024 rules and one more, for each of 512 clauses and one more, and one for the whole.
+unfoldable pub tallyOrder : {A : Type 0} → A → List A → List A → A → List A
+tallyOrder unused rules clauses whole = padWith unused ruleRoom rules ++ (padWith unused clauseRoom clauses ++ (whole ∷ []))
 
-abbrev pub tallySize : ℕ
-tallySize = 6_156
-
--- The first n bytes of what is lent as assignment, 1 for true.
-unfoldable pub bitsOf : ℕ → List ℕ → Assignment
-bitsOf n bytes = map (λ b. eqb b 1) (take n bytes)
-
--- The bytes of an assignment, 1 for true and 0 for false.
-unfoldable pub bitBytes : Assignment → List ℕ
-bitBytes a = map (λ b. cond b 1 0) a
-
--- "24: one of the first n assignment bytes is not 0 or 1."
-unfoldable pub areBits : ℕ → List ℕ → Bool
-areBits n bytes = all (λ b. leb b 1) (take n bytes)
-
--- P of 1,024 rules and one more, how many rules hold of 512 clauses and one more, and how many clauses hold no rule; 0 in unused entries.
+-- P of the rules, how many rules of each clause hold, and how many clauses hold no rule; 0 in unused entries.
 unfoldable pub tallyWords : Tallies → List ℕ
-tallyWords t = padTo 1_025 (t .trueWeights) ++ (padTo 513 (t .rulesHolding) ++ (t .clausesUnsatisfied ∷ []))
+tallyWords t = tallyOrder 0 (t .trueWeights) (t .rulesHolding) (t .clausesUnsatisfied)
 
 unfoldable pub tallyBytes : Tallies → List ℕ
 tallyBytes t = wordBytes (tallyWords t)
+
+-- The fresh count of some bits in what is lent as tallies. What stands past the full limits is as it was.
+abbrev pub withTallies : Plan → Assignment → List ℕ → List ℕ
+withTallies p b bytes = tallyBytes (freshCount p b) ++ drop tallySize bytes

@@ -5,7 +5,7 @@ ghost use Rattle.plpb.specs.Plan.{namedIn, names as clauseNames};
 ghost use Rattle.words.specs.Words.{wordAt};
 ghost use Rattle.format.specs.Tables.{ruleOf, clauseOf};
 ghost use Rattle.tallies.specs.Core.{Laid, RunReadable};
-ghost use Rattle.format.specs.Layout.{clauseCount, clauseFirst};
+ghost use Rattle.format.specs.Layout.{clauseCountAt, clauseFirstAt};
 use rules::state::names;
 use words::index;
 
@@ -17,8 +17,8 @@ pub struct Run {
 
 pub fn rules_of(tables: &[u8], c: usize) -> Run
     requires { ⌜ RunReadable (now tables) c ⌝ }
-    ensures { λ r. ⌜ (r .first ≡ wordAt (now (tables .entry)) (clauseFirst c))
-        × (r .end ≡ wordAt (now (tables .entry)) (clauseFirst c) + wordAt (now (tables .entry)) (clauseCount c)) ⌝ }
+    ensures { λ r. ⌜ (r .first ≡ wordAt (now (tables .entry)) (clauseFirstAt c))
+        × (r .end ≡ wordAt (now (tables .entry)) (clauseFirstAt c) + wordAt (now (tables .entry)) (clauseCountAt c)) ⌝ }
 {
     let first = index(tables, format::CLAUSES + 2 * c);
     let count = index(tables, format::CLAUSE_COUNT + 2 * c);

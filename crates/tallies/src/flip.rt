@@ -7,7 +7,7 @@ ghost use Rattle.plpb.specs.Tallies.{freshCount};
 ghost use Rattle.format.specs.Tables.{planOfTables};
 ghost use Rattle.tallies.specs.Layout.{tallySize, bitsOf, tallyBytes};
 ghost use Rattle.tallies.specs.Calls.{turned};
-ghost use Rattle.tallies.specs.Core.{Ready, Flippable, counted};
+ghost use Rattle.tallies.specs.Core.{Ready, Flippable, recounted};
 use crate::recount::recount;
 use words::index;
 
@@ -33,7 +33,7 @@ fn follow(tables: &[u8], terms: &[u8], assignment: &[u8], tallies: &mut [u8], x:
         ≡ tallyBytes
         (freshCount (planOfTables (now tables) (now terms))
         (flipped (bitsOf (planOfTables (now tables) (now terms) .variables) (now assignment)) x))) ⌝ }
-    ensures { λ _. ⌜ now (tallies .exit) ≡ counted (now (tables .entry)) (now (terms .entry)) (now (assignment .entry)) (now (tallies .entry)) ⌝ }
+    ensures { λ _. ⌜ now (tallies .exit) ≡ recounted (now (tables .entry)) (now (terms .entry)) (now (assignment .entry)) (now (tallies .entry)) ⌝ }
 {
     let n = index(tables, 0);
     recount(tables, terms, &assignment[..n], tallies, x, false);
@@ -43,7 +43,7 @@ fn follow(tables: &[u8], terms: &[u8], assignment: &[u8], tallies: &mut [u8], x:
 pub fn flip_core(tables: &[u8], terms: &[u8], assignment: &mut [u8], tallies: &mut [u8], x: u32)
     requires { ⌜ Flippable (now tables) (now terms) (now assignment) (now tallies) x ⌝ }
     ensures { λ _. ⌜ (now (assignment .exit) ≡ turned (now (assignment .entry)) x)
-        × (now (tallies .exit) ≡ counted (now (tables .entry)) (now (terms .entry)) (turned (now (assignment .entry)) x) (now (tallies .entry))) ⌝ }
+        × (now (tallies .exit) ≡ recounted (now (tables .entry)) (now (terms .entry)) (turned (now (assignment .entry)) x) (now (tallies .entry))) ⌝ }
 {
     turn(assignment, x);
     follow(tables, terms, assignment, tallies, x);

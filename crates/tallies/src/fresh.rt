@@ -1,18 +1,20 @@
 // Whether tallies are those that opening would write: one pass over the tables, and nothing is written.
 ghost use mathlib.Core.Path.{_≡_};
-ghost use Prim.Native.Nat.{ℕ, _+_, _*_, _≤_, _<_};
+ghost use Prim.Native.Nat.{_+_, _*_, _≤_, _<_};
 ghost use lib.ListN.{length, take};
 ghost use Rattle.plpb.specs.Tallies.{freshCount};
 ghost use Rattle.words.specs.Words.{wordAt};
 ghost use Rattle.format.specs.Tables.{planOfTables, sameBytes};
 ghost use Rattle.rules.specs.Terms.{bitsIn};
 ghost use Rattle.tallies.specs.Layout.{tallySize, bitsOf, tallyBytes};
-ghost use Rattle.tallies.specs.Core.{Ready, ClauseCounted, Unused, Decides, FoundAt};
+ghost use Rattle.words.specs.Tests.{Decides};
+ghost use Rattle.tallies.specs.Core.{Ready, ClauseCounted, Unused, FoundAt};
 use crate::clause::rules_of;
 use crate::recount::bit;
 use rules::state::read_state;
 use words::index;
 use words::word;
+use words::zeros;
 
 // What stands for a rule: another P than its own, or its own; then 1 if the rule holds and 0 if it does not.
 pub enum Found {
@@ -71,21 +73,6 @@ fn clauses_fresh(tables: &[u8], terms: &[u8], bits: &[u8], tallies: &[u8]) -> bo
         c += 1;
     }
     word(tallies, format::UNSATISFIED) == unsatisfied
-}
-
-// Whether the words from one on and before another are 0.
-fn zeros(s: &[u8], from: usize, end: usize) -> bool
-    requires { ⌜ 4 * end ≤ length (now s) ⌝ }
-    ensures { λ b. ⌜ Decides b ((i : ℕ) → from ≤ i → i < end → wordAt (now (s .entry)) i ≡ 0) ⌝ }
-{
-    let mut i = from;
-    while i < end {
-        if word(s, i) != 0 {
-            return false;
-        }
-        i += 1;
-    }
-    true
 }
 
 // Unused entries are looked at first: it costs least.

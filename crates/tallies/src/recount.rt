@@ -1,16 +1,15 @@
 // The tallies of an assignment: those of all rules and clauses, or of those alone that name a variable.
 ghost use mathlib.Core.Path.{_≡_};
 ghost use mathlib.Core.Bool.{true, false, cond};
-ghost use mathlib.Core.List.{_++_};
 ghost use Prim.Native.Nat.{_+_, _*_, _≤_, _<_};
-ghost use lib.ListN.{length, drop};
+ghost use lib.ListN.{length};
 ghost use Rattle.plpb.specs.Plan.{namedIn, names};
-ghost use Rattle.plpb.specs.Tallies.{freshCount};
 ghost use Rattle.words.specs.Words.{wordAt};
 ghost use Rattle.format.specs.Tables.{ruleOf, clauseOf, planOfTables};
 ghost use Rattle.rules.specs.Terms.{bitsIn};
-ghost use Rattle.tallies.specs.Layout.{tallySize, tallyBytes};
+ghost use Rattle.tallies.specs.Layout.{tallySize, withTallies};
 ghost use Rattle.tallies.specs.Core.{Laid, Wrote, RuleCounted, ClauseCounted, Countable, Unused};
+ghost use Rattle.format.specs.Layout.{tallyWordCount};
 use crate::clause::clause_names;
 use crate::clause::rule_names;
 use crate::clause::rules_of;
@@ -27,7 +26,7 @@ pub fn bit(b: bool) -> u32
 
 // Writes one word of the tallies.
 fn put(tallies: &mut [u8], i: usize, v: u32)
-    requires { ⌜ (i < 1539) × (tallySize ≤ length (now tallies)) ⌝ }
+    requires { ⌜ (i < tallyWordCount) × (tallySize ≤ length (now tallies)) ⌝ }
     ensures { λ _. ⌜ Wrote i v (now (tallies .entry)) (now (tallies .exit)) ⌝ }
 {
     write_u32(tallies, 4 * i, v);
@@ -35,7 +34,7 @@ fn put(tallies: &mut [u8], i: usize, v: u32)
 
 // .. unless it is known to stand there.
 fn put_if(due: bool, tallies: &mut [u8], i: usize, v: u32)
-    requires { ⌜ (i < 1539) × (tallySize ≤ length (now tallies)) × (due ≡ false → wordAt (now tallies) i ≡ v) ⌝ }
+    requires { ⌜ (i < tallyWordCount) × (tallySize ≤ length (now tallies)) × (due ≡ false → wordAt (now tallies) i ≡ v) ⌝ }
     ensures { λ _. ⌜ Wrote i v (now (tallies .entry)) (now (tallies .exit)) ⌝ }
 {
     if !due {
@@ -133,8 +132,7 @@ fn recount_clause(
 pub fn recount(tables: &[u8], terms: &[u8], bits: &[u8], tallies: &mut [u8], x: u32, every: bool)
     requires { ⌜ Countable (now tables) (now terms) (now bits) (now tallies) x every × Unused (planOfTables (now tables) (now terms)) (now tallies) ⌝ }
     ensures { λ _. ⌜ now (tallies .exit)
-        ≡ tallyBytes (freshCount (planOfTables (now (tables .entry)) (now (terms .entry))) (bitsIn (now (bits .entry)))) ++ drop tallySize
-        (now (tallies .entry)) ⌝ }
+        ≡ withTallies (planOfTables (now (tables .entry)) (now (terms .entry))) (bitsIn (now (bits .entry))) (now (tallies .entry)) ⌝ }
 {
     let clauses = index(tables, 1);
     let mut unsatisfied: u32 = 0;

@@ -15,7 +15,8 @@ use borrow.Author.Tests.{le-ltb}
 use borrow.Rule.Slice.PartMut.{midOf, putMid}
 use Rattle.plpb.specs.Lists.{_or_, isEmpty}
 use Rattle.plpb.specs.Plan.{Plan, Assignment}
-use Rattle.plpb.specs.Search.{Settings, Ending, floor, ended, none, short-found, short-none, Reached, lastFind, search}
+use Rattle.plpb.specs.Settings.{Settings}
+use Rattle.plpb.specs.Search.{Ending, floor, ended, none, short-found, short-none, Reached, lastFind, search}
 use Rattle.plpb.specs.Sound.{findsOf, noPlan}
 use Rattle.plpb.proofs.Soundness.{search-sound}
 use Rattle.words.specs.Words.{wordAt}
@@ -28,13 +29,26 @@ use Rattle.format.proofs.Lawful.{plan-parts}
 use Rattle.format.proofs.IsLoaded.{isLoaded-lawful}
 use Rattle.tallies.specs.Layout.{assignmentSize, tallySize, bitBytes}
 use Rattle.numbers.specs.Numbers.{numbersOf}
-use Rattle.walk.specs.declared.search.Answer.{Answer as Answered}
-use Rattle.walk.specs.Calls.{Asked, Lent, markSize, tooSmall, settingsRefusal, searchRefusal, settings, answer, withFind, searchAssignment, endingNumber, unless, Searches, hasPlan}
+use Rattle.settings.specs.declared.Settings.{Settings as Asked}
+use Rattle.settings.specs.Settings.{settingsRefusal, settingsOf}
+use Rattle.search.specs.declared.Answer.{Answer as Answered}
+use Rattle.walk.specs.Whole.{withFind}
+use Rattle.format.specs.Layout.{markSize}
+use Rattle.search.specs.Calls.{Lent, tooSmall, searchRefusal, answer, searchAssignment, endingNumber, unless, Searches, hasPlan}
 use Rattle.folder.specs.Text.{text, line, decimal, signedDecimal, endingOf, endingWord, resultLine, foundLine, assignmentLine, answerText}
 use Rattle.folder.proofs.Decimal.{twenty}
 use Rattle.folder.proofs.Writing.{characters, length-characters}
-use Rattle.folder.proofs.Items.{ending-back, next-item, result-items}
+use Rattle.folder.proofs.Items.{next-item, result-items}
 use Rattle.folder.proofs.Printed.{nothing-found, something-found}
+
+-- The endings by their numbers.
+ending-back : (e : Ending) → endingOf (endingNumber e) ≡ e
+unfolding endingOf endingNumber
+ending-back floor = refl
+ending-back ended = refl
+ending-back none = refl
+ending-back short-found = refl
+ending-back short-none = refl
 
 -- ---- the first line is short
 
@@ -170,11 +184,11 @@ module _ (l : Lent) (k : Asked) (r : Answered) (left : Lent) (h : Searches l k r
   unfolding answer planOfTables planIn
   second-is room same =
       ap (λ (n : ℕ). assignmentLine (hasPlan n) (wordAt (l .tables) 0) (left .assignment)) ending-is
-      ∙ second-told (settings k) (planOfTables (l .tables) (l .terms)) (numbersOf (l .numbers)) (l .assignment) (left .assignment) room find-is same
+      ∙ second-told (settingsOf k) (planOfTables (l .tables) (l .terms)) (numbersOf (l .numbers)) (l .assignment) (left .assignment) room find-is same
 
   answer-written : wordAt (l .tables) 0 ≤ length (l .assignment) → length (left .assignment) ≡ length (l .assignment)
       → resultLine (endingOf (r .ending)) (r .cost) (r .finds) (r .flips) (r .used) ++ assignmentLine (hasPlan (r .ending)) (wordAt (l .tables) 0) (left .assignment)
-      ≡ answerText (search (settings k) (planOfTables (l .tables) (l .terms)) (numbersOf (l .numbers)))
+      ≡ answerText (search (settingsOf k) (planOfTables (l .tables) (l .terms)) (numbersOf (l .numbers)))
   unfolding answer answerText
   answer-written room same = ap₂ _++_ first-is (second-is room same)
 
@@ -185,7 +199,7 @@ pub search-written : (l : Lent) (k : Asked) (r : Answered) (left : Lent) → Sea
     → tableSize ≤ length (l .workTables) → termSize ≤ length (l .workTerms) → assignmentSize ≤ length (l .workAssignment)
     → tallySize ≤ length (l .workTallies) → markSize ≤ length (l .workMarks)
     → resultLine (endingOf (r .ending)) (r .cost) (r .finds) (r .flips) (r .used) ++ assignmentLine (hasPlan (r .ending)) (wordAt (l .tables) 0) (left .assignment)
-    ≡ answerText (search (settings k) (planOfTables (l .tables) (l .terms)) (numbersOf (l .numbers)))
+    ≡ answerText (search (settingsOf k) (planOfTables (l .tables) (l .terms)) (numbersOf (l .numbers)))
 search-written l k r left h t a b z same c d e f g m =
     answer-written l k r left h (unrefused l k t a b c d e f g m z) (omega (arith, few-variables (l .tables) (l .terms) t, c)) same
 

@@ -4,33 +4,32 @@ use Prim.Native.Nat.{ℕ, _≤_, _<_}
 use native.Mathlib.Omega.{arith}
 use mathlib.Core.Path.{_≡_, refl, sym, ap, _∙_}
 use mathlib.Core.Bool.{Bool, true, false, cond}
-use mathlib.Core.List.{List, _++_}
+use mathlib.Core.List.{List}
 use lib.Dec.{T, ltb, eqb}
-use lib.ListN.{length, take, drop}
-use lib.Seq.{take-at}
+use lib.ListN.{length}
 use borrow.Author.Tests.{ltb-false, lt-ltb, le-ltb, ne-eqb}
 use Rattle.plpb.specs.Lists.{_or_}
 use Rattle.plpb.specs.Plan.{Plan}
 use Rattle.plpb.specs.Search.{search}
-use Rattle.words.specs.Words.{wordBytes}
 use Rattle.words.specs.Writes.{front}
-use Rattle.words.proofs.Words.{length-wordBytes}
 use Rattle.format.specs.File.{Reading, refused, accepted, read}
 use Rattle.format.specs.Writer.{write}
-use Rattle.format.specs.Tables.{tableWords, termWords, tableSize, termSize, Holds, Loaded, planOfTables, isLoaded}
+use Rattle.format.specs.Tables.{tableSize, termSize, Holds, Loaded, planOfTables, isLoaded}
 use Rattle.format.specs.Limits.{lawful}
-use Rattle.format.proofs.Lawful.{plan-parts, room-for, lawful-roomy}
-use Rattle.format.proofs.Sections.{length-tableWords, length-termWords}
+use Rattle.format.proofs.Lawful.{lawful-roomy}
 use Rattle.format.proofs.Accepted.{accepted-lawful}
 use Rattle.format.proofs.ReadBack.{read-back}
 use Rattle.format.proofs.WriteBytes.{write-bytes}
 use Rattle.format.proofs.RoundTrip.{read-write}
 use Rattle.format.proofs.IsLoaded.{loaded-isLoaded}
 use Rattle.numbers.specs.Numbers.{numbersOf}
-use Rattle.walk.specs.Calls.{Asked, settingsRefusal, settings, hasPlan}
-use Rattle.tables.specs.declared.judge.Answer.{Answer}
-use Rattle.tables.specs.declared.judge.Answer.the-variants as loads
-use Rattle.tables.specs.Load.{outcome, tooSmall, loading, tablesOf, termsOf, tablesAfter, termsAfter}
+use Rattle.settings.specs.declared.Settings.{Settings as Asked}
+use Rattle.settings.specs.Settings.{settingsRefusal, settingsOf}
+use Rattle.search.specs.Calls.{hasPlan}
+use Rattle.judge.specs.declared.Answer.{Answer}
+use Rattle.judge.specs.declared.Answer.the-variants as loads
+use Rattle.tables.proofs.Holding.{loading-holds}
+use Rattle.tables.specs.Load.{outcome, tooSmall, loading, tablesAfter, termsAfter}
 use Rattle.folder.specs.declared.files.Walked.{Walked}
 use Rattle.folder.specs.declared.files.Walked.the-variants as walks
 use Rattle.folder.specs.Files.{askedIn, walkFault, judged, readWalk, walked, numbersRefusal}
@@ -57,25 +56,33 @@ found-4 e n m = rw (ne-eqb e 1 n, ne-eqb e 2 m)
 
 -- ---- "Any of them above 65,536 bytes gives 9, before all else"
 
-module _ (plan walk numbers : List ℕ) where
-  pub long-plan : 65_536 < length plan → true ≡ (tooLong plan or tooLong walk or tooLong numbers)
-  unfolding tooLong _or_
-  long-plan h = rw (lt-ltb _ _ h)
+module _ (more : Bool) (plan walk numbers : List ℕ) where
+  abbrev anyLong : Bool
+  anyLong = more or tooLong plan or tooLong walk or tooLong numbers
 
-  pub long-walk : length plan ≤ 65_536 → 65_536 < length walk → true ≡ (tooLong plan or tooLong walk or tooLong numbers)
-  unfolding tooLong _or_
-  long-walk a h = rw (le-ltb _ _ a, lt-ltb _ _ h)
+  pub long-more : more ≡ true → true ≡ anyLong
+  unfolding _or_
+  long-more h = rw h refl
 
-  pub long-numbers : length plan ≤ 65_536 → length walk ≤ 65_536 → tooLong numbers ≡ (tooLong plan or tooLong walk or tooLong numbers)
-  unfolding tooLong _or_
-  long-numbers a b = rw (le-ltb _ _ a, le-ltb _ _ b)
+  module _ (none : more ≡ false) where
+    pub long-plan : 65_536 < length plan → true ≡ anyLong
+    unfolding tooLong _or_
+    long-plan h = rw (none, lt-ltb _ _ h)
 
-  module _ {long : Bool} (e : long ≡ (tooLong plan or tooLong walk or tooLong numbers)) where
-    pub output-long : long ≡ true → refusalLine 9 0 ≡ output plan walk numbers
+    pub long-walk : length plan ≤ 65_536 → 65_536 < length walk → true ≡ anyLong
+    unfolding tooLong _or_
+    long-walk a h = rw (none, le-ltb _ _ a, lt-ltb _ _ h)
+
+    pub long-numbers : length plan ≤ 65_536 → length walk ≤ 65_536 → tooLong numbers ≡ anyLong
+    unfolding tooLong _or_
+    long-numbers a b = rw (none, le-ltb _ _ a, le-ltb _ _ b)
+
+  module _ {long : Bool} (e : long ≡ (more or tooLong plan or tooLong walk or tooLong numbers)) where
+    pub output-long : long ≡ true → refusalLine 9 0 ≡ output more plan walk numbers
     unfolding output
     output-long t = rw (sym e ∙ t)
 
-    pub output-read : long ≡ false → withPlan walk numbers (read plan) ≡ output plan walk numbers
+    pub output-read : long ≡ false → withPlan walk numbers (read plan) ≡ output more plan walk numbers
     unfolding output
     output-read t = rw (sym e ∙ t)
 
@@ -88,11 +95,6 @@ reading-refused : (r : Reading Plan) (n o : ℕ) → loads.Refused n o ≡ outco
 unfolding outcome
 reading-refused (refused m k) n o e = let a : n ≡ m = cc in let b : o ≡ k = cc in λ i. refused (sym a i) (sym b i)
 reading-refused (accepted p) n o e = absurd (unsure n o e)
-
-reading-accepted : (r : Reading Plan) → loads.Accepted ≡ outcome r → (p : Plan) × (r ≡ accepted p)
-unfolding outcome
-reading-accepted (refused m k) e = absurd (unsure m k (sym e))
-reading-accepted (accepted p) e = (p, refl)
 
 module _ (file tables terms : List ℕ) (nt : tableSize ≤ length tables) (ns : termSize ≤ length terms) where
   large : tooSmall tables terms ≡ false
@@ -108,61 +110,44 @@ module _ (file tables terms : List ℕ) (nt : tableSize ≤ length tables) (ns :
     unfolding withPlan
     plan-refused {n} {o} walk numbers t = rw (reading-refused (read file) n o (sym t ∙ e ∙ outcome-is))
 
-    module _ (t : a ≡ loads.Accepted) {tables′ terms′ : List ℕ} (f : tables′ ≡ tablesAfter file tables terms) (g : terms′ ≡ termsAfter file tables terms) where
-      plan-read : (p : Plan) × (read file ≡ accepted p)
-      plan-read = reading-accepted (read file) (sym t ∙ e ∙ outcome-is)
+    module _ (t : a ≡ loads.Accepted) where
+      here : (p : Plan) × (read file ≡ accepted p) × Holds p (tablesAfter file tables terms) (termsAfter file tables terms)
+      here = loading-holds file tables terms (sym e ∙ t)
 
       abbrev plan : Plan
-      plan = plan-read .0
+      plan = here .0
 
       plan-lawful : T (lawful plan)
-      plan-lawful = accepted-lawful file plan (plan-read .1)
+      plan-lawful = accepted-lawful file plan (here .1)
 
-      tables-are : tables′ ≡ wordBytes (tableWords plan) ++ drop tableSize tables
-      unfolding tablesAfter tablesOf
-      tables-are = f ∙ rw (large, plan-read .1)
+      module _ {tables′ terms′ : List ℕ} (f : tables′ ≡ tablesAfter file tables terms) (g : terms′ ≡ termsAfter file tables terms) where
+        held : Holds plan tables′ terms′
+        held = rw (f, g) (here .2)
 
-      terms-are : terms′ ≡ wordBytes (termWords plan) ++ drop termSize terms
-      unfolding termsAfter termsOf
-      terms-are = g ∙ rw (large, plan-read .1)
+        pub plan-loaded : T (isLoaded tables′ terms′)
+        unfolding Loaded
+        plan-loaded = loaded-isLoaded tables′ terms′ (write plan, plan, write-bytes plan, read-write plan plan-lawful, held)
 
-      held : Holds plan tables′ terms′
-      unfolding Holds
-      held =
-          let l = room-for plan (plan-parts plan plan-lawful) in (
-            ap (take tableSize) tables-are
-                ∙ take-at (wordBytes (tableWords plan)) (drop tableSize tables) tableSize (omega (arith, length-wordBytes (tableWords plan), length-tableWords plan l)),
-            ap (take termSize) terms-are
-                ∙ take-at (wordBytes (termWords plan)) (drop termSize terms) termSize (omega (arith, length-wordBytes (termWords plan), length-termWords plan l)),
-          )
-
-      pub plan-loaded : T (isLoaded tables′ terms′)
-      unfolding Loaded
-      plan-loaded = loaded-isLoaded tables′ terms′ (write plan, plan, write-bytes plan, read-write plan plan-lawful, held)
-
-      pub plan-accepted : (walk numbers : List ℕ) → withSettings (planOfTables tables′ terms′) numbers (readWalk walk) ≡ withPlan walk numbers (read file)
-      unfolding withPlan
-      plan-accepted walk numbers = rw (plan-read .1) (ap (λ (p : Plan). withSettings p numbers (readWalk walk)) (read-back plan tables′ terms′ (lawful-roomy plan plan-lawful) held))
+        pub plan-accepted : (walk numbers : List ℕ) → withSettings (planOfTables tables′ terms′) numbers (readWalk walk) ≡ withPlan walk numbers (read file)
+        unfolding withPlan
+        plan-accepted walk numbers =
+            rw (here .1)
+            (ap (λ (p : Plan). withSettings p numbers (readWalk walk)) (read-back plan tables′ terms′ (lawful-roomy plan plan-lawful) held))
 
 -- ---- the settings and the list of numbers
 
-elsewhere : (n o a b c d : ℕ) → _≡_ {A = Walked} (walks.Refused n o) (walks.Settings a b c d) → ⊥
-elsewhere n o a b c d e = let z : _≡_ {A = ℕ} 0 1 = cc in omega arith
+elsewhere : (n o : ℕ) (k : Asked) → walks.Refused n o ≡ walks.Settings k → ⊥
+elsewhere n o k e = let z : _≡_ {A = ℕ} 0 1 = cc in omega arith
 
 walk-refused : (r : Reading Asked) (n o : ℕ) → walks.Refused n o ≡ walked r → r ≡ refused n o
 unfolding walked
 walk-refused (refused m k) n o e = let a : n ≡ m = cc in let b : o ≡ k = cc in λ i. refused (sym a i) (sym b i)
-walk-refused (accepted k) n o e = absurd (elsewhere n o _ _ _ _ e)
+walk-refused (accepted k) n o e = absurd (elsewhere n o k e)
 
-walk-accepted : (r : Reading Asked) (a b c d : ℕ) → walks.Settings a b c d ≡ walked r → r ≡ accepted (record { noise = a; tries = b; flips = c; mode = d })
+walk-accepted : (r : Reading Asked) (k : Asked) → walks.Settings k ≡ walked r → r ≡ accepted k
 unfolding walked
-walk-accepted (refused m k) a b c d e = absurd (elsewhere m k a b c d (sym e))
-walk-accepted (accepted k) a b c d e =
-    let p : k .noise ≡ a = cc in
-    let q : k .tries ≡ b = cc in
-    let r : k .flips ≡ c = cc in
-    let s : k .mode ≡ d = cc in
-    λ i. accepted (record { noise = p i; tries = q i; flips = r i; mode = s i })
+walk-accepted (refused m o) k e = absurd (elsewhere m o k (sym e))
+walk-accepted (accepted q) k e = let same : q ≡ k = cc in ap accepted same
 
 -- Settings that were read have passed their tests.
 never : {A : Type 0} (n o : ℕ) (a : A) → _≡_ {A = Reading A} (refused n o) (accepted a) → ⊥
@@ -191,11 +176,11 @@ module _ (walk : List ℕ) {w : Walked} (e : w ≡ walked (readWalk walk)) where
   unfolding withSettings
   settings-refused {n} {o} p numbers t = rw (walk-refused (readWalk walk) n o (sym t ∙ e))
 
-  module _ {a b c d : ℕ} (t : w ≡ walks.Settings a b c d) where
-    asked : readWalk walk ≡ accepted (record { noise = a; tries = b; flips = c; mode = d })
-    asked = walk-accepted (readWalk walk) a b c d (sym t ∙ e)
+  module _ {k : Asked} (t : w ≡ walks.Settings k) where
+    asked : readWalk walk ≡ accepted k
+    asked = walk-accepted (readWalk walk) k (sym t ∙ e)
 
-    pub settings-lawful : settingsRefusal (record { noise = a; tries = b; flips = c; mode = d }) ≡ 0
+    pub settings-lawful : settingsRefusal k ≡ 0
     settings-lawful = read-lawful walk _ asked
 
     module _ (p : Plan) (numbers : List ℕ) {n : ℕ} (f : n ≡ numbersRefusal numbers) where
@@ -204,6 +189,6 @@ module _ (walk : List ℕ) {w : Walked} (e : w ≡ walked (readWalk walk)) where
       numbers-refused h = rw (asked, sym f, ne-eqb n 0 h)
 
       pub numbers-accepted : n ≡ 0
-          → answerText (search (settings (record { noise = a; tries = b; flips = c; mode = d })) p (numbersOf numbers)) ≡ withSettings p numbers (readWalk walk)
+          → answerText (search (settingsOf k) p (numbersOf numbers)) ≡ withSettings p numbers (readWalk walk)
       unfolding withSettings searched
       numbers-accepted h = rw (asked, sym f, h)

@@ -10,7 +10,8 @@ use Rattle.plpb.specs.Plan.{Plan}
 use Rattle.plpb.specs.Search.{search}
 use Rattle.format.specs.File.{Reading, refused, accepted, read}
 use Rattle.numbers.specs.Numbers.{numbersOf}
-use Rattle.walk.specs.Calls.{Asked, settings}
+use Rattle.settings.specs.declared.Settings.{Settings as Asked}
+use Rattle.settings.specs.Settings.{settingsOf}
 use Rattle.folder.specs.Files.{readWalk, numbersRefusal}
 use Rattle.folder.specs.Text.{answerText, refusalLine}
 
@@ -22,7 +23,7 @@ tooLong file = ltb 65_536 (length file)
 unfoldable pub searched : Plan → Asked → List ℕ → List ℕ
 searched p k numbers =
     cond (eqb (numbersRefusal numbers) 0)
-    (answerText (search (settings k) p (numbersOf numbers)))
+    (answerText (search (settingsOf k) p (numbersOf numbers)))
     (refusalLine (numbersRefusal numbers) 0)
 
 unfoldable pub withSettings : Plan → List ℕ → Reading Asked → List ℕ
@@ -34,7 +35,7 @@ unfoldable pub withPlan : List ℕ → List ℕ → Reading Plan → List ℕ
 withPlan walk numbers (refused number offset) = refusalLine number offset
 withPlan walk numbers (accepted p) = withSettings p numbers (readWalk walk)
 
--- "Any of them above 65,536 bytes gives 9, before all else"
-unfoldable pub output : List ℕ → List ℕ → List ℕ → List ℕ
-output plan walk numbers =
-    cond (tooLong plan or tooLong walk or tooLong numbers) (refusalLine 9 0) (withPlan walk numbers (read plan))
+-- "Any of them above 65,536 bytes gives 9, before all else": `more` says that one of them has bytes behind those given here.
+unfoldable pub output : Bool → List ℕ → List ℕ → List ℕ → List ℕ
+output more plan walk numbers =
+    cond (more or tooLong plan or tooLong walk or tooLong numbers) (refusalLine 9 0) (withPlan walk numbers (read plan))

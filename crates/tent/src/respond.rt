@@ -10,7 +10,8 @@ ghost use Rattle.words.specs.Words.{wordAt};
 ghost use Rattle.words.specs.Writes.{front};
 ghost use Rattle.format.specs.Tables.{tableSize, termSize, planOfTables, isLoaded};
 ghost use Rattle.numbers.specs.Numbers.{numbersOf};
-ghost use Rattle.walk.specs.Calls.{settingsRefusal, settings, hasPlan};
+ghost use Rattle.settings.specs.Settings.{settingsRefusal, settingsOf};
+ghost use Rattle.search.specs.Calls.{hasPlan};
 ghost use Rattle.folder.specs.Files.{readWalk};
 ghost use Rattle.folder.specs.Text.{endingOf, resultLine, assignmentLine, answerText};
 ghost use Rattle.tent.specs.Program.{tooLong, withSettings, output};
@@ -20,10 +21,11 @@ use folder::files::judge_walk;
 use folder::lines::assignment_line;
 use folder::lines::refusal_line;
 use folder::lines::result_line;
+use search::Answer as Found;
+use search::search;
+use settings::Settings;
 use tables::Answer;
 use tables::load;
-use walk::search::Answer as Found;
-use walk::search::search;
 use words::index;
 
 // Whether an ending comes with a plan.
@@ -60,35 +62,23 @@ fn write_answer(tables: &[u8], assignment: &[u8], r: Found, out: &mut [u8]) -> u
 }
 
 // The search of a plan that was loaded, with settings that are lawful.
-fn search_plan(
-    tables: &[u8],
-    terms: &[u8],
-    numbers: &[u8],
-    noise: u32,
-    tries: u32,
-    flips: u32,
-    mode: u32,
-    out: &mut [u8],
-) -> usize
+fn search_plan(tables: &[u8], terms: &[u8], numbers: &[u8], s: Settings, out: &mut [u8]) -> usize
     requires { ⌜ T (isLoaded (now tables) (now terms)) × (tableSize ≤ length (now tables)) × (termSize ≤ length (now terms))
-        × (settingsRefusal (record { noise = noise; tries = tries; flips = flips; mode = mode }) ≡ 0) × (2_048 ≤ length (now out)) ⌝ }
-    ensures { λ k. ⌜ (now (out .exit) ≡ front (answerText (searchOf (settings (record { noise = noise; tries = tries; flips = flips; mode = mode })) (planOfTables (now (tables .entry)) (now (terms .entry))) (numbersOf (now (numbers .entry))))) (now (out .entry)))
-        × (k ≡ length (answerText (searchOf (settings (record { noise = noise; tries = tries; flips = flips; mode = mode })) (planOfTables (now (tables .entry)) (now (terms .entry))) (numbersOf (now (numbers .entry)))))) ⌝ }
+        × (settingsRefusal s ≡ 0) × (2_048 ≤ length (now out)) ⌝ }
+    ensures { λ k. ⌜ (now (out .exit) ≡ front (answerText (searchOf (settingsOf s) (planOfTables (now (tables .entry)) (now (terms .entry))) (numbersOf (now (numbers .entry))))) (now (out .entry)))
+        × (k ≡ length (answerText (searchOf (settingsOf s) (planOfTables (now (tables .entry)) (now (terms .entry))) (numbersOf (now (numbers .entry)))))) ⌝ }
 {
-    let mut assignment = [0u8; 512];
+    let mut assignment = [0u8; format::ASSIGNMENT];
     let mut work_tables = [0u8; format::TABLES];
     let mut work_terms = [0u8; format::TERMS];
-    let mut work_assignment = [0u8; 512];
-    let mut work_tallies = [0u8; 6156];
-    let mut work_marks = [0u8; 512];
+    let mut work_assignment = [0u8; format::ASSIGNMENT];
+    let mut work_tallies = [0u8; format::TALLIES];
+    let mut work_marks = [0u8; format::MARKS];
     let r = search(
         tables,
         terms,
         numbers,
-        noise,
-        tries,
-        flips,
-        mode,
+        s,
         &mut assignment,
         &mut work_tables,
         &mut work_terms,
@@ -109,24 +99,22 @@ fn respond_loaded(tables: &[u8], terms: &[u8], walk: &[u8], numbers: &[u8], out:
     let w = judge_walk(walk);
     match w {
         Walked::Refused(number, offset) => refusal_line(out, number, offset),
-        Walked::Settings {
-            noise,
-            tries,
-            flips,
-            mode,
-        } => {
+        Walked::Settings(s) => {
             let refusal = judge_numbers(numbers);
             if refusal != 0 {
                 return refusal_line(out, refusal, 0);
             }
-            search_plan(tables, terms, numbers, noise, tries, flips, mode, out)
+            search_plan(tables, terms, numbers, s, out)
         }
     }
 }
 
-fn any_too_long(plan: &[u8], walk: &[u8], numbers: &[u8]) -> bool
-    ensures { λ r. ⌜ r ≡ (tooLong (now (plan .entry)) or tooLong (now (walk .entry)) or tooLong (now (numbers .entry))) ⌝ }
+fn any_too_long(more: bool, plan: &[u8], walk: &[u8], numbers: &[u8]) -> bool
+    ensures { λ r. ⌜ r ≡ (more or tooLong (now (plan .entry)) or tooLong (now (walk .entry)) or tooLong (now (numbers .entry))) ⌝ }
 {
+    if more {
+        return true;
+    }
     if 65536 < plan.len() {
         return true;
     }
@@ -136,20 +124,21 @@ fn any_too_long(plan: &[u8], walk: &[u8], numbers: &[u8]) -> bool
     65536 < numbers.len()
 }
 
-// What is printed, whole: it is written into `out` from its front.
+// What is printed, whole: it is written into `out` from its front. `more` says that one of the files has bytes behind those given.
 pub fn respond(
     plan: &[u8],
     walk: &[u8],
     numbers: &[u8],
+    more: bool,
     tables: &mut [u8],
     terms: &mut [u8],
     out: &mut [u8],
 ) -> usize
     requires { ⌜ (tableSize ≤ length (now tables)) × (termSize ≤ length (now terms)) × (2_048 ≤ length (now out)) ⌝ }
-    ensures { λ k. ⌜ (now (out .exit) ≡ front (output (now (plan .entry)) (now (walk .entry)) (now (numbers .entry))) (now (out .entry)))
-        × (k ≡ length (output (now (plan .entry)) (now (walk .entry)) (now (numbers .entry)))) ⌝ }
+    ensures { λ k. ⌜ (now (out .exit) ≡ front (output more (now (plan .entry)) (now (walk .entry)) (now (numbers .entry))) (now (out .entry)))
+        × (k ≡ length (output more (now (plan .entry)) (now (walk .entry)) (now (numbers .entry)))) ⌝ }
 {
-    if any_too_long(plan, walk, numbers) {
+    if any_too_long(more, plan, walk, numbers) {
         return refusal_line(out, 9, 0);
     }
     let a = load(plan, tables, terms);

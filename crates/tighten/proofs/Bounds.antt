@@ -3,8 +3,8 @@
 use Prim.Native.Nat.{ℕ, _+_, _-_, _≤_}
 use native.Mathlib.Omega.{arith}
 use mathlib.Core.Path.{_≡_, refl, sym, ap, _∙_, subst}
-use mathlib.Core.List.{List, [], _∷_, _++_, map}
-use lib.Dec.{T, leb, eqb}
+use mathlib.Core.List.{List, [], _∷_, _++_}
+use lib.Dec.{T, leb}
 use lib.IntN.{ℤ, natAbs}
 use lib.ListN.{length, take, drop, length-append, length-take}
 use lib.Seq.{take-at, drop-at}
@@ -14,8 +14,9 @@ use mir.Val.{toZ, ofZ, SFits}
 use Rattle.plpb.specs.Lists.{all}
 use Rattle.plpb.specs.Plan.{absent, present, Clause, Plan, Assignment, satisfies, cost}
 use Rattle.plpb.specs.Walk.{ends, run}
-use Rattle.plpb.specs.Search.{Settings, Reached, reached, call, tightened}
-use Rattle.plpb.proofs.Walks.{at}
+use Rattle.plpb.specs.Settings.{Settings}
+use Rattle.plpb.specs.Search.{Reached, reached, call, tightened}
+use Rattle.plpb.specs.Walk.{at}
 use Rattle.words.specs.Words.{wordBytes, wordAt}
 use Rattle.words.proofs.Words.{length-wordBytes}
 use Rattle.format.specs.Limits.{lawful, roomy}
@@ -25,19 +26,21 @@ use Rattle.format.proofs.ReadBack.{read-back}
 use Rattle.format.proofs.Sections.{length-tableWords}
 use Rattle.counting.proofs.Signed.{small-fits}
 use Rattle.objective.specs.Added.{rebound}
-use Rattle.objective.specs.Sums.{Summable, costIn, bits}
+use Rattle.objective.specs.Sums.{Summable, costIn}
 use Rattle.objective.proofs.Costs.{table-room, variables-in, summable, cost-in, cost-size}
 use Rattle.objective.proofs.TightenedTables.{roomy-tightened, rebound-rules, rebound-bytes, rebound-holds, rebound-back}
+use Rattle.format.specs.Assignment.{bitsIn}
 use Rattle.tallies.specs.Layout.{bitsOf, areBits}
 use Rattle.tallies.specs.Core.{Laid}
 use Rattle.tallies.proofs.Callers.{held-laid}
 use Rattle.numbers.specs.Numbers.{numbersOf}
 use Rattle.tries.specs.declared.Tried.{Tried}
 use Rattle.tries.specs.declared.Tried.the-variants as tried
-use Rattle.tighten.specs.declared.Stand.{Stand}
+use Rattle.tighten.specs.declared.Progress.{Progress}
 use Rattle.tighten.specs.declared.Called.the-variants as called
 use Rattle.tries.specs.Steps.{Work, Startable, Beyond, triedOf, usedBy, flipsBy, IfReached, Finds, Tries}
-use Rattle.tighten.specs.Bounds.{untightened, basis, Bounded, Stands, Room, Leaves, calledOf, standIn, FindOr, CallsUnder}
+use Rattle.tighten.specs.Bounds.{untightened, basis, Bounded, Tracks, Room, Leaves, calledOf, progressIn, FindOr, CallsUnder}
+use Rattle.format.specs.Layout.{ruleRoom}
 
 -- ---- a plan with an added clause, and without it
 
@@ -87,7 +90,7 @@ module _ {p : Plan} {tables terms : List ℕ} (b : Bounded p tables terms) where
   pub bounded-long : tableSize ≤ length tables
   bounded-long = table-room (tightened p (b .bound)) tables terms bounded-room (b .holds)
 
-  pub bounded-rules : wordAt tables 2 ≤ 1_025
+  pub bounded-rules : wordAt tables 2 ≤ ruleRoom
   bounded-rules = rebound-rules p (b .lawful) (b .some) (b .bound) (b .bound) (b .within) (b .within) tables terms (b .holds)
 
   module _ (m : ℤ) (within : natAbs m ≤ 1_000_000_000) where
@@ -110,10 +113,10 @@ module _ {p : Plan} {tables terms : List ℕ} (b : Bounded p tables terms) where
 
 -- The cost of a find is small.
 module _ {p : Plan} {tables terms : List ℕ} (b : Bounded p tables terms) where
-  pub cost-small : {numbers assignment : List ℕ} {t : Stand} → Stands p numbers assignment t → natAbs (t .cost) ≤ 512_000_000
+  pub cost-small : {numbers assignment : List ℕ} {t : Progress} → Tracks p numbers assignment t → natAbs (t .cost) ≤ 512_000_000
   cost-small {assignment = assignment} st = rw (st .costs) (cost-size p (lawful-roomy p (b .lawful)) (bitsOf (p .variables) assignment))
 
-  pub cost-fits : {numbers assignment : List ℕ} {t : Stand} → Stands p numbers assignment t → SFits w64 (t .cost)
+  pub cost-fits : {numbers assignment : List ℕ} {t : Progress} → Tracks p numbers assignment t → SFits w64 (t .cost)
   cost-fits {t = t} st = small-fits (t .cost) (omega (arith, cost-small st))
 
 -- ---- a find copied over the one before
@@ -124,7 +127,7 @@ module _ (n : ℕ) (x y : List ℕ) (h : n ≤ length x) where
 
   pub front-bits : bitsOf n (take n x ++ drop n y) ≡ bitsOf n x
   unfolding bitsOf
-  front-bits = ap (map (λ b. eqb b 1)) front
+  front-bits = ap bitsIn front
 
   pub front-areBits : areBits n (take n x ++ drop n y) ≡ areBits n x
   unfolding areBits
@@ -133,13 +136,9 @@ module _ (n : ℕ) (x y : List ℕ) (h : n ≤ length x) where
   pub front-beyond : drop n (take n x ++ drop n y) ≡ drop n y
   front-beyond = drop-at (take n x) (drop n y) n (omega (arith, length-take n x))
 
-same-bits : (n : ℕ) (x : List ℕ) → bits n x ≡ bitsOf n x
-unfolding bitsOf
-same-bits n x = refl
-
 -- ---- a call under a bound
 
-abbrev pub TriesUnder : Settings → List ℕ → List ℕ → List ℕ → Stand → Work → Work → Tried → Type 0
+abbrev pub TriesUnder : Settings → List ℕ → List ℕ → List ℕ → Progress → Work → Work → Tried → Type 0
 TriesUnder s tables terms numbers from w v r = Tries (call s (planOfTables tables terms)) tables terms numbers (from .used) (from .flips) (from .used + 1) r w v
 
 module _ {p : Plan} {tables terms assignment : List ℕ} {w : Work} (room : Room p tables terms assignment w) (m : ℤ) (within : natAbs m ≤ 1_000_000_000)
@@ -166,7 +165,7 @@ module _ {p : Plan} {tables terms assignment : List ℕ} {w : Work} (room : Room
           marks = record { laid = l; bytes = omega (arith, n, room .marks) };
         }
 
-    module _ (s : Settings) {numbers : List ℕ} {from : Stand} (st : Stands p numbers assignment from) {v : Work} where
+    module _ (s : Settings) {numbers : List ℕ} {from : Progress} (st : Tracks p numbers assignment from) {v : Work} where
       under-outcome : {r : Tried} → TriesUnder s after terms numbers from w v r → (fs : List Assignment)
           → run (call s (tightened p m)) (numbersOf numbers) (at (from .used) (from .flips) fs) ≡ triedOf r (bitsOf (p .variables) (v .assignment)) fs
       unfolding tightened
@@ -183,7 +182,7 @@ module _ {p : Plan} {tables terms assignment : List ℕ} {w : Work} (room : Room
       module _ {r : Tried} {u f : ℕ} where
         -- A find.
         module _ (k : r ≡ tried.Reached u f) (t : TriesUnder s after terms numbers from w v r) (long : p .variables ≤ length (v .assignment)) {z : ℤ} {exit : List ℕ}
-            (c : z ≡ costIn after (bits (wordAt after 0) (v .assignment)))
+            (c : z ≡ costIn after (bitsOf (wordAt after 0) (v .assignment)))
             (x : exit ≡ take (wordAt after 0) (v .assignment) ++ drop (wordAt after 0) assignment)
           where
             reached-by : TriesUnder s after terms numbers from w v (tried.Reached u f)
@@ -206,8 +205,8 @@ module _ {p : Plan} {tables terms assignment : List ℕ} {w : Work} (room : Room
             exit-costs : z ≡ cost p (bitsOf (p .variables) exit)
             exit-costs = c ∙ bounded-cost under-bounded _ ∙ ap (cost p) (bits-of ∙ sym exit-bits)
               where
-                bits-of : bits (wordAt after 0) (v .assignment) ≡ bitsOf (p .variables) (v .assignment)
-                bits-of = ap (λ n. bits n (v .assignment)) (bounded-word under-bounded) ∙ same-bits (p .variables) (v .assignment)
+                bits-of : bitsOf (wordAt after 0) (v .assignment) ≡ bitsOf (p .variables) (v .assignment)
+                bits-of = ap (λ n. bitsOf n (v .assignment)) (bounded-word under-bounded)
 
             exit-satisfies : T (satisfies (bitsOf (tightened p m .variables) exit) (tightened p m))
             exit-satisfies =
@@ -218,12 +217,12 @@ module _ {p : Plan} {tables terms assignment : List ℕ} {w : Work} (room : Room
             pub called-found :
                 CallsUnder s p m numbers from (called.Found (record { cost = z; finds = from .finds + 1; flips = f; used = u })) assignment exit
                 × Leaves p tables terms after assignment exit w v
-            unfolding triedOf calledOf standIn FindOr usedBy flipsBy
+            unfolding triedOf calledOf progressIn FindOr usedBy flipsBy
             called-found = (
               record {
                 outcome = λ fs. under-outcome reached-by fs ∙ ap (λ a. ends (reached a) (at u f fs)) (sym exit-bits);
                 find = (refl, exit-satisfies);
-                stands = record {
+                tracks = record {
                   bits = exit-areBits;
                   costs = exit-costs;
                   finds = omega (arith, st .finds, reached-finds .uses);
@@ -241,8 +240,8 @@ module _ {p : Plan} {tables terms assignment : List ℕ} {w : Work} (room : Room
 
         -- None.
         module _ (t : TriesUnder s after terms numbers from w v r) where
-          still-stands : usedBy r ≡ u → flipsBy r ≡ f → Stands p numbers assignment (record { cost = toZ w64 (ofZ w64 (from .cost)); finds = from .finds; flips = f; used = u })
-          still-stands k l =
+          still-tracks : usedBy r ≡ u → flipsBy r ≡ f → Tracks p numbers assignment (record { cost = toZ w64 (ofZ w64 (from .cost)); finds = from .finds; flips = f; used = u })
+          still-tracks k l =
               record {
                 bits = st .bits;
                 costs = toZ-ofZ (cost-fits (room .bounded) st) ∙ st .costs;
@@ -254,12 +253,12 @@ module _ {p : Plan} {tables terms assignment : List ℕ} {w : Work} (room : Room
           pub called-failed : r ≡ tried.Failed u f →
               CallsUnder s p m numbers from (called.Failed (record { cost = toZ w64 (ofZ w64 (from .cost)); finds = from .finds; flips = f; used = u })) assignment assignment
               × Leaves p tables terms after assignment assignment w v
-          unfolding triedOf calledOf standIn FindOr usedBy flipsBy
+          unfolding triedOf calledOf progressIn FindOr usedBy flipsBy
           called-failed k = (
             record {
               outcome = λ fs. under-outcome t fs ∙ ap (λ q. triedOf q (bitsOf (p .variables) (v .assignment)) fs) k;
               find = (refl, refl);
-              stands = still-stands (ap usedBy k) (ap flipsBy k);
+              tracks = still-tracks (ap usedBy k) (ap flipsBy k);
             },
             still-leaves t,
           )
@@ -267,12 +266,12 @@ module _ {p : Plan} {tables terms assignment : List ℕ} {w : Work} (room : Room
           pub called-short : r ≡ tried.Short u f →
               CallsUnder s p m numbers from (called.Short (record { cost = toZ w64 (ofZ w64 (from .cost)); finds = from .finds; flips = f; used = u })) assignment assignment
               × Leaves p tables terms after assignment assignment w v
-          unfolding triedOf calledOf standIn FindOr usedBy flipsBy
+          unfolding triedOf calledOf progressIn FindOr usedBy flipsBy
           called-short k = (
             record {
               outcome = λ fs. under-outcome t fs ∙ ap (λ q. triedOf q (bitsOf (p .variables) (v .assignment)) fs) k;
               find = (refl, refl);
-              stands = still-stands (ap usedBy k) (ap flipsBy k);
+              tracks = still-tracks (ap usedBy k) (ap flipsBy k);
             },
             still-leaves t,
           )

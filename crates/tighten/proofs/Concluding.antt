@@ -18,27 +18,28 @@ use mir.Syntax.{w64}
 use mir.Val.{toZ, ofZ, SFits}
 use Rattle.plpb.specs.Lists.{_and_, isEmpty}
 use Rattle.plpb.specs.Plan.{Plan, Assignment, satisfies, cost, floorCost}
-use Rattle.plpb.specs.Walk.{Walk, ends, short, run}
-use Rattle.plpb.specs.Search.{Settings, reached, call, tightened, lbsBound, linearBound, Ending, short-found, atFloor, gap, linearSearch, lbsSearch, tighten, lastFind, costOf, Answer, answerOf as answered, conclude}
+use Rattle.plpb.specs.Walk.{Walk, done, at, ends, short, run}
+use Rattle.plpb.specs.Settings.{Mode, linear, lbs, Settings}
+use Rattle.plpb.specs.Search.{reached, call, tightened, lbsBound, linearBound, boundIn, Ending, ended, short-found, atFloor, gap, descending, linearSearch, lbsSearch, tighten, lastFind, costOf, Answer, answerOf as answered, conclude}
 use Rattle.plpb.proofs.Lists.{and-right}
-use Rattle.plpb.proofs.Walks.{at}
-use Rattle.plpb.proofs.Costs.{floor-below, gap-zero, above-floor, bound-falls, linear-less, lbs-less, satisfies-tightened}
+use Rattle.plpb.proofs.Costs.{floor-below, gap-zero, above-floor, bound-falls, bound-less, satisfies-tightened}
 use Rattle.format.proofs.Bools.{T-true}
 use Rattle.format.proofs.Lawful.{lawful-roomy}
 use Rattle.counting.proofs.Signed.{small-fits}
 use Rattle.objective.proofs.Costs.{floor-size, linear-within, lbs-within}
 use Rattle.tallies.specs.Layout.{bitsOf}
 use Rattle.numbers.specs.Numbers.{numbersOf}
-use Rattle.numbers.proofs.Runs.{linear-none, linear-floor, linear-ended, linear-found, linear-short, lbs-none, lbs-floor, lbs-linear, lbs-found, lbs-short, tighten-linear, tighten-lbs}
-use Rattle.tighten.specs.declared.Stand.{Stand}
+use Rattle.numbers.proofs.Runs.{descending-none, descending-floor, descending-failed, descending-found, descending-short}
+use Rattle.tighten.specs.declared.Progress.{Progress}
 use Rattle.tighten.specs.declared.Called.{Called}
 use Rattle.tighten.specs.declared.Called.the-variants as called
 use Rattle.tighten.specs.declared.Ending.{Ending as EndingOf}
 use Rattle.tighten.specs.declared.Ending.the-variants as code
 use Rattle.tighten.specs.declared.Searched.{Searched}
 use Rattle.tighten.proofs.Called.{the-type}
-use Rattle.tries.specs.Steps.{modeOf, Work}
-use Rattle.tighten.specs.Bounds.{basis, Bounded, Stands, Room, Leaves, calledOf, standIn, FindOr, CallsUnder, answerOf, endingOf, Concludes, LbsComes, StoppedAt}
+use Rattle.settings.specs.Settings.{modeOf}
+use Rattle.tries.specs.Steps.{Work}
+use Rattle.tighten.specs.Bounds.{basis, Bounded, Tracks, Room, Leaves, calledOf, progressIn, FindOr, CallsUnder, UnderBound, answerOf, endingOf, Concludes, Descends, Descent, StoppedAt}
 use Rattle.tighten.proofs.Bounds.{bounded-basis, cost-small, cost-fits}
 
 -- ---- the loop's test
@@ -75,7 +76,7 @@ module _ (p : Plan) (a : Assignment) where
 abbrev pub held : Plan → List ℕ → Assignment
 held p bytes = bitsOf (p .variables) bytes
 
-module _ {p : Plan} {tables terms : List ℕ} (b : Bounded p tables terms) {numbers assignment : List ℕ} {t : Stand} (st : Stands p numbers assignment t) where
+module _ {p : Plan} {tables terms : List ℕ} (b : Bounded p tables terms) {numbers assignment : List ℕ} {t : Progress} (st : Tracks p numbers assignment t) where
   pub cost-low : natAbs (toZ w64 (ofZ w64 (t .cost))) < 4_294_967_296
   cost-low = rw (toZ-ofZ (cost-fits b st)) (omega (arith, cost-small b st))
 
@@ -100,24 +101,32 @@ module _ {p : Plan} {tables terms : List ℕ} (b : Bounded p tables terms) {numb
     pub test-floor : ltZ (toZ w64 (ofZ w64 l)) (toZ w64 (ofZ w64 (t .cost))) ≡ false → atFloor p (held p assignment) ≡ true
     test-floor h = reaches p (held p assignment) (sym tested ∙ h)
 
-    -- The bounds, as the code has them.
-    module _ {k : ℤ} (f : SFits w64 k) where
-      pub lbs-read : k ≡ lbsBound (toZ w64 (ofZ w64 l)) (toZ w64 (ofZ w64 (t .cost))) → toZ w64 (ofZ w64 k) ≡ lbsBound (floorCost p) (cost p (held p assignment))
-      lbs-read g = toZ-ofZ f ∙ g ∙ ap₂ lbsBound floor-read cost-read
+    -- The bound, as the code has it.
+    module _ (mode : Mode) {k : ℤ} (f : SFits w64 k) (g : k ≡ boundIn mode (toZ w64 (ofZ w64 l)) (toZ w64 (ofZ w64 (t .cost)))) where
+      pub bound-read : toZ w64 (ofZ w64 k) ≡ boundIn mode (floorCost p) (cost p (held p assignment))
+      bound-read = toZ-ofZ f ∙ g ∙ ap₂ (boundIn mode) floor-read cost-read
 
-      pub lbs-small : k ≡ lbsBound (toZ w64 (ofZ w64 l)) (toZ w64 (ofZ w64 (t .cost))) → natAbs (toZ w64 (ofZ w64 k)) ≤ 1_000_000_000
-      lbs-small g = rw (lbs-read g) (lbs-within p (lawful-roomy p (b .lawful)) (held p assignment))
+      pub bound-small : natAbs (toZ w64 (ofZ w64 k)) ≤ 1_000_000_000
+      bound-small = rw bound-read (bound-within mode)
+        where
+          bound-within : (mode : Mode) → natAbs (boundIn mode (floorCost p) (cost p (held p assignment))) ≤ 1_000_000_000
+          bound-within linear = unfold boundIn in linear-within p (lawful-roomy p (b .lawful)) (held p assignment)
+          bound-within lbs = unfold boundIn in lbs-within p (lawful-roomy p (b .lawful)) (held p assignment)
 
-  module _ {k : ℤ} (f : SFits w64 k) where
-    pub linear-read : k ≡ linearBound (toZ w64 (ofZ w64 (t .cost))) → toZ w64 (ofZ w64 k) ≡ linearBound (cost p (held p assignment))
-    linear-read g = toZ-ofZ f ∙ g ∙ ap linearBound cost-read
+-- The bound of each mode, by its number.
+pub bound-linear : (k : ℕ) (l v : ℤ) → k ≡ 0 → linearBound v ≡ boundIn (modeOf k) l v
+unfolding boundIn modeOf
+bound-linear zero l v e = refl
+bound-linear (suc k) l v e = absurd (omega arith)
 
-    pub linear-small : k ≡ linearBound (toZ w64 (ofZ w64 (t .cost))) → natAbs (toZ w64 (ofZ w64 k)) ≤ 1_000_000_000
-    linear-small g = rw (linear-read g) (linear-within p (lawful-roomy p (b .lawful)) (held p assignment))
+pub bound-lbs : (k : ℕ) (l v : ℤ) → (k ≡ 0 → ⊥) → lbsBound l v ≡ boundIn (modeOf k) l v
+unfolding boundIn modeOf
+bound-lbs zero l v e = absurd (e refl)
+bound-lbs (suc k) l v e = refl
 
 -- ---- the answer
 
-module _ (p : Plan) (t : Stand) (a : Assignment) (fs : List Assignment) (c : t .cost ≡ cost p a) (n : suc (length fs) ≡ t .finds) where
+module _ (p : Plan) (t : Progress) (a : Assignment) (fs : List Assignment) (c : t .cost ≡ cost p a) (n : suc (length fs) ≡ t .finds) where
   concluded : (e : EndingOf) → conclude p (ends (endingOf e) (at (t .used) (t .flips) (a ∷ fs))) ≡ answerOf e t (reached a)
   unfolding conclude answered answerOf lastFind costOf
   concluded e = λ j. record { ending = endingOf e; cost = sym c j; finds = n j; flips = t .flips; used = t .used; assignment = reached a }
@@ -128,12 +137,12 @@ module _ (p : Plan) (t : Stand) (a : Assignment) (fs : List Assignment) (c : t .
 
 -- ---- what follows the next call
 
-module _ {s : Settings} {p : Plan} {numbers : List ℕ} {t : Stand} {m : ℤ} {r : Called} {entry exit : List ℕ} (c : CallsUnder s p m numbers t r entry exit) {k : ℤ} (e : m ≡ k) where
+module _ {s : Settings} {p : Plan} {numbers : List ℕ} {t : Progress} {m : ℤ} {r : Called} {entry exit : List ℕ} (c : CallsUnder s p m numbers t r entry exit) {k : ℤ} (e : m ≡ k) where
   called-under : (fs : List Assignment) → run (call s (tightened p k)) (numbersOf numbers) (at (t .used) (t .flips) fs) ≡ calledOf r (held p exit) fs
   called-under fs = subst (λ n. run (call s (tightened p n)) (numbersOf numbers) (at (t .used) (t .flips) fs) ≡ calledOf r (held p exit) fs) e (c .outcome fs)
 
 -- A find costs less, so that fewer can follow.
-pub falls : {s : Settings} {p : Plan} {numbers : List ℕ} {t u : Stand} {m : ℤ} {entry exit : List ℕ} → CallsUnder s p m numbers t (called.Found u) entry exit
+pub falls : {s : Settings} {p : Plan} {numbers : List ℕ} {t u : Progress} {m : ℤ} {entry exit : List ℕ} → CallsUnder s p m numbers t (called.Found u) entry exit
     → T (ltZ m (cost p (held p entry))) → gap p (held p exit) < gap p (held p entry)
 unfolding FindOr tightened
 falls {p = p} {m = m} {entry = entry} {exit = exit} c h =
@@ -141,92 +150,51 @@ falls {p = p} {m = m} {entry = entry} {exit = exit} c h =
     let y : T (satisfies (held p exit) p and leZ (cost p (held p exit)) m) = rw (satisfies-tightened p m (held p exit)) at x in
     bound-falls p m (held p entry) (held p exit) (and-right (satisfies (held p exit) p) (leZ (cost p (held p exit)) m) y) h
 
-pub linear-under : (p : Plan) (a : Assignment) {m : ℤ} → m ≡ linearBound (cost p a) → T (ltZ m (cost p a))
-linear-under p a e = rw e (linear-less (cost p a))
+pub bound-under : (p : Plan) (a : Assignment) (mode : Mode) → atFloor p a ≡ false → {m : ℤ} → m ≡ boundIn mode (floorCost p) (cost p a) → T (ltZ m (cost p a))
+bound-under p a mode h e = rw e (bound-less p a mode h)
 
-pub lbs-under : (p : Plan) (a : Assignment) → atFloor p a ≡ false → {m : ℤ} → m ≡ lbsBound (floorCost p) (cost p a) → T (ltZ m (cost p a))
-lbs-under p a h e = rw e (lbs-less (floorCost p) (cost p a) (floor-below p a) (above-floor p a h))
-
-module _ (s : Settings) (p : Plan) (numbers : List ℕ) (t : Stand) (entry : List ℕ) where
+module _ (s : Settings) (mode : Mode) (o : Plan → ℕ → Assignment → Walk Ending) (p : Plan) (numbers : List ℕ) (t : Progress) (entry : List ℕ) where
   abbrev a : Assignment
   a = bitsOf (p .variables) entry
 
   abbrev ns : List ℕ
   ns = numbersOf numbers
 
-  -- ---- linear
+  abbrev walk : Plan → ℕ → Assignment → Walk Ending
+  walk q = descending s q mode (o q)
 
-  linear-at-floor : t .cost ≡ cost p (held p entry) → atFloor p (held p entry) ≡ true
-      → Concludes (linearSearch s) p numbers t (held p entry) (answerOf code.Floor t (reached (held p entry)))
+  at-the-floor : t .cost ≡ cost p (held p entry) → atFloor p (held p entry) ≡ true → Concludes walk p numbers t (held p entry) (answerOf code.Floor t (reached (held p entry)))
   unfolding endingOf
-  linear-at-floor c h zero fs g n = ap (conclude p) (linear-none s p ns a (at (t .used) (t .flips) (a ∷ fs))) ∙ concluded p t a fs c n code.Floor
-  linear-at-floor c h (suc left) fs g n = ap (conclude p) (linear-floor s p ns a (at (t .used) (t .flips) (a ∷ fs)) left h) ∙ concluded p t a fs c n code.Floor
+  at-the-floor c h zero fs g n = ap (conclude p) (descending-none s p mode (o p) ns a (at (t .used) (t .flips) (a ∷ fs))) ∙ concluded p t a fs c n code.Floor
+  at-the-floor c h (suc left) fs g n =
+      ap (conclude p) (descending-floor s p mode (o p) ns a (at (t .used) (t .flips) (a ∷ fs)) left h) ∙ concluded p t a fs c n code.Floor
 
-  module _ (h : atFloor p (held p entry) ≡ false) {m : ℤ} (e : m ≡ linearBound (cost p (held p entry))) {u : Stand} {exit : List ℕ} where
-    pub linear-onward : CallsUnder s p m numbers t (called.Found u) entry exit → (r : Answer)
-        → Concludes (linearSearch s) p numbers u (held p exit) r → Concludes (linearSearch s) p numbers t (held p entry) r
+  module _ (h : atFloor p (held p entry) ≡ false) {m : ℤ} (e : m ≡ boundIn mode (floorCost p) (cost p (held p entry))) {u : Progress} {exit : List ℕ} where
+    on-a-find : CallsUnder s p m numbers t (called.Found u) entry exit → (r : Answer) → Concludes walk p numbers u (held p exit) r → Concludes walk p numbers t (held p entry) r
     unfolding calledOf FindOr
-    linear-onward c r f zero fs g n = absurd (omega (arith, some-gap p a h))
-    linear-onward c r f (suc left) fs g n =
-        let less = falls c (linear-under p a e) in
-        ap (conclude p) (linear-found s p ns a (at (t .used) (t .flips) (a ∷ fs)) left h (called-under c e (a ∷ fs)))
+    on-a-find c r f zero fs g n = absurd (omega (arith, some-gap p a h))
+    on-a-find c r f (suc left) fs g n =
+        let less = falls c (bound-under p a mode h e) in
+        ap (conclude p) (descending-found s p mode (o p) ns a (at (t .used) (t .flips) (a ∷ fs)) left h (called-under c e (a ∷ fs)))
         ∙ f left (a ∷ fs) (omega arith) (omega (arith, c .find .0))
 
-    linear-at-end : CallsUnder s p m numbers t (called.Failed u) entry exit
-        → Concludes (linearSearch s) p numbers t (held p entry) (answerOf code.Ended u (reached (held p exit)))
-    unfolding calledOf FindOr standIn endingOf
-    linear-at-end c zero fs g n = absurd (omega (arith, some-gap p a h))
-    linear-at-end c (suc left) fs g n =
-        let same : held p exit ≡ a = ap (held p) (c .find .1) in
-        ap (conclude p) (linear-ended s p ns a (at (t .used) (t .flips) (a ∷ fs)) left h (called-under c e (a ∷ fs)))
-        ∙ rw same (concluded p u a fs (c .stands .costs ∙ ap (cost p) same) (n ∙ sym (c .find .0)) code.Ended)
-
-    linear-at-short : CallsUnder s p m numbers t (called.Short u) entry exit
-        → Concludes (linearSearch s) p numbers t (held p entry) (answerOf code.ShortFound u (reached (held p exit)))
-    unfolding calledOf FindOr standIn
-    linear-at-short c zero fs g n = absurd (omega (arith, some-gap p a h))
-    linear-at-short c (suc left) fs g n =
-        let same : held p exit ≡ a = ap (held p) (c .find .1) in
-        ap (conclude p) (linear-short s p ns a (at (t .used) (t .flips) (a ∷ fs)) left h (called-under c e (a ∷ fs)))
-        ∙ rw same (concluded-short p u a fs (c .stands .costs ∙ ap (cost p) same) (n ∙ sym (c .find .0)))
-
-  -- ---- LBS
-
-  lbs-at-floor : t .cost ≡ cost p (held p entry) → atFloor p (held p entry) ≡ true
-      → Concludes (lbsSearch s) p numbers t (held p entry) (answerOf code.Floor t (reached (held p entry)))
-  unfolding endingOf
-  lbs-at-floor c h zero fs g n = ap (conclude p) (lbs-none s p ns a (at (t .used) (t .flips) (a ∷ fs))) ∙ concluded p t a fs c n code.Floor
-  lbs-at-floor c h (suc left) fs g n = ap (conclude p) (lbs-floor s p ns a (at (t .used) (t .flips) (a ∷ fs)) left h) ∙ concluded p t a fs c n code.Floor
-
-  module _ (h : atFloor p (held p entry) ≡ false) {m : ℤ} (e : m ≡ lbsBound (floorCost p) (cost p (held p entry))) {u : Stand} {exit : List ℕ} where
-    pub lbs-onward : CallsUnder s p m numbers t (called.Found u) entry exit → (r : Answer)
-        → Concludes (lbsSearch s) p numbers u (held p exit) r → Concludes (lbsSearch s) p numbers t (held p entry) r
+    -- What follows the first failure.
+    on-a-failure : CallsUnder s p m numbers t (called.Failed u) entry exit → (r : Answer) → Concludes o p numbers u (held p exit) r → Concludes walk p numbers t (held p entry) r
     unfolding calledOf FindOr
-    lbs-onward c r f zero fs g n = absurd (omega (arith, some-gap p a h))
-    lbs-onward c r f (suc left) fs g n =
-        let less = falls c (lbs-under p a h e) in
-        ap (conclude p) (lbs-found s p ns a (at (t .used) (t .flips) (a ∷ fs)) left h (called-under c e (a ∷ fs)))
-        ∙ f left (a ∷ fs) (omega arith) (omega (arith, c .find .0))
-
-    -- "at the first failure goes over to linear"
-    lbs-over : CallsUnder s p m numbers t (called.Failed u) entry exit → (r : Answer)
-        → Concludes (linearSearch s) p numbers u (held p exit) r → Concludes (lbsSearch s) p numbers t (held p entry) r
-    unfolding calledOf FindOr
-    lbs-over c r f zero fs g n = absurd (omega (arith, some-gap p a h))
-    lbs-over c r f (suc left) fs g n =
+    on-a-failure c r f zero fs g n = absurd (omega (arith, some-gap p a h))
+    on-a-failure c r f (suc left) fs g n =
         let same : held p exit ≡ a = ap (held p) (c .find .1) in
-        let l : Concludes (linearSearch s) p numbers u a r = rw same at f in
-        ap (conclude p) (lbs-linear s p ns a (at (t .used) (t .flips) (a ∷ fs)) left h (called-under c e (a ∷ fs)))
+        let l : Concludes o p numbers u a r = rw same at f in
+        ap (conclude p) (descending-failed s p mode (o p) ns a (at (t .used) (t .flips) (a ∷ fs)) left h (called-under c e (a ∷ fs)))
         ∙ l (suc left) fs g (n ∙ sym (c .find .0))
 
-    lbs-at-short : CallsUnder s p m numbers t (called.Short u) entry exit
-        → Concludes (lbsSearch s) p numbers t (held p entry) (answerOf code.ShortFound u (reached (held p exit)))
-    unfolding calledOf FindOr standIn
-    lbs-at-short c zero fs g n = absurd (omega (arith, some-gap p a h))
-    lbs-at-short c (suc left) fs g n =
+    where-short : CallsUnder s p m numbers t (called.Short u) entry exit → Concludes walk p numbers t (held p entry) (answerOf code.ShortFound u (reached (held p exit)))
+    unfolding calledOf FindOr progressIn
+    where-short c zero fs g n = absurd (omega (arith, some-gap p a h))
+    where-short c (suc left) fs g n =
         let same : held p exit ≡ a = ap (held p) (c .find .1) in
-        ap (conclude p) (lbs-short s p ns a (at (t .used) (t .flips) (a ∷ fs)) left h (called-under c e (a ∷ fs)))
-        ∙ rw same (concluded-short p u a fs (c .stands .costs ∙ ap (cost p) same) (n ∙ sym (c .find .0)))
+        ap (conclude p) (descending-short s p mode (o p) ns a (at (t .used) (t .flips) (a ∷ fs)) left h (called-under c e (a ∷ fs)))
+        ∙ rw same (concluded-short p u a fs (c .tracks .costs ∙ ap (cost p) same) (n ∙ sym (c .find .0)))
 
 -- ---- what has been done since the first find
 
@@ -238,23 +206,25 @@ pub record Long (before after : List ℕ) (find find' : List ℕ) (w v : Work) :
   pub tallies : length (v .tallies) ≡ length (w .tallies)
   pub marks : length (v .marks) ≡ length (w .marks)
 
--- Tightening goes on from where the search stands, and comes to what it comes to from the first find.
-pub record Since (walk : Plan → ℕ → Assignment → Walk Ending) (p : Plan) (terms numbers tables₀ assignment₀ : List ℕ) (w : Work) (from : Stand) (tables assignment : List ℕ) (v : Work) (t : Stand) : Type 0 where
+-- The tightening goes on from where the search is, and comes to what it comes to from the first find, whatever would follow its failure.
+pub record Since (s : Settings) (mode : Mode) (p : Plan) (terms numbers tables₀ assignment₀ : List ℕ) (w : Work) (from : Progress) (tables assignment : List ℕ) (v : Work) (t : Progress) : Type 0 where
   pub room : Room p tables terms assignment v
-  pub stands : Stands p numbers assignment t
+  pub tracks : Tracks p numbers assignment t
   pub leaves : Leaves p tables₀ terms tables assignment₀ assignment w v
   pub long : Long tables₀ tables assignment₀ assignment w v
-  pub comes : (r : Answer) → Concludes walk p numbers t (bitsOf (p .variables) assignment) r → Concludes walk p numbers from (bitsOf (p .variables) assignment₀) r
+  pub comes : (o : Plan → ℕ → Assignment → Walk Ending) (r : Answer)
+      → Concludes (λ q. descending s q mode (o q)) p numbers t (bitsOf (p .variables) assignment) r
+      → Concludes (λ q. descending s q mode (o q)) p numbers from (bitsOf (p .variables) assignment₀) r
 
-pub since-first : {walk : Plan → ℕ → Assignment → Walk Ending} {p : Plan} {terms numbers tables assignment : List ℕ} {w : Work} {t : Stand}
-    → Room p tables terms assignment w → Stands p numbers assignment t → Since walk p terms numbers tables assignment w t tables assignment w t
-since-first room stands =
+pub since-first : {s : Settings} {mode : Mode} {p : Plan} {terms numbers tables assignment : List ℕ} {w : Work} {t : Progress}
+    → Room p tables terms assignment w → Tracks p numbers assignment t → Since s mode p terms numbers tables assignment w t tables assignment w t
+since-first room tracks =
     record {
       room = room;
-      stands = stands;
+      tracks = tracks;
       leaves = record { bounded = room .bounded; table = refl; find = refl; beyond = record { assignment = refl; tallies = refl; marks = refl } };
       long = record { tables = refl; assignment = refl; tried = refl; tallies = refl; marks = refl };
-      comes = λ r c. c;
+      comes = λ o r c. c;
     }
 
 leaves-then : {p : Plan} {terms tables tables' tables'' assignment assignment' assignment'' : List ℕ} {w v u : Work}
@@ -299,10 +269,10 @@ module _ {p : Plan} {tables terms : List ℕ} (b : Bounded p tables terms) {assi
   pub room-here : {w : Work} → Room p tables terms assignment w → Room (basis tables terms) tables terms assignment w
   room-here r = rw (bounded-basis b) r
 
-  pub stands-here : {numbers : List ℕ} {t : Stand} → Stands p numbers assignment t → Stands (basis tables terms) numbers assignment t
-  stands-here st = rw (bounded-basis b) st
+  pub tracks-here : {numbers : List ℕ} {t : Progress} → Tracks p numbers assignment t → Tracks (basis tables terms) numbers assignment t
+  tracks-here st = rw (bounded-basis b) st
 
-  calls-here : {s : Settings} {m : ℤ} {numbers exit : List ℕ} {t : Stand} {r : Called}
+  calls-here : {s : Settings} {m : ℤ} {numbers exit : List ℕ} {t : Progress} {r : Called}
       → CallsUnder s (basis tables terms) m numbers t r assignment exit → CallsUnder s p m numbers t r assignment exit
   calls-here c = rw (bounded-basis b) at c
 
@@ -321,152 +291,126 @@ unfound (called.Found t) (inr e) = absurd (omega arith)
 unfound (called.Failed t) k = tt
 unfound (called.Short t) k = tt
 
--- One turn of a loop.
-module _ {walk : Plan → ℕ → Assignment → Walk Ending} {p : Plan} {terms numbers tables₀ assignment₀ : List ℕ} {w : Work} {from : Stand} {tables assignment : List ℕ} {v : Work} {t : Stand}
-    (i : Since walk p terms numbers tables₀ assignment₀ w from tables assignment v t) (s : Settings) {m : ℤ} {r : Called} {tables' assignment' : List ℕ} {v' : Work}
-    (c : CallsUnder s (basis tables terms) m numbers t r assignment assignment' × Leaves (basis tables terms) tables terms tables' assignment assignment' v v')
+-- One turn of the loop.
+module _ {s : Settings} {mode : Mode} {p : Plan} {terms numbers tables₀ assignment₀ : List ℕ} {w : Work} {from : Progress} {tables assignment : List ℕ} {v : Work} {t : Progress}
+    (i : Since s mode p terms numbers tables₀ assignment₀ w from tables assignment v t)
   where
-    turn-calls : CallsUnder s p m numbers t r assignment assignment'
-    turn-calls = calls-here (i .room .bounded) (c .0)
+    pub descent-ends : atFloor p (bitsOf (p .variables) assignment) ≡ true
+        → Descends s mode p numbers from (bitsOf (p .variables) assignment₀) (bitsOf (p .variables) assignment) (called.Found t)
+        × Tracks p numbers assignment (progressIn (called.Found t)) × Leaves p tables₀ terms tables assignment₀ assignment w v
+    unfolding Descends progressIn
+    descent-ends h = (λ o. i .comes o _ (at-the-floor s mode o p numbers t assignment (i .tracks .costs) h), i .tracks, i .leaves)
 
-    turn-found : {u : Stand} → r ≡ called.Found u → CallsUnder s p m numbers t (called.Found u) assignment assignment'
-    turn-found k = subst (λ q. CallsUnder s p m numbers t q assignment assignment') k turn-calls
-
-    turn-leaves : Leaves p tables₀ terms tables' assignment₀ assignment' w v'
-    turn-leaves = leaves-then (i .leaves) (leaves-here (i .room .bounded) (c .1))
-
-    since-again : {u : Stand} → r ≡ called.Found u → Long tables tables' assignment assignment' v v'
-        → ((q : Answer) → Concludes walk p numbers u (bitsOf (p .variables) assignment') q → Concludes walk p numbers t (bitsOf (p .variables) assignment) q)
-        → Since walk p terms numbers tables₀ assignment₀ w from tables' assignment' v' u
-    unfolding standIn
-    since-again k l f =
-        record {
-          room = room-after (i .room) (turn-leaves .bounded) l;
-          stands = turn-found k .stands;
-          leaves = turn-leaves;
-          long = long-then (i .long) l;
-          comes = λ q g. i .comes q (f q g);
-        }
-
--- ---- linear
-
-module _ (s : Settings) {p : Plan} {terms numbers tables₀ assignment₀ : List ℕ} {w : Work} {from : Stand} {tables assignment : List ℕ} {v : Work} {t : Stand}
-    (i : Since (linearSearch s) p terms numbers tables₀ assignment₀ w from tables assignment v t)
-  where
-    pub linear-ends : atFloor p (bitsOf (p .variables) assignment) ≡ true
-        → Concludes (linearSearch s) p numbers from (bitsOf (p .variables) assignment₀) (answerOf code.Floor t (reached (bitsOf (p .variables) assignment)))
-        × Stands p numbers assignment t × Leaves p tables₀ terms tables assignment₀ assignment w v
-    linear-ends h = (i .comes _ (linear-at-floor s p numbers t assignment (i .stands .costs) h), i .stands, i .leaves)
-
-    module _ {m : ℤ} {r : Called} {tables' assignment' : List ℕ} {v' : Work}
-        (c : CallsUnder s (basis tables terms) m numbers t r assignment assignment' × Leaves (basis tables terms) tables terms tables' assignment assignment' v v')
-        (h : atFloor p (bitsOf (p .variables) assignment) ≡ false) (e : m ≡ linearBound (cost p (bitsOf (p .variables) assignment)))
+    module _ {m : ℤ} {r : Called} {tables' assignment' : List ℕ} {v' : Work} (c : UnderBound s m tables terms numbers t r tables' assignment assignment' v v')
+        (h : atFloor p (bitsOf (p .variables) assignment) ≡ false) (e : m ≡ boundIn mode (floorCost p) (cost p (bitsOf (p .variables) assignment)))
       where
-        pub linear-falls : {u : Stand} → r ≡ called.Found u → gap p (bitsOf (p .variables) assignment') < gap p (bitsOf (p .variables) assignment)
-        linear-falls k = falls (turn-found i s c k) (linear-under p (bitsOf (p .variables) assignment) e)
+        turn-calls : CallsUnder s p m numbers t r assignment assignment'
+        turn-calls = calls-here (i .room .bounded) (c .0)
 
-        pub linear-again : {u : Stand} → r ≡ called.Found u → Long tables tables' assignment assignment' v v'
-            → Since (linearSearch s) p terms numbers tables₀ assignment₀ w from tables' assignment' v' u
-        linear-again k l = since-again i s c k l (linear-onward s p numbers t assignment h e (turn-found i s c k))
+        turn-leaves : Leaves p tables₀ terms tables' assignment₀ assignment' w v'
+        turn-leaves = leaves-then (i .leaves) (leaves-here (i .room .bounded) (c .1))
 
-        linear-stop : (r : Called) → Unfound r → CallsUnder s p m numbers t r assignment assignment' → (q : Searched) → StoppedAt r q
-            → Concludes (linearSearch s) p numbers t (bitsOf (p .variables) assignment) (answerOf (q .ending) (q .stand) (reached (bitsOf (p .variables) assignment')))
-            × Stands p numbers assignment' (q .stand)
-        unfolding StoppedAt standIn
-        linear-stop (called.Found u) z d q k = absurd z
-        linear-stop (called.Failed u) z d q k = rw (k .0, k .1) (linear-at-end s p numbers t assignment h e d, d .stands)
-        linear-stop (called.Short u) z d q k = rw (k .0, k .1) (linear-at-short s p numbers t assignment h e d, d .stands)
+        turn-found : {u : Progress} → r ≡ called.Found u → CallsUnder s p m numbers t (called.Found u) assignment assignment'
+        turn-found k = subst (λ q. CallsUnder s p m numbers t q assignment assignment') k turn-calls
 
-        pub linear-stops : OneOf (1 ∷ 2 ∷ []) (tagOf the-type r) → (q : Searched) → StoppedAt r q
-            → Concludes (linearSearch s) p numbers from (bitsOf (p .variables) assignment₀) (answerOf (q .ending) (q .stand) (reached (bitsOf (p .variables) assignment')))
-            × Stands p numbers assignment' (q .stand) × Leaves p tables₀ terms tables' assignment₀ assignment' w v'
-        linear-stops o q k =
-            let z = linear-stop r (unfound r o) (turn-calls i s c) q k in
-            (i .comes _ (z .0), z .1, turn-leaves i s c)
+        pub descent-falls : {u : Progress} → r ≡ called.Found u → gap p (bitsOf (p .variables) assignment') < gap p (bitsOf (p .variables) assignment)
+        descent-falls k = falls (turn-found k) (bound-under p (bitsOf (p .variables) assignment) mode h e)
 
--- ---- LBS
+        pub descent-again : {u : Progress} → r ≡ called.Found u → Long tables tables' assignment assignment' v v'
+            → Since s mode p terms numbers tables₀ assignment₀ w from tables' assignment' v' u
+        unfolding progressIn
+        descent-again k l =
+            record {
+              room = room-after (i .room) (turn-leaves .bounded) l;
+              tracks = turn-found k .tracks;
+              leaves = turn-leaves;
+              long = long-then (i .long) l;
+              comes = λ o q g. i .comes o q (on-a-find s mode o p numbers t assignment h e (turn-found k) q g);
+            }
 
-module _ (s : Settings) {p : Plan} {terms numbers tables₀ assignment₀ : List ℕ} {w : Work} {from : Stand} {tables assignment : List ℕ} {v : Work} {t : Stand}
-    (i : Since (lbsSearch s) p terms numbers tables₀ assignment₀ w from tables assignment v t)
-  where
-    pub lbs-ends : atFloor p (bitsOf (p .variables) assignment) ≡ true
-        → LbsComes s p numbers from (bitsOf (p .variables) assignment₀) (bitsOf (p .variables) assignment) (called.Found t)
-        × Stands p numbers assignment (standIn (called.Found t)) × Leaves p tables₀ terms tables assignment₀ assignment w v
-    unfolding LbsComes standIn
-    lbs-ends h = (i .comes _ (lbs-at-floor s p numbers t assignment (i .stands .costs) h), i .stands, i .leaves)
+        descent-stop : (r : Called) → Unfound r → CallsUnder s p m numbers t r assignment assignment'
+            → Descends s mode p numbers from (bitsOf (p .variables) assignment₀) (bitsOf (p .variables) assignment') r
+        unfolding Descends
+        descent-stop (called.Found u) z d = absurd z
+        descent-stop (called.Failed u) z d = λ o q g. i .comes o q (on-a-failure s mode o p numbers t assignment h e d q g)
+        descent-stop (called.Short u) z d = λ o. i .comes o _ (where-short s mode o p numbers t assignment h e d)
 
-    module _ {m : ℤ} {r : Called} {tables' assignment' : List ℕ} {v' : Work}
-        (c : CallsUnder s (basis tables terms) m numbers t r assignment assignment' × Leaves (basis tables terms) tables terms tables' assignment assignment' v v')
-        (h : atFloor p (bitsOf (p .variables) assignment) ≡ false) (e : m ≡ lbsBound (floorCost p) (cost p (bitsOf (p .variables) assignment)))
-      where
-        pub lbs-falls : {u : Stand} → r ≡ called.Found u → gap p (bitsOf (p .variables) assignment') < gap p (bitsOf (p .variables) assignment)
-        lbs-falls k = falls (turn-found i s c k) (lbs-under p (bitsOf (p .variables) assignment) h e)
+        pub descent-stops : OneOf (1 ∷ 2 ∷ []) (tagOf the-type r)
+            → Descends s mode p numbers from (bitsOf (p .variables) assignment₀) (bitsOf (p .variables) assignment') r
+            × Tracks p numbers assignment' (progressIn r) × Leaves p tables₀ terms tables' assignment₀ assignment' w v'
+        descent-stops k = (descent-stop r (unfound r k) turn-calls, turn-calls .tracks, turn-leaves)
 
-        pub lbs-again : {u : Stand} → r ≡ called.Found u → Long tables tables' assignment assignment' v v'
-            → Since (lbsSearch s) p terms numbers tables₀ assignment₀ w from tables' assignment' v' u
-        lbs-again k l = since-again i s c k l (lbs-onward s p numbers t assignment h e (turn-found i s c k))
+-- ---- both modes
 
-        lbs-stop : (r : Called) → Unfound r → CallsUnder s p m numbers t r assignment assignment'
-            → LbsComes s p numbers from (bitsOf (p .variables) assignment₀) (bitsOf (p .variables) assignment') r
-        unfolding LbsComes
-        lbs-stop (called.Found u) z d = absurd z
-        lbs-stop (called.Failed u) z d = λ q g. i .comes q (lbs-over s p numbers t assignment h e d q g)
-        lbs-stop (called.Short u) z d = i .comes _ (lbs-at-short s p numbers t assignment h e d)
+pub stopped-tracks : {p : Plan} {numbers assignment : List ℕ} (r : Called) (q : Searched) → StoppedAt r q → Tracks p numbers assignment (progressIn r) → Tracks p numbers assignment (q .progress)
+unfolding StoppedAt progressIn
+stopped-tracks (called.Found t) q k st = rw (k .1) st
+stopped-tracks (called.Failed t) q k st = rw (k .1) st
+stopped-tracks (called.Short t) q k st = rw (k .1) st
 
-        pub lbs-stops : OneOf (1 ∷ 2 ∷ []) (tagOf the-type r)
-            → LbsComes s p numbers from (bitsOf (p .variables) assignment₀) (bitsOf (p .variables) assignment') r
-            × Stands p numbers assignment' (standIn r) × Leaves p tables₀ terms tables' assignment₀ assignment' w v'
-        lbs-stops o =
-            let d = turn-calls i s c in
-            (lbs-stop r (unfound r o) d, d .stands, turn-leaves i s c)
+-- "ended": nothing follows the failure of linear tightening.
+ends-there : (p : Plan) (numbers : List ℕ) (t : Progress) (b : Assignment) → t .cost ≡ cost p b → Concludes (λ q left a. done ended) p numbers t b (answerOf code.Ended t (reached b))
+unfolding run endingOf
+ends-there p numbers t b c left fs g n = concluded p t b fs c n code.Ended
 
--- ---- the mode
+module _ (s : Settings) (p : Plan) (numbers : List ℕ) (from : Progress) (a : Assignment) (exit : List ℕ) (r : Called) (q : Searched) (k : StoppedAt r q) where
+  abbrev b : Assignment
+  b = bitsOf (p .variables) exit
 
-module _ (s : Settings) (p : Plan) (numbers : List ℕ) (t : Stand) (a : Assignment) (r : Answer) where
-  pub tightens-linear : (k : ℕ) → k ≡ 0 → Concludes (linearSearch s) p numbers t a r → Concludes (tighten (modeOf k) s) p numbers t a r
-  unfolding modeOf
-  tightens-linear zero e f = λ left fs g n. ap (conclude p) (tighten-linear s p (numbersOf numbers) a (at (t .used) (t .flips) (a ∷ fs)) left) ∙ f left fs g n
-  tightens-linear (suc k) e f = absurd (omega arith)
+  -- A tightening that did not fail, whatever would have followed its failure.
+  pub unfailed : (mode : Mode) → OneOf (0 ∷ 2 ∷ []) (tagOf the-type r) → Descends s mode p numbers from a (bitsOf (p .variables) exit) r
+      → Concludes (tighten mode s) p numbers from a (answerOf (q .ending) (q .progress) (reached (bitsOf (p .variables) exit)))
+  unfailed mode z d = in-mode mode (either r z k d)
+    where
+      either : (r : Called) → OneOf (0 ∷ 2 ∷ []) (tagOf the-type r) → StoppedAt r q → Descends s mode p numbers from a b r
+          → (o : Plan → ℕ → Assignment → Walk Ending) → Concludes (λ q. descending s q mode (o q)) p numbers from a (answerOf (q .ending) (q .progress) (reached b))
+      either (called.Found t) z k d = unfold Descends StoppedAt in λ o. rw (k .0, k .1) (d o)
+      either (called.Failed t) (inl z) k d = absurd (omega arith)
+      either (called.Failed t) (inr z) k d = absurd (omega arith)
+      either (called.Short t) z k d = unfold Descends StoppedAt in λ o. rw (k .0, k .1) (d o)
 
-  pub tightens-lbs : (k : ℕ) → (k ≡ 0 → ⊥) → Concludes (lbsSearch s) p numbers t a r → Concludes (tighten (modeOf k) s) p numbers t a r
-  unfolding modeOf
-  tightens-lbs zero d f = absurd (d refl)
-  tightens-lbs (suc k) d f = λ left fs g n. ap (conclude p) (tighten-lbs s p (numbersOf numbers) a (at (t .used) (t .flips) (a ∷ fs)) left) ∙ f left fs g n
+      in-mode : (mode : Mode) {x : Answer} → ((o : Plan → ℕ → Assignment → Walk Ending) → Concludes (λ q. descending s q mode (o q)) p numbers from a x) → Concludes (tighten mode s) p numbers from a x
+      in-mode linear f = unfold tighten linearSearch in f (λ q left a. done ended)
+      in-mode lbs f = unfold tighten lbsSearch in f (linearSearch s)
 
--- LBS has ended at the floor or short of numbers.
-pub lbs-answers : (s : Settings) (p : Plan) (numbers : List ℕ) (from : Stand) (a b : Assignment) (r : Called) → OneOf (0 ∷ 2 ∷ []) (tagOf the-type r)
-    → LbsComes s p numbers from a b r → (q : Searched) → StoppedAt r q → Concludes (lbsSearch s) p numbers from a (answerOf (q .ending) (q .stand) (reached b))
-unfolding LbsComes StoppedAt
-lbs-answers s p numbers from a b (called.Found t) o f q k = rw (k .0, k .1) f
-lbs-answers s p numbers from a b (called.Failed t) (inl o) f q k = absurd (omega arith)
-lbs-answers s p numbers from a b (called.Failed t) (inr o) f q k = absurd (omega arith)
-lbs-answers s p numbers from a b (called.Short t) o f q k = rw (k .0, k .1) f
+  -- Linear tightening, also where it failed.
+  pub linearly : Tracks p numbers exit (progressIn r) → Descends s linear p numbers from a (bitsOf (p .variables) exit) r
+      → Concludes (linearSearch s) p numbers from a (answerOf (q .ending) (q .progress) (reached (bitsOf (p .variables) exit)))
+  linearly st d = either r k st d
+    where
+      either : (r : Called) → StoppedAt r q → Tracks p numbers exit (progressIn r) → Descends s linear p numbers from a b r
+          → Concludes (linearSearch s) p numbers from a (answerOf (q .ending) (q .progress) (reached b))
+      either (called.Found t) k st d = unfold Descends StoppedAt linearSearch in rw (k .0, k .1) (d (λ q left a. done ended))
+      either (called.Failed t) k st d =
+          unfold Descends StoppedAt linearSearch progressIn in rw (k .0, k .1) (d (λ q left a. done ended) _ (ends-there p numbers t b (st .costs)))
+      either (called.Short t) k st d = unfold Descends StoppedAt linearSearch in rw (k .0, k .1) (d (λ q left a. done ended))
 
-pub stopped-stands : {p : Plan} {numbers assignment : List ℕ} (r : Called) (q : Searched) → StoppedAt r q → Stands p numbers assignment (standIn r) → Stands p numbers assignment (q .stand)
-unfolding StoppedAt standIn
-stopped-stands (called.Found t) q k st = rw (k .1) st
-stopped-stands (called.Failed t) q k st = rw (k .1) st
-stopped-stands (called.Short t) q k st = rw (k .1) st
+  pub tightens-linearly : (m : ℕ) → m ≡ 0 → Tracks p numbers exit (progressIn r) → Descends s (modeOf m) p numbers from a (bitsOf (p .variables) exit) r
+      → Concludes (tighten (modeOf m) s) p numbers from a (answerOf (q .ending) (q .progress) (reached (bitsOf (p .variables) exit)))
+  unfolding modeOf tighten
+  tightens-linearly zero e st d = linearly st d
+  tightens-linearly (suc m) e st d = absurd (omega arith)
 
--- LBS has failed at the stand t, and linear tightening has gone on from there.
-module _ {p : Plan} {terms numbers tables tables' assignment assignment' : List ℕ} {t : Stand} {w v : Work} {r : Called} (k : r ≡ called.Failed t)
+-- LBS has failed at the progress t, and linear tightening has gone on from there.
+module _ {p : Plan} {terms numbers tables tables' assignment assignment' : List ℕ} {t : Progress} {w v : Work} {r : Called} (k : r ≡ called.Failed t)
     (l : Leaves p tables terms tables' assignment assignment' w v)
   where
-    pub failed-stands : Stands p numbers assignment' (standIn r) → Stands (basis tables' terms) numbers assignment' t
-    unfolding standIn
-    failed-stands st = stands-here (l .bounded) (subst (λ q. Stands p numbers assignment' (standIn q)) k st)
+    pub failed-tracks : Tracks p numbers assignment' (progressIn r) → Tracks (basis tables' terms) numbers assignment' t
+    unfolding progressIn
+    failed-tracks st = tracks-here (l .bounded) (subst (λ q. Tracks p numbers assignment' (progressIn q)) k st)
 
-    pub lbs-then-linear : (s : Settings) (from : Stand) → LbsComes s p numbers from (bitsOf (p .variables) assignment) (bitsOf (p .variables) assignment') r
-        → {tables'' exit : List ℕ} {u : Work} (q : Searched)
-        → Concludes (linearSearch s) (basis tables' terms) numbers t (bitsOf ((basis tables' terms) .variables) assignment') (answerOf (q .ending) (q .stand) (reached (bitsOf ((basis tables' terms) .variables) exit)))
-        × Stands (basis tables' terms) numbers exit (q .stand) × Leaves (basis tables' terms) tables' terms tables'' assignment' exit v u
-        → Concludes (lbsSearch s) p numbers from (bitsOf (p .variables) assignment) (answerOf (q .ending) (q .stand) (reached (bitsOf (p .variables) exit)))
-        × Stands p numbers exit (q .stand) × Leaves p tables terms tables'' assignment exit w u
-    unfolding LbsComes
-    lbs-then-linear s from f {tables''} {exit} {u} q d =
-        let g : Concludes (linearSearch s) p numbers t (bitsOf (p .variables) assignment') (answerOf (q .ending) (q .stand) (reached (bitsOf (p .variables) exit)))
-        × Stands p numbers exit (q .stand) × Leaves p tables' terms tables'' assignment' exit v u =
-        subst (λ o. Concludes (linearSearch s) o numbers t (bitsOf (o .variables) assignment') (answerOf (q .ending) (q .stand) (reached (bitsOf (o .variables) exit))) × Stands o numbers exit (q .stand) × Leaves o tables' terms tables'' assignment' exit v u) (bounded-basis (l .bounded)) d in
-        let h : LbsComes s p numbers from (bitsOf (p .variables) assignment) (bitsOf (p .variables) assignment') (called.Failed t) =
-        subst (λ o. LbsComes s p numbers from (bitsOf (p .variables) assignment) (bitsOf (p .variables) assignment') o) k f in
-        (h _ (g .0), g .1, leaves-then l (g .2))
+    pub lbs-then-linear : (s : Settings) (from : Progress) (mode : ℕ) → (mode ≡ 0 → ⊥)
+        → Descends s (modeOf mode) p numbers from (bitsOf (p .variables) assignment) (bitsOf (p .variables) assignment') r
+        → {tables'' exit : List ℕ} {u : Work} (d : Called) (q : Searched) → StoppedAt d q
+        → Descent s (modeOf 0) tables' terms numbers t d tables'' assignment' exit v u
+        → Concludes (tighten (modeOf mode) s) p numbers from (bitsOf (p .variables) assignment) (answerOf (q .ending) (q .progress) (reached (bitsOf (p .variables) exit)))
+        × Tracks p numbers exit (q .progress) × Leaves p tables terms tables'' assignment exit w u
+    unfolding modeOf Descends tighten lbsSearch
+    lbs-then-linear s from zero m f d q z g = absurd (m refl)
+    lbs-then-linear s from (suc mode) m f {tables''} {exit} {u} d q z g =
+        let g′ : Descends s linear p numbers t (bitsOf (p .variables) assignment') (bitsOf (p .variables) exit) d
+        × Tracks p numbers exit (progressIn d) × Leaves p tables' terms tables'' assignment' exit v u =
+        subst (λ o. Descends s linear o numbers t (bitsOf (o .variables) assignment') (bitsOf (o .variables) exit) d × Tracks o numbers exit (progressIn d) × Leaves o tables' terms tables'' assignment' exit v u) (bounded-basis (l .bounded)) g in
+        let f′ : Descends s lbs p numbers from (bitsOf (p .variables) assignment) (bitsOf (p .variables) assignment') (called.Failed t) =
+        subst (λ o. Descends s lbs p numbers from (bitsOf (p .variables) assignment) (bitsOf (p .variables) assignment') o) k f in
+        (f′ (linearSearch s) _ (linearly s p numbers t _ exit d q z (g′ .1) (g′ .0)), stopped-tracks d q z (g′ .1), leaves-then l (g′ .2))

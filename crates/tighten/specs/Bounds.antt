@@ -8,19 +8,21 @@ use lib.IntN.{ℤ, natAbs}
 use lib.ListN.{length, take, drop}
 use Rattle.plpb.specs.Plan.{Plan, Assignment, satisfies, cost}
 use Rattle.plpb.specs.Walk.{Walk, Outcome, ends, short, run}
-use Rattle.plpb.specs.Search.{Settings, Reached, failed, reached, call, tightened, Ending, floor, ended, none, short-found, short-none, gap, linearSearch, lbsSearch, Answer, conclude}
-use Rattle.plpb.proofs.Walks.{at}
+use Rattle.plpb.specs.Settings.{Mode, Settings}
+use Rattle.plpb.specs.Search.{Reached, failed, reached, call, tightened, Ending, floor, ended, none, short-found, short-none, gap, descending, tighten, Answer, conclude}
+use Rattle.plpb.specs.Walk.{at}
 use Rattle.format.specs.Limits.{lawful, maxBound}
 use Rattle.format.specs.Tables.{Holds, planOfTables, tableSize}
 use Rattle.tallies.specs.Layout.{bitsOf, areBits}
 use Rattle.numbers.specs.Numbers.{numbersOf}
-use Rattle.tighten.specs.declared.Stand.{Stand}
+use Rattle.tighten.specs.declared.Progress.{Progress}
 use Rattle.tighten.specs.declared.Called.{Called}
 use Rattle.tighten.specs.declared.Called.the-variants as called
 use Rattle.tighten.specs.declared.Ending.{Ending as EndingOf}
 use Rattle.tighten.specs.declared.Ending.the-variants as code
 use Rattle.tighten.specs.declared.Searched.{Searched}
 use Rattle.tries.specs.Steps.{Work, Beyond}
+use Rattle.format.specs.Layout.{tallySize}
 
 -- A plan without the added last clause.
 unfoldable pub untightened : Plan → Plan
@@ -40,7 +42,7 @@ pub record Bounded (p : Plan) (tables terms : List ℕ) : Type 0 where
   pub holds : Holds (tightened p bound) tables terms
 
 -- Where a search stands after a find: its cost, and numbers enough were used for what is counted.
-pub record Stands (p : Plan) (numbers assignment : List ℕ) (t : Stand) : Type 0 where
+pub record Tracks (p : Plan) (numbers assignment : List ℕ) (t : Progress) : Type 0 where
   pub bits : T (areBits (p .variables) assignment)
   pub costs : t .cost ≡ cost p (bitsOf (p .variables) assignment)
   pub finds : t .finds ≤ t .used
@@ -52,7 +54,7 @@ pub record Room (p : Plan) (tables terms assignment : List ℕ) (w : Work) : Typ
   pub bounded : Bounded p tables terms
   pub find : p .variables ≤ length assignment
   pub tried : p .variables ≤ length (w .assignment)
-  pub tallies : 6_156 ≤ length (w .tallies)
+  pub tallies : tallySize ≤ length (w .tallies)
   pub marks : p .variables ≤ length (w .marks)
 
 -- .. and what it leaves as it was.
@@ -68,10 +70,10 @@ calledOf (called.Found t) b fs = ends (reached b) (at (t .used) (t .flips) fs)
 calledOf (called.Failed t) b fs = ends failed (at (t .used) (t .flips) fs)
 calledOf (called.Short t) b fs = short (at (t .used) (t .flips) fs)
 
-unfoldable pub standIn : Called → Stand
-standIn (called.Found t) = t
-standIn (called.Failed t) = t
-standIn (called.Short t) = t
+unfoldable pub progressIn : Called → Progress
+progressIn (called.Found t) = t
+progressIn (called.Failed t) = t
+progressIn (called.Short t) = t
 
 -- A find meets the bound and is one more; else the assignment and its count are as they were.
 unfoldable pub FindOr : Plan → ℕ → List ℕ → List ℕ → Called → Type 0
@@ -79,12 +81,12 @@ FindOr q finds entry exit (called.Found t) = (t .finds ≡ finds + 1) × T (sati
 FindOr q finds entry exit (called.Failed t) = (t .finds ≡ finds) × (exit ≡ entry)
 FindOr q finds entry exit (called.Short t) = (t .finds ≡ finds) × (exit ≡ entry)
 
-pub record CallsUnder (s : Settings) (p : Plan) (m : ℤ) (numbers : List ℕ) (from : Stand) (r : Called) (entry exit : List ℕ) : Type 0 where
+pub record CallsUnder (s : Settings) (p : Plan) (m : ℤ) (numbers : List ℕ) (from : Progress) (r : Called) (entry exit : List ℕ) : Type 0 where
   pub outcome :
       (fs : List Assignment) → run (call s (tightened p m)) (numbersOf numbers) (at (from .used) (from .flips) fs)
       ≡ calledOf r (bitsOf (p .variables) exit) fs
   pub find : FindOr (tightened p m) (from .finds) entry exit r
-  pub stands : Stands p numbers exit (standIn r)
+  pub tracks : Tracks p numbers exit (progressIn r)
 
 -- The endings of the code.
 unfoldable pub endingOf : EndingOf → Ending
@@ -95,25 +97,49 @@ endingOf code.ShortFound = short-found
 endingOf code.ShortNone = short-none
 
 -- The answer that the code gives, with the assignment that it leaves.
-unfoldable pub answerOf : EndingOf → Stand → Reached → Answer
+unfoldable pub answerOf : EndingOf → Progress → Reached → Answer
 answerOf e t b =
     record { ending = endingOf e; cost = t .cost; finds = t .finds; flips = t .flips; used = t .used; assignment = b }
 
 -- Tightening from a find a, with so many finds before it in all, comes to an answer.
-abbrev pub Concludes : (Plan → ℕ → Assignment → Walk Ending) → Plan → List ℕ → Stand → Assignment → Answer → Type 0
+abbrev pub Concludes : (Plan → ℕ → Assignment → Walk Ending) → Plan → List ℕ → Progress → Assignment → Answer → Type 0
 Concludes w p numbers t a r =
     (left : ℕ) (fs : List Assignment) → gap p a ≤ left → suc (length fs) ≡ t .finds
     → conclude p (run (w p left a) (numbersOf numbers) (at (t .used) (t .flips) (a ∷ fs))) ≡ r
 
--- LBS ends at the floor or short of numbers, or comes to whatever linear tightening comes to from where it failed.
-unfoldable pub LbsComes : Settings → Plan → List ℕ → Stand → Assignment → Assignment → Called → Type 0
-LbsComes s p numbers from a b (called.Found t) = Concludes (lbsSearch s) p numbers from a (answerOf code.Floor t (reached b))
-LbsComes s p numbers from a b (called.Short t) = Concludes (lbsSearch s) p numbers from a (answerOf code.ShortFound t (reached b))
-LbsComes s p numbers from a b (called.Failed t) =
-    (r : Answer) → Concludes (linearSearch s) p numbers t b r → Concludes (lbsSearch s) p numbers from a r
+-- A tightening in one mode from a find a, with b the last find: at the floor or short of numbers it comes to this answer whatever would follow
+-- its failure, and where it failed to what follows from there.
+unfoldable pub Descends : Settings → Mode → Plan → List ℕ → Progress → Assignment → Assignment → Called → Type 0
+Descends s mode p numbers from a b (called.Found t) =
+    (o : Plan → ℕ → Assignment → Walk Ending) → Concludes (λ q. descending s q mode (o q)) p numbers from a (answerOf code.Floor t (reached b))
+Descends s mode p numbers from a b (called.Short t) =
+    (o : Plan → ℕ → Assignment → Walk Ending) → Concludes (λ q. descending s q mode (o q)) p numbers from a (answerOf code.ShortFound t (reached b))
+Descends s mode p numbers from a b (called.Failed t) =
+    (o : Plan → ℕ → Assignment → Walk Ending) (r : Answer) → Concludes o p numbers t b r → Concludes (λ q. descending s q mode (o q)) p numbers from a r
 
--- How linear tightening ends where no find follows, and LBS at the floor.
+-- How a tightening ends where nothing follows its failure.
 unfoldable pub StoppedAt : Called → Searched → Type 0
-StoppedAt (called.Found t) r = (r .ending ≡ code.Floor) × (r .stand ≡ t)
-StoppedAt (called.Failed t) r = (r .ending ≡ code.Ended) × (r .stand ≡ t)
-StoppedAt (called.Short t) r = (r .ending ≡ code.ShortFound) × (r .stand ≡ t)
+StoppedAt (called.Found t) r = (r .ending ≡ code.Floor) × (r .progress ≡ t)
+StoppedAt (called.Failed t) r = (r .ending ≡ code.Ended) × (r .progress ≡ t)
+StoppedAt (called.Short t) r = (r .ending ≡ code.ShortFound) × (r .progress ≡ t)
+
+-- What the code does with the tables that hold the plan with an added clause: p is the plan without it.
+abbrev pub UnderBound : Settings → ℤ → (tables terms numbers : List ℕ) → Progress → Called → (tables' assignment assignment' : List ℕ) → (w w' : Work) → Type 0
+UnderBound s m tables terms numbers from r tables' assignment assignment' w w' =
+    CallsUnder s (basis tables terms) m numbers from r assignment assignment'
+    × Leaves (basis tables terms) tables terms tables' assignment assignment' w w'
+
+abbrev pub Descent : Settings → Mode → (tables terms numbers : List ℕ) → Progress → Called → (tables' assignment assignment' : List ℕ) → (w w' : Work) → Type 0
+Descent s mode tables terms numbers from r tables' assignment assignment' w w' =
+    let p = basis tables terms in
+    Descends s mode p numbers from (bitsOf (p .variables) assignment) (bitsOf (p .variables) assignment') r
+    × Tracks p numbers assignment' (progressIn r)
+    × Leaves p tables terms tables' assignment assignment' w w'
+
+abbrev pub Tightens : Settings → (tables terms numbers : List ℕ) → Progress → Searched → (tables' assignment assignment' : List ℕ) → (w w' : Work) → Type 0
+Tightens s tables terms numbers from r tables' assignment assignment' w w' =
+    let p = basis tables terms in
+    Concludes (tighten (s .mode) s) p numbers from (bitsOf (p .variables) assignment)
+    (answerOf (r .ending) (r .progress) (reached (bitsOf (p .variables) assignment')))
+    × Tracks p numbers assignment' (r .progress)
+    × Leaves p tables terms tables' assignment assignment' w w'

@@ -1,40 +1,41 @@
 // The tightening (paper 000): calls with the added last clause O ≤ m, each find below the one before it.
 ghost use mathlib.Core.Path.{_≡_};
 ghost use mathlib.Core.List.{_++_};
-ghost use Prim.Native.Nat.{_≤_};
+ghost use Prim.Native.Nat.{_≤_, _<_};
 ghost use lib.IntN.{natAbs};
 ghost use lib.ListN.{length, take, drop};
 ghost use Rattle.plpb.specs.Plan.{floorCost};
-ghost use Rattle.plpb.specs.Search.{reached, linearSearch, tighten as tightenBy};
+ghost use Rattle.plpb.specs.Search.{boundIn};
 ghost use Rattle.words.specs.Words.{wordAt};
 ghost use Rattle.format.specs.Limits.{maxBound};
-ghost use Rattle.tallies.specs.Layout.{bitsOf};
-ghost use Rattle.objective.specs.Sums.{Summable, costIn, bits};
-ghost use Rattle.tries.specs.Steps.{settingsOf, modeOf, work};
-ghost use Rattle.tighten.specs.Bounds.{basis, Room, Leaves, Stands, CallsUnder, LbsComes, Concludes, answerOf, standIn, StoppedAt};
+ghost use Rattle.format.specs.Assignment.{bitsOf};
+ghost use Rattle.objective.specs.Sums.{Summable, costIn};
+ghost use Rattle.settings.specs.Settings.{settingsOf, modeOf};
+ghost use Rattle.tries.specs.Steps.{work};
+ghost use Rattle.tighten.specs.Bounds.{basis, Room, Tracks, UnderBound, Descent, Tightens, StoppedAt};
 use counting::tightening::lbs_bound;
 use counting::tightening::linear_bound;
 use objective::added::set_bound;
 use objective::sums::cost;
-use objective::writes::copy;
-use tries::Settings;
+use settings::Settings;
 use tries::Tried;
 use tries::call;
+use words::copy;
 use words::index;
 
-// Where a search stands after a find: what it costs, and how many finds and flips were made and numbers used.
-pub struct Stand {
+// How far a search has come after a find: what it costs, and how many finds and flips were made and numbers used.
+pub struct Progress {
     pub cost: i64,
     pub finds: usize,
     pub flips: usize,
     pub used: usize,
 }
 
-// What one call with the added clause comes to: a find, or where the search stands without one.
+// What one call with the added clause comes to: a find or none, and how far the search has come.
 pub enum Called {
-    Found(Stand),
-    Failed(Stand),
-    Short(Stand),
+    Found(Progress),
+    Failed(Progress),
+    Short(Progress),
 }
 
 // How a search ends.
@@ -48,13 +49,13 @@ pub enum Ending {
 
 pub struct Searched {
     pub ending: Ending,
-    pub stand: Stand,
+    pub progress: Progress,
 }
 
 // Copies a find out, and answers what it costs.
 pub fn keep_find(tables: &[u8], found: &[u8], assignment: &mut [u8]) -> i64
     requires { ⌜ Summable (now tables) × (wordAt (now tables) 0 ≤ length (now found)) × (wordAt (now tables) 0 ≤ length (now assignment)) ⌝ }
-    ensures { λ r. ⌜ (r ≡ costIn (now (tables .entry)) (bits (wordAt (now (tables .entry)) 0) (now (found .entry))))
+    ensures { λ r. ⌜ (r ≡ costIn (now (tables .entry)) (bitsOf (wordAt (now (tables .entry)) 0) (now (found .entry))))
         × (now (assignment .exit)
         ≡ take (wordAt (now (tables .entry)) 0) (now (found .entry)) ++ drop (wordAt (now (tables .entry)) 0) (now (assignment .entry))) ⌝ }
 {
@@ -70,18 +71,17 @@ fn call_under(
     numbers: &[u8],
     s: Settings,
     bound: i64,
-    at: Stand,
+    at: Progress,
     assignment: &mut [u8],
     tried: &mut [u8],
     tallies: &mut [u8],
     marks: &mut [u8],
 ) -> Called
     requires { ⌜ Room (basis (now tables) (now terms)) (now tables) (now terms) (now assignment) (work (now tried) (now tallies) (now marks))
-        × Stands (basis (now tables) (now terms)) (now numbers) (now assignment) at × (natAbs bound ≤ maxBound) ⌝ }
-    ensures { λ r. ⌜ CallsUnder (settingsOf s) (basis (now (tables .entry)) (now (terms .entry))) bound (now (numbers .entry)) at r
+        × Tracks (basis (now tables) (now terms)) (now numbers) (now assignment) at × (natAbs bound ≤ maxBound) ⌝ }
+    ensures { λ r. ⌜ UnderBound (settingsOf s) bound (now (tables .entry)) (now (terms .entry)) (now (numbers .entry)) at r (now (tables .exit))
         (now (assignment .entry)) (now (assignment .exit))
-        × Leaves (basis (now (tables .entry)) (now (terms .entry))) (now (tables .entry)) (now (terms .entry)) (now (tables .exit)) (now (assignment .entry))
-        (now (assignment .exit)) (work (now (tried .entry)) (now (tallies .entry)) (now (marks .entry)))
+        (work (now (tried .entry)) (now (tallies .entry)) (now (marks .entry)))
         (work (now (tried .exit)) (now (tallies .exit)) (now (marks .exit))) ⌝ }
 {
     set_bound(tables, bound);
@@ -97,19 +97,19 @@ fn call_under(
         marks,
     );
     match t {
-        Tried::Reached(used, flips) => Called::Found(Stand {
+        Tried::Reached(used, flips) => Called::Found(Progress {
             cost: keep_find(tables, tried, assignment),
             finds: at.finds + 1,
             flips,
             used,
         }),
-        Tried::Failed(used, flips) => Called::Failed(Stand {
+        Tried::Failed(used, flips) => Called::Failed(Progress {
             cost: at.cost,
             finds: at.finds,
             flips,
             used,
         }),
-        Tried::Short(used, flips) => Called::Short(Stand {
+        Tried::Short(used, flips) => Called::Short(Progress {
             cost: at.cost,
             finds: at.finds,
             flips,
@@ -118,95 +118,56 @@ fn call_under(
     }
 }
 
-// How linear tightening ends where a call finds nothing.
+// How a tightening ends where nothing follows its failure.
 fn stopped(c: Called) -> Searched
     ensures { λ r. ⌜ StoppedAt c r ⌝ }
 {
     match c {
         Called::Found(at) => Searched {
             ending: Ending::Floor,
-            stand: at,
+            progress: at,
         },
         Called::Failed(at) => Searched {
             ending: Ending::Ended,
-            stand: at,
+            progress: at,
         },
         Called::Short(at) => Searched {
             ending: Ending::ShortFound,
-            stand: at,
+            progress: at,
         },
     }
 }
 
-// "linear: O ≤ v − 1, until a call fails"
-fn linear(
-    tables: &mut [u8],
-    terms: &[u8],
-    numbers: &[u8],
-    s: Settings,
-    floor: i64,
-    from: Stand,
-    assignment: &mut [u8],
-    tried: &mut [u8],
-    tallies: &mut [u8],
-    marks: &mut [u8],
-) -> Searched
-    requires { ⌜ Room (basis (now tables) (now terms)) (now tables) (now terms) (now assignment) (work (now tried) (now tallies) (now marks))
-        × Stands (basis (now tables) (now terms)) (now numbers) (now assignment) from × (floor ≡ floorCost (basis (now tables) (now terms))) ⌝ }
-    ensures { λ r. ⌜ Concludes (linearSearch (settingsOf s)) (basis (now (tables .entry)) (now (terms .entry))) (now (numbers .entry)) from
-        (bitsOf ((basis (now (tables .entry)) (now (terms .entry))) .variables) (now (assignment .entry)))
-        (answerOf (r .ending) (r .stand) (reached (bitsOf ((basis (now (tables .entry)) (now (terms .entry))) .variables) (now (assignment .exit)))))
-        × Stands (basis (now (tables .entry)) (now (terms .entry))) (now (numbers .entry)) (now (assignment .exit)) (r .stand)
-        × Leaves (basis (now (tables .entry)) (now (terms .entry))) (now (tables .entry)) (now (terms .entry)) (now (tables .exit)) (now (assignment .entry))
-        (now (assignment .exit)) (work (now (tried .entry)) (now (tallies .entry)) (now (marks .entry)))
-        (work (now (tried .exit)) (now (tallies .exit)) (now (marks .exit))) ⌝ }
+// The bound that a find of this cost gives the next call.
+fn bound_for(mode: u32, least: i64, cost: i64) -> i64
+    requires { ⌜ (natAbs least < 4294967296) × (natAbs cost < 4294967296) ⌝ }
+    ensures { λ r. ⌜ r ≡ boundIn (modeOf mode) least cost ⌝ }
 {
-    let mut at = from;
-    while floor < at.cost {
-        let c = call_under(
-            tables,
-            terms,
-            numbers,
-            s,
-            linear_bound(at.cost),
-            at,
-            assignment,
-            tried,
-            tallies,
-            marks,
-        );
-        let Called::Found(next) = c else {
-            return stopped(c);
-        };
-        at = next;
+    if mode == 0 {
+        return linear_bound(cost);
     }
-    Searched {
-        ending: Ending::Floor,
-        stand: at,
-    }
+    lbs_bound(least, cost)
 }
 
-// "LBS next calls with the added last clause O ≤ m [..]; after each find it repeats", until the first failure.
-fn lbs(
+// Calls in one mode, each below the last find, until one fails or the floor is reached.
+fn descend(
     tables: &mut [u8],
     terms: &[u8],
     numbers: &[u8],
     s: Settings,
+    mode: u32,
     floor: i64,
-    from: Stand,
+    from: Progress,
     assignment: &mut [u8],
     tried: &mut [u8],
     tallies: &mut [u8],
     marks: &mut [u8],
 ) -> Called
     requires { ⌜ Room (basis (now tables) (now terms)) (now tables) (now terms) (now assignment) (work (now tried) (now tallies) (now marks))
-        × Stands (basis (now tables) (now terms)) (now numbers) (now assignment) from × (floor ≡ floorCost (basis (now tables) (now terms))) ⌝ }
-    ensures { λ r. ⌜ LbsComes (settingsOf s) (basis (now (tables .entry)) (now (terms .entry))) (now (numbers .entry)) from
-        (bitsOf ((basis (now (tables .entry)) (now (terms .entry))) .variables) (now (assignment .entry)))
-        (bitsOf ((basis (now (tables .entry)) (now (terms .entry))) .variables) (now (assignment .exit))) r
-        × Stands (basis (now (tables .entry)) (now (terms .entry))) (now (numbers .entry)) (now (assignment .exit)) (standIn r)
-        × Leaves (basis (now (tables .entry)) (now (terms .entry))) (now (tables .entry)) (now (terms .entry)) (now (tables .exit)) (now (assignment .entry))
-        (now (assignment .exit)) (work (now (tried .entry)) (now (tallies .entry)) (now (marks .entry)))
+        × Tracks (basis (now tables) (now terms)) (now numbers) (now assignment) from × (floor ≡ floorCost (basis (now tables) (now terms))) ⌝ }
+    ensures { λ r. ⌜ Descent (settingsOf s) (modeOf mode) (now (tables .entry)) (now (terms .entry)) (now (numbers .entry)) from r (now (tables .exit))
+        (now (assignment .entry)) (now (assignment .exit))
+        (work (now (tried .entry)) (now (tallies .entry)) (now (marks .entry)))
         (work (now (tried .exit)) (now (tallies .exit)) (now (marks .exit))) ⌝ }
 {
     let mut at = from;
@@ -216,7 +177,7 @@ fn lbs(
             terms,
             numbers,
             s,
-            lbs_bound(floor, at.cost),
+            bound_for(mode, floor, at.cost),
             at,
             assignment,
             tried,
@@ -231,48 +192,32 @@ fn lbs(
     Called::Found(at)
 }
 
-// From a first find on; "at the first failure goes over to linear".
+// From a first find on: linear ends at its first failure, LBS "at the first failure goes over to linear".
 pub fn tighten(
     tables: &mut [u8],
     terms: &[u8],
     numbers: &[u8],
     s: Settings,
     floor: i64,
-    from: Stand,
+    from: Progress,
     assignment: &mut [u8],
     tried: &mut [u8],
     tallies: &mut [u8],
     marks: &mut [u8],
 ) -> Searched
     requires { ⌜ Room (basis (now tables) (now terms)) (now tables) (now terms) (now assignment) (work (now tried) (now tallies) (now marks))
-        × Stands (basis (now tables) (now terms)) (now numbers) (now assignment) from × (floor ≡ floorCost (basis (now tables) (now terms))) ⌝ }
-    ensures { λ r. ⌜ Concludes (tightenBy (modeOf (s .mode)) (settingsOf s)) (basis (now (tables .entry)) (now (terms .entry))) (now (numbers .entry)) from
-        (bitsOf ((basis (now (tables .entry)) (now (terms .entry))) .variables) (now (assignment .entry)))
-        (answerOf (r .ending) (r .stand) (reached (bitsOf ((basis (now (tables .entry)) (now (terms .entry))) .variables) (now (assignment .exit)))))
-        × Stands (basis (now (tables .entry)) (now (terms .entry))) (now (numbers .entry)) (now (assignment .exit)) (r .stand)
-        × Leaves (basis (now (tables .entry)) (now (terms .entry))) (now (tables .entry)) (now (terms .entry)) (now (tables .exit)) (now (assignment .entry))
-        (now (assignment .exit)) (work (now (tried .entry)) (now (tallies .entry)) (now (marks .entry)))
+        × Tracks (basis (now tables) (now terms)) (now numbers) (now assignment) from × (floor ≡ floorCost (basis (now tables) (now terms))) ⌝ }
+    ensures { λ r. ⌜ Tightens (settingsOf s) (now (tables .entry)) (now (terms .entry)) (now (numbers .entry)) from r (now (tables .exit))
+        (now (assignment .entry)) (now (assignment .exit))
+        (work (now (tried .entry)) (now (tallies .entry)) (now (marks .entry)))
         (work (now (tried .exit)) (now (tallies .exit)) (now (marks .exit))) ⌝ }
 {
-    if s.mode == 0 {
-        return linear(
-            tables,
-            terms,
-            numbers,
-            s,
-            floor,
-            from,
-            assignment,
-            tried,
-            tallies,
-            marks,
-        );
-    }
-    let c = lbs(
+    let c = descend(
         tables,
         terms,
         numbers,
         s,
+        s.mode,
         floor,
         from,
         assignment,
@@ -280,19 +225,24 @@ pub fn tighten(
         tallies,
         marks,
     );
+    if s.mode == 0 {
+        return stopped(c);
+    }
     let Called::Failed(at) = c else {
         return stopped(c);
     };
-    linear(
+    let d = descend(
         tables,
         terms,
         numbers,
         s,
+        0,
         floor,
         at,
         assignment,
         tried,
         tallies,
         marks,
-    )
+    );
+    stopped(d)
 }

@@ -1,8 +1,8 @@
 -- Laws of flips, tries and calls: what a loop has come to, and how it ends. Assumes nothing.
 use Prim.Native.Nat.{ℕ, suc, _+_, _-_, _/_, _≤_, _<_}
 use native.Mathlib.Omega.{arith}
-use mathlib.Core.Path.{_≡_, refl, sym, ap, _∙_}
-use mathlib.Core.Bool.{Bool, true, false, not, cond, true≢false}
+use mathlib.Core.Path.{_≡_, refl, sym, ap, _∙_, subst}
+use mathlib.Core.Bool.{Bool, true, false, cond, true≢false}
 use mathlib.Core.Logic.{_≢_}
 use mathlib.Core.List.{List, [], _∷_, _++_}
 use lib.Dec.{T, leb, eqb}
@@ -13,13 +13,14 @@ use denote.Enum.Declared.{tagOf}
 use Rattle.plpb.specs.Plan.{Plan, Assignment, satisfies}
 use Rattle.plpb.specs.Tallies.{freshCount}
 use Rattle.plpb.specs.Numbers.{Taken, taken, tooFew, takeWords, startWords, startOf}
-use Rattle.plpb.specs.Walk.{ends, short, run}
-use Rattle.plpb.specs.Search.{Settings, flipping, try, trying, call}
-use Rattle.plpb.proofs.Walks.{at}
+use Rattle.plpb.specs.Walk.{at, ends, short, run}
+use Rattle.plpb.specs.Settings.{Settings}
+use Rattle.plpb.specs.Try.{begun as beginning}
+use Rattle.plpb.specs.Search.{flipping, try, trying, call}
 use Rattle.words.specs.Words.{wordAt}
 use Rattle.format.specs.Tables.{planOfTables}
 use Rattle.tallies.specs.Layout.{tallySize, bitsOf, bitBytes}
-use Rattle.tallies.specs.Core.{Ready, counted}
+use Rattle.tallies.specs.Core.{Ready, recounted}
 use Rattle.tallies.proofs.Bits.{length-bitBytes, drop-bytes, bitsOf-bytes, areBits-bytes}
 use Rattle.tallies.proofs.Laid.{parts, variables-word}
 use Rattle.tallies.proofs.TallyBytes.{roomy-fits, take-fresh, drop-fresh}
@@ -28,14 +29,17 @@ use Rattle.numbers.specs.declared.Started.the-variants as started
 use Rattle.numbers.specs.Numbers.{numbersOf}
 use Rattle.numbers.specs.Taking.{Starts}
 use Rattle.numbers.proofs.Taking.{length-numbersOf, length-start, started-taken, started-short, words-use}
-use Rattle.numbers.proofs.Finding.{look-by-count}
-use Rattle.numbers.proofs.Runs.{counted as counted-down, flipping-none, flipping-found, flipping-moved, flipping-short, try-started, try-short, trying-none, trying-next, trying-found, trying-short, run-call}
+use Rattle.plpb.proofs.Tallies.{look-by-count}
+use Rattle.numbers.proofs.Runs.{counted as counted-down, flipping-none, flipping-found, flipping-moved, flipping-stuck, flipping-short, try-started, try-short, trying-none, trying-next, trying-found, trying-short, run-call}
 use Rattle.tries.specs.declared.moves.Moved.{Moved}
+use Rattle.tries.specs.declared.moves.Moved.the-variants as moved
+use Rattle.tries.proofs.moves.Moved.{the-type as move-type}
 use Rattle.tries.specs.declared.Tried.{Tried}
 use Rattle.tries.proofs.Tried.{the-type}
 use Rattle.tries.specs.declared.Tried.the-variants as tried
-use Rattle.tries.specs.Steps.{Work, bitsIn, Startable, Walking, Beyond, movedOf, Moves, triedOf, usedBy, flipsBy, IfReached, Tries}
+use Rattle.tries.specs.Steps.{Work, bitsIn, tryIn, Startable, Walking, Beyond, movedOf, usedIn, IfMade, Moves, triedOf, stoppedAt, usedBy, flipsBy, IfReached, Tries}
 use Rattle.tries.proofs.Moving.{unsatisfied-word}
+use Rattle.format.specs.Layout.{unsatisfiedAt}
 
 pub beyond-same : (n : ℕ) (w : Work) → Beyond n w w
 beyond-same n w = record { assignment = refl; tallies = refl; marks = refl }
@@ -54,35 +58,27 @@ pub sized-on : {w v u : Work} → Sized w v → length (u .assignment) ≡ lengt
     → length (u .marks) ≡ length (v .marks) → Sized w u
 sized-on z a y m = record { assignment = a ∙ z .assignment; tallies = y ∙ z .tallies; marks = m ∙ z .marks }
 
-not-false : (b : Bool) → not b ≡ false → b ≡ true
-not-false true e = refl
-not-false false e = absurd (true≢false e)
-
-not-true : (b : Bool) → not b ≡ true → b ≡ false
-not-true true e = absurd (true≢false (sym e))
-not-true false e = refl
-
 -- ---- flips
 
 -- The look, by the tallies.
 module _ {tables terms : List ℕ} {w : Work} (k : Walking tables terms w) where
-  looked : satisfies (bitsIn tables terms w) (planOfTables tables terms) ≡ eqb (wordAt (w .tallies) 1_538) 0
+  looked : satisfies (bitsIn tables terms w) (planOfTables tables terms) ≡ eqb (wordAt (w .tallies) unsatisfiedAt) 0
   unfolding freshCount
   looked = look-by-count (planOfTables tables terms) (bitsIn tables terms w) ∙ ap (λ i. eqb i 0) (sym (unsatisfied-word k))
 
-  look-true : wordAt (w .tallies) 1_538 ≡ 0 → satisfies (bitsIn tables terms w) (planOfTables tables terms) ≡ true
-  look-true e = looked ∙ eq-eqb (wordAt (w .tallies) 1_538) 0 e
+  look-true : wordAt (w .tallies) unsatisfiedAt ≡ 0 → satisfies (bitsIn tables terms w) (planOfTables tables terms) ≡ true
+  look-true e = looked ∙ eq-eqb (wordAt (w .tallies) unsatisfiedAt) 0 e
 
-  look-false : wordAt (w .tallies) 1_538 ≢ 0 → satisfies (bitsIn tables terms w) (planOfTables tables terms) ≡ false
-  look-false e = looked ∙ ne-eqb (wordAt (w .tallies) 1_538) 0 e
+  look-false : wordAt (w .tallies) unsatisfiedAt ≢ 0 → satisfies (bitsIn tables terms w) (planOfTables tables terms) ≡ false
+  look-false e = looked ∙ ne-eqb (wordAt (w .tallies) unsatisfiedAt) 0 e
 
 -- What the flips have come to: as many are left, from another assignment and another place in the list.
 pub record Flipping (s : Settings) (tables terms numbers : List ℕ) (begun before : ℕ) (w : Work) (used made left : ℕ) (v : Work) : Type 0 where
   pub walking : Walking tables terms v
   pub outcome :
       (fs : List Assignment)
-      → run (flipping s (planOfTables tables terms) (s .flips) (bitsIn tables terms w)) (numbersOf numbers) (at begun before fs)
-      ≡ run (flipping s (planOfTables tables terms) left (bitsIn tables terms v)) (numbersOf numbers) (at used made fs)
+      → run (flipping s (planOfTables tables terms) (s .flips) (tryIn tables terms w)) (numbersOf numbers) (at begun before fs)
+      ≡ run (flipping s (planOfTables tables terms) left (tryIn tables terms v)) (numbersOf numbers) (at used made fs)
   pub uses : begun ≤ used
   pub flipped : made ≤ used
   pub within : used ≤ length numbers / 4
@@ -98,14 +94,14 @@ module _ {s : Settings} {tables terms numbers : List ℕ} {begun before : ℕ} {
   abbrev p : Plan
   p = planOfTables tables terms
 
-  pub flips-found : 0 < left → wordAt (v .tallies) 1_538 ≡ 0
-      → Tries (flipping s p (s .flips) (bitsIn tables terms w)) tables terms numbers begun before begun (tried.Reached used made) w v
+  pub flips-found : 0 < left → wordAt (v .tallies) unsatisfiedAt ≡ 0
+      → Tries (flipping s p (s .flips) (tryIn tables terms w)) tables terms numbers begun before begun (tried.Reached used made) w v
   unfolding triedOf usedBy flipsBy IfReached
   flips-found h e =
       let sat = look-true (i .walking) e in
       record {
-        outcome = λ fs. i .outcome fs ∙ ap (λ k. run (flipping s p k (bitsIn tables terms v)) (numbersOf numbers) (at used made fs)) (counted-down left h)
-            ∙ flipping-found s p (numbersOf numbers) (bitsIn tables terms v) (at used made fs) (left - 1) sat;
+        outcome = λ fs. i .outcome fs ∙ ap (λ k. run (flipping s p k (tryIn tables terms v)) (numbersOf numbers) (at used made fs)) (counted-down left h)
+            ∙ flipping-found s p (numbersOf numbers) (tryIn tables terms v) (at used made fs) (left - 1) sat;
         finds = record { bits = i .walking .bits; satisfied = rw sat tt; uses = i .uses };
         uses = i .uses;
         within = i .within;
@@ -113,52 +109,58 @@ module _ {s : Settings} {tables terms numbers : List ℕ} {begun before : ℕ} {
         beyond = i .beyond;
       }
 
-  module _ (h : 0 < left) (e : wordAt (v .tallies) 1_538 ≢ 0) {r : Moved} {u : Work} (m : Moves s tables terms numbers used r v u) where
-    on : (fs : List Assignment) → run (flipping s p (s .flips) (bitsIn tables terms w)) (numbersOf numbers) (at begun before fs)
-        ≡ run (flipping s p (suc (left - 1)) (bitsIn tables terms v)) (numbersOf numbers) (at used made fs)
-    on fs = i .outcome fs ∙ ap (λ k. run (flipping s p k (bitsIn tables terms v)) (numbersOf numbers) (at used made fs)) (counted-down left h)
+  module _ (h : 0 < left) (e : wordAt (v .tallies) unsatisfiedAt ≢ 0) where
+    on : (fs : List Assignment) → run (flipping s p (s .flips) (tryIn tables terms w)) (numbersOf numbers) (at begun before fs)
+        ≡ run (flipping s p (suc (left - 1)) (tryIn tables terms v)) (numbersOf numbers) (at used made fs)
+    on fs = i .outcome fs ∙ ap (λ k. run (flipping s p k (tryIn tables terms v)) (numbersOf numbers) (at used made fs)) (counted-down left h)
 
-    pub flips-more : not (r .made) ≡ false → Sized w u → Flipping s tables terms numbers begun before w (r .used) (made + 1) (left - 1) u
-    unfolding movedOf
-    flips-more n z =
-        let t = not-false (r .made) n in
-        let one : used + 1 ≤ r .used = rw t at (m .uses) in
+    pub flips-more : {r : Moved} {after : ℕ} {u : Work} → Moves s tables terms numbers used r v u → r ≡ moved.Made after → Sized w u
+        → Flipping s tables terms numbers begun before w after (made + 1) (left - 1) u
+    unfolding movedOf usedIn IfMade
+    flips-more {r} {after} {u} m t z =
+        let same = subst (λ q. Moves s tables terms numbers used q v u) t m in
         record {
-          walking = m .walking t;
+          walking = same .walking .0;
           outcome = λ fs. on fs
-              ∙ flipping-moved s p (numbersOf numbers) (bitsIn tables terms v) (at used made fs) (left - 1) (look-false (i .walking) e)
-              (m .outcome made fs ∙ ap (λ b. cond b (ends (bitsIn tables terms u) (at (r .used) (made + 1) fs)) (short (at (r .used) made fs))) t);
-          uses = omega (arith, i .uses);
-          flipped = omega (arith, i .flipped);
-          within = m .within;
-          beyond = beyond-on (i .beyond) (m .beyond);
+              ∙ flipping-moved s p (numbersOf numbers) (tryIn tables terms v) (at used made fs) (left - 1) (look-false (i .walking) e) (same .outcome made fs);
+          uses = omega (arith, i .uses, same .uses);
+          flipped = omega (arith, i .flipped, same .walking .1);
+          within = same .within;
+          beyond = beyond-on (i .beyond) (same .beyond);
           sized = z;
         }
 
-    pub flips-short : not (r .made) ≡ true
-        → Tries (flipping s p (s .flips) (bitsIn tables terms w)) tables terms numbers begun before begun (tried.Short (r .used) made) w u
-    unfolding movedOf triedOf usedBy flipsBy IfReached
-    flips-short n =
-        let t = not-true (r .made) n in
-        let none : used + 0 ≤ r .used = rw t at (m .uses) in
+    -- No flip was made: the try is stuck, or the numbers are gone.
+    pub flips-stopped : (r : Moved) {u : Work} → OneOf (1 ∷ 2 ∷ []) (tagOf move-type r) → Moves s tables terms numbers used r v u
+        → Tries (flipping s p (s .flips) (tryIn tables terms w)) tables terms numbers begun before begun (stoppedAt r made) w u
+    unfolding stoppedAt movedOf usedIn IfMade triedOf usedBy flipsBy IfReached
+    flips-stopped (moved.Made after) k m = absurd (miss (1 ∷ 2 ∷ []) 0 tt k)
+    flips-stopped (moved.Stuck after) k m =
         record {
-          outcome = λ fs. on fs
-              ∙ flipping-short s p (numbersOf numbers) (bitsIn tables terms v) (at used made fs) (left - 1) (look-false (i .walking) e)
-              (m .outcome made fs ∙ ap (λ b. cond b (ends (bitsIn tables terms u) (at (r .used) (made + 1) fs)) (short (at (r .used) made fs))) t);
+          outcome = λ fs. on fs ∙ flipping-stuck s p (numbersOf numbers) (tryIn tables terms v) (at used made fs) (left - 1) (look-false (i .walking) e) (m .outcome made fs);
           finds = tt;
-          uses = omega (arith, i .uses);
+          uses = omega (arith, i .uses, m .uses);
           within = m .within;
-          flipped = omega (arith, i .flipped);
+          flipped = omega (arith, i .flipped, m .uses);
+          beyond = beyond-on (i .beyond) (m .beyond);
+        }
+    flips-stopped (moved.Short after) k m =
+        record {
+          outcome = λ fs. on fs ∙ flipping-short s p (numbersOf numbers) (tryIn tables terms v) (at used made fs) (left - 1) (look-false (i .walking) e) (m .outcome made fs);
+          finds = tt;
+          uses = omega (arith, i .uses, m .uses);
+          within = m .within;
+          flipped = omega (arith, i .flipped, m .uses);
           beyond = beyond-on (i .beyond) (m .beyond);
         }
 
-  pub flips-end : left ≤ 0 → Tries (flipping s p (s .flips) (bitsIn tables terms w)) tables terms numbers begun before begun (tried.Failed used made) w v
+  pub flips-end : left ≤ 0 → Tries (flipping s p (s .flips) (tryIn tables terms w)) tables terms numbers begun before begun (tried.Failed used made) w v
   unfolding triedOf usedBy flipsBy IfReached
   flips-end h =
       let e : left ≡ 0 = omega arith in
       record {
-        outcome = λ fs. i .outcome fs ∙ ap (λ k. run (flipping s p k (bitsIn tables terms v)) (numbersOf numbers) (at used made fs)) e
-            ∙ flipping-none s p (numbersOf numbers) (bitsIn tables terms v) (at used made fs);
+        outcome = λ fs. i .outcome fs ∙ ap (λ k. run (flipping s p k (tryIn tables terms v)) (numbersOf numbers) (at used made fs)) e
+            ∙ flipping-none s p (numbersOf numbers) (tryIn tables terms v) (at used made fs);
         finds = tt;
         uses = i .uses;
         within = i .within;
@@ -211,7 +213,7 @@ module _ {tables terms : List ℕ} (numbers : List ℕ) {used made : ℕ} {w : W
     pub started-ready : length bytes ≡ length (w .assignment) → Ready tables terms bytes
     started-ready l = record { laid = k .ready .laid; bytes = omega (arith, k .ready .bytes) }
 
-    module _ {tallies : List ℕ} (l : length bytes ≡ length (w .assignment)) (y : tallies ≡ counted tables terms bytes (w .tallies)) where
+    module _ {tallies : List ℕ} (l : length bytes ≡ length (w .assignment)) (y : tallies ≡ recounted tables terms bytes (w .tallies)) where
       abbrev begun : Work
       begun = record { assignment = bytes; tallies = tallies; marks = w .marks }
 
@@ -224,13 +226,14 @@ module _ {tables terms : List ℕ} (numbers : List ℕ) {used made : ℕ} {w : W
             marks = k .marks;
           }
 
-      pub tried-once : (s : Settings) {t : Tried} {v : Work} → Tries (flipping s q (s .flips) (bitsIn tables terms begun)) tables terms numbers after made after t begun v
+      pub tried-once : (s : Settings) {t : Tried} {v : Work} → Tries (flipping s q (s .flips) (tryIn tables terms begun)) tables terms numbers after made after t begun v
           → Tries (try s q) tables terms numbers used made (used + 1) t w v
+      unfolding beginning
       tried-once s {t} {v} g =
           let u = started-uses in
           record {
             outcome = λ fs. try-started s q (numbersOf numbers) (at used made fs) (ap (λ m. takeWords (startWords m) (numbersOf numbers) used) (sym named) ∙ drew .1)
-                ∙ ap (λ a. run (flipping s q (s .flips) a) (numbersOf numbers) (at after made fs)) (ap (λ m. startOf m (drew .0)) (sym named) ∙ sym started-bits)
+                ∙ ap (λ a. run (flipping s q (s .flips) (record { bits = a })) (numbersOf numbers) (at after made fs)) (ap (λ m. startOf m (drew .0)) (sym named) ∙ sym started-bits)
                 ∙ g .outcome fs;
             finds = if-reached t (λ f. record { bits = f .bits; satisfied = f .satisfied; uses = omega (arith, f .uses, u .0) }) (g .finds);
             uses = omega (arith, g .uses, u .0);

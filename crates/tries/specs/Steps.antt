@@ -1,23 +1,23 @@
 -- What the walk's code answers and leaves, step by step, as the walk's definitions have it.
 -- Assumes nothing.
-use Prim.Native.Nat.{ℕ, zero, suc, _+_, _/_, _≤_}
+use Prim.Native.Nat.{ℕ, _+_, _/_, _≤_}
 use mathlib.Core.Path.{_≡_}
-use mathlib.Core.Bool.{true, cond}
 use mathlib.Core.List.{List, []}
 use lib.Dec.{T}
 use lib.ListN.{length, getD, take, drop}
-use Rattle.plpb.specs.Plan.{Clause, Plan, Assignment, flip, satisfies}
+use Rattle.plpb.specs.Plan.{Assignment, satisfies}
 use Rattle.plpb.specs.Tallies.{freshCount}
-use Rattle.plpb.specs.Walk.{Walk, done, flipped, _>>=_, Outcome, ends, short, run}
-use Rattle.plpb.specs.Choice.{choice}
-use Rattle.plpb.specs.Search.{Mode, linear, lbs, Settings, Reached, failed, reached, move}
-use Rattle.plpb.proofs.Walks.{at}
+use Rattle.plpb.specs.Walk.{Walk, at, Outcome, ends, short, run}
+use Rattle.plpb.specs.Settings.{Settings}
+use Rattle.plpb.specs.Try.{Try}
+use Rattle.plpb.specs.Choice.{choosable}
+use Rattle.plpb.specs.Search.{Reached, failed, reached, Turn, stuck, turned, turning, move}
 use Rattle.format.specs.Tables.{planOfTables}
 use Rattle.tallies.specs.Layout.{tallySize, bitsOf, areBits, tallyBytes}
 use Rattle.tallies.specs.Core.{Ready}
 use Rattle.numbers.specs.Numbers.{numbersOf}
 use Rattle.tries.specs.declared.moves.Moved.{Moved}
-use Rattle.tries.specs.declared.Settings.{Settings as Asked}
+use Rattle.tries.specs.declared.moves.Moved.the-variants as moved
 use Rattle.tries.specs.declared.Tried.{Tried}
 use Rattle.tries.specs.declared.Tried.the-variants as tried
 
@@ -33,6 +33,10 @@ work assignment tallies marks = record { assignment = assignment; tallies = tall
 -- The variables of the plan that two tables hold, as an assignment gives them.
 abbrev pub bitsIn : List ℕ → List ℕ → Work → Assignment
 bitsIn tables terms w = bitsOf (planOfTables tables terms .variables) (w .assignment)
+
+-- .. and the try that holds them.
+abbrev pub tryIn : List ℕ → List ℕ → Work → Try
+tryIn tables terms w = record { bits = bitsIn tables terms w }
 
 -- There is room for them.
 pub record Startable (tables terms : List ℕ) (w : Work) : Type 0 where
@@ -53,48 +57,52 @@ pub record Beyond (n : ℕ) (w v : Work) : Type 0 where
   pub tallies : drop tallySize (v .tallies) ≡ drop tallySize (w .tallies)
   pub marks : drop n (v .marks) ≡ drop n (w .marks)
 
--- "mode other than 0 (linear) or 1 (LBS)" is refused.
-unfoldable pub modeOf : ℕ → Mode
-modeOf zero = linear
-modeOf (suc m) = lbs
+-- A move's outcome, with the try that it reaches and the flips and finds before it.
+unfoldable pub movedOf : Moved → Try → ℕ → List Assignment → Outcome Turn
+movedOf (moved.Made used) t f fs = ends (turned t) (at used (f + 1) fs)
+movedOf (moved.Stuck used) t f fs = ends stuck (at used f fs)
+movedOf (moved.Short used) t f fs = short (at used f fs)
 
--- The settings that the code is given.
-abbrev pub settingsOf : Asked → Settings
-settingsOf k = record { noise = k .noise; tries = k .tries; flips = k .flips; mode = modeOf (k .mode) }
+unfoldable pub usedIn : Moved → ℕ
+usedIn (moved.Made used) = used
+usedIn (moved.Stuck used) = used
+usedIn (moved.Short used) = used
 
--- A move's outcome, with the flips and finds before it.
-unfoldable pub movedOf : Moved → Assignment → ℕ → List Assignment → Outcome Assignment
-movedOf r b f fs = cond (r .made) (ends b (at (r .used) (f + 1) fs)) (short (at (r .used) f fs))
+-- Something holds if a flip was made.
+unfoldable pub IfMade : Moved → Type 0 → Type 0
+IfMade (moved.Made used) A = A
+IfMade (moved.Stuck used) A = Unit {0}
+IfMade (moved.Short used) A = Unit {0}
 
-pub record Moves (s : Settings) (tables terms numbers : List ℕ) (used : ℕ) (r : Moved) (w v : Work) : Type 0 where
-  pub outcome :
-      (f : ℕ) (fs : List Assignment) → run (move s (planOfTables tables terms) (bitsIn tables terms w)) (numbersOf numbers) (at used f fs)
-      ≡ movedOf r (bitsIn tables terms v) f fs
-  pub walking : r .made ≡ true → Walking tables terms v
-  pub uses : used + cond (r .made) 1 0 ≤ r .used
-  pub within : r .used ≤ length numbers / 4
+-- A walk from the try that w holds comes to this move and leaves v. It uses `least` numbers at least, if it makes a flip.
+pub record Turns (walk : Walk Turn) (tables terms numbers : List ℕ) (used least : ℕ) (r : Moved) (w v : Work) : Type 0 where
+  pub outcome : (f : ℕ) (fs : List Assignment) → run walk (numbersOf numbers) (at used f fs) ≡ movedOf r (tryIn tables terms v) f fs
+  pub walking : IfMade r (Walking tables terms v × (used + least ≤ usedIn r))
+  pub uses : used ≤ usedIn r
+  pub within : usedIn r ≤ length numbers / 4
   pub beyond : Beyond (planOfTables tables terms .variables) w v
-
--- "choose a variable of it; flip"
-unfoldable pub turning : Plan → ℕ → Assignment → Clause → Walk Assignment
-turning p noise a c = choice p noise a c >>= (λ x. flipped (done (flip a x)))
 
 -- A clause has been picked: a variable of it is chosen and flipped.
-pub record InClause (s : Settings) (tables terms numbers : List ℕ) (used c : ℕ) (r : Moved) (w v : Work) : Type 0 where
-  pub outcome :
-      (f : ℕ) (fs : List Assignment)
-      → run (turning (planOfTables tables terms) (s .noise) (bitsIn tables terms w) (getD (planOfTables tables terms .clauses) c [])) (numbersOf numbers) (at used f fs)
-      ≡ movedOf r (bitsIn tables terms v) f fs
-  pub walking : r .made ≡ true → Walking tables terms v
-  pub uses : used ≤ r .used
-  pub within : r .used ≤ length numbers / 4
-  pub beyond : Beyond (planOfTables tables terms .variables) w v
+abbrev pub InClause : Settings → List ℕ → List ℕ → List ℕ → ℕ → ℕ → Moved → Work → Work → Type 0
+InClause s tables terms numbers used c r w v =
+    let p = planOfTables tables terms in
+    Turns (turning s p (tryIn tables terms w) (choosable p (getD (p .clauses) c []))) tables terms numbers used 0 r w v
+
+abbrev pub Moves : Settings → List ℕ → List ℕ → List ℕ → ℕ → Moved → Work → Work → Type 0
+Moves s tables terms numbers used r w v =
+    Turns (move s (planOfTables tables terms) (tryIn tables terms w)) tables terms numbers used 1 r w v
 
 -- What a try or a call comes to, with the finds before it and the assignment that it leaves.
 unfoldable pub triedOf : Tried → Assignment → List Assignment → Outcome Reached
 triedOf (tried.Reached used flips) b fs = ends (reached b) (at used flips fs)
 triedOf (tried.Failed used flips) b fs = ends failed (at used flips fs)
 triedOf (tried.Short used flips) b fs = short (at used flips fs)
+
+-- How a try ends where no flip was made.
+unfoldable pub stoppedAt : Moved → ℕ → Tried
+stoppedAt (moved.Made used) flips = tried.Short used flips
+stoppedAt (moved.Stuck used) flips = tried.Failed used flips
+stoppedAt (moved.Short used) flips = tried.Short used flips
 
 unfoldable pub usedBy : Tried → ℕ
 usedBy (tried.Reached used flips) = used

@@ -1,32 +1,39 @@
 // One call of the walk (Algorithm 1): tries, each with its start and its flips.
+ghost use mathlib.Core.Path.{_≡_};
 ghost use Prim.Native.Nat.{_+_, _/_, _≤_};
 ghost use lib.ListN.{length};
 ghost use Rattle.plpb.specs.Search.{flipping, try, call as called};
 ghost use Rattle.format.specs.Tables.{planOfTables};
-ghost use Rattle.tries.specs.Steps.{Startable, Walking, Tries, bitsIn, settingsOf, work};
+ghost use Rattle.settings.specs.Settings.{settingsOf};
+ghost use Rattle.tries.specs.Steps.{Startable, Walking, Tries, tryIn, stoppedAt, work};
 
 mod moves;
 
+use crate::moves::Moved;
 use crate::moves::make_move;
 use numbers::Started;
 use numbers::start;
+use settings::Settings;
 use tallies::open::open_core;
 use words::index;
 use words::word;
-
-// What the planner sets.
-pub struct Settings {
-    pub noise: u32,
-    pub tries: u32,
-    pub flips: u32,
-    pub mode: u32,
-}
 
 // What a try or a call comes to, with how many numbers are used and flips made after it.
 pub enum Tried {
     Reached(usize, usize),
     Failed(usize, usize),
     Short(usize, usize),
+}
+
+// How a try ends where no flip was made: stuck, it fails; else too few numbers were left.
+fn stopped(m: Moved, made: usize) -> Tried
+    ensures { λ r. ⌜ r ≡ stoppedAt m made ⌝ }
+{
+    match m {
+        Moved::Made(used) => Tried::Short(used, made),
+        Moved::Stuck(used) => Tried::Failed(used, made),
+        Moved::Short(used) => Tried::Short(used, made),
+    }
 }
 
 // "for each of the allowed flips: if no clause is unsatisfied, return; .. flip"
@@ -45,7 +52,7 @@ fn make_flips(
         × (before ≤ begun) ⌝ }
     ensures { λ r. ⌜ Tries
         (flipping (settingsOf s) (planOfTables (now (tables .entry)) (now (terms .entry))) (s .flips)
-        (bitsIn (now (tables .entry)) (now (terms .entry)) (work (now (assignment .entry)) (now (tallies .entry)) (now (marks .entry)))))
+        (tryIn (now (tables .entry)) (now (terms .entry)) (work (now (assignment .entry)) (now (tallies .entry)) (now (marks .entry)))))
         (now (tables .entry)) (now (terms .entry)) (now (numbers .entry)) begun before begun r
         (work (now (assignment .entry)) (now (tallies .entry)) (now (marks .entry)))
         (work (now (assignment .exit)) (now (tallies .exit)) (now (marks .exit))) ⌝ }
@@ -58,10 +65,10 @@ fn make_flips(
             return Tried::Reached(used, made);
         }
         let m = make_move(tables, terms, numbers, used, s, assignment, tallies, marks);
-        used = m.used;
-        if !m.made {
-            return Tried::Short(used, made);
-        }
+        let Moved::Made(after) = m else {
+            return stopped(m, made);
+        };
+        used = after;
         made += 1;
         left -= 1;
     }

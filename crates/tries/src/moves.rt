@@ -1,24 +1,25 @@
 // One step of the walk (Algorithm 1, lines 5 to 7): an unsatisfied clause is picked, a variable of it chosen and flipped.
-ghost use mathlib.Core.Bool.{true};
 ghost use Prim.Native.Nat.{_/_, _≤_, _<_};
 ghost use lib.ListN.{length};
-ghost use Rattle.plpb.specs.Tallies.{unsatisfied};
 ghost use Rattle.words.specs.Words.{wordAt};
-ghost use Rattle.tries.specs.Steps.{Walking, Moves, InClause, settingsOf, work};
 ghost use Rattle.format.specs.Layout.{unsatisfiedAt};
-use crate::Settings;
+ghost use Rattle.settings.specs.Settings.{settingsOf};
+ghost use Rattle.tries.specs.Steps.{Walking, Moves, InClause, work};
 use choice::choose::Chosen;
 use choice::choose::choose;
+use choice::marks::mark_choosable;
 use numbers::Picked;
 use numbers::nth_zero;
 use numbers::pick;
+use settings::Settings;
 use tallies::flip::flip_core;
 use words::index;
 
-// Whether a flip was made, or too few numbers were left for one, and how many are used after it.
-pub struct Moved {
-    pub made: bool,
-    pub used: usize,
+// A flip was made, or the clause has no variable to choose, or too few numbers were left; and how many are used after it.
+pub enum Moved {
+    Made(usize),
+    Stuck(usize),
+    Short(usize),
 }
 
 // "choose a variable of it; flip"
@@ -39,19 +40,17 @@ fn flip_in(
         (work (now (assignment .entry)) (now (tallies .entry)) (now (marks .entry)))
         (work (now (assignment .exit)) (now (tallies .exit)) (now (marks .exit))) ⌝ }
 {
-    let v = choose(tables, terms, assignment, numbers, used, s.noise, c, marks);
+    let some = mark_choosable(tables, terms, c, marks);
+    if some == 0 {
+        return Moved::Stuck(used);
+    }
+    let v = choose(tables, terms, assignment, numbers, used, s, marks);
     match v {
         Chosen::At(x, after) => {
             flip_core(tables, terms, assignment, tallies, x);
-            Moved {
-                made: true,
-                used: after,
-            }
+            Moved::Made(after)
         }
-        Chosen::Short(after) => Moved {
-            made: false,
-            used: after,
-        },
+        Chosen::Short(after) => Moved::Short(after),
     }
 }
 
@@ -89,9 +88,6 @@ pub fn make_move(
                 marks,
             )
         }
-        Picked::Short(after) => Moved {
-            made: false,
-            used: after,
-        },
+        Picked::Short(after) => Moved::Short(after),
     }
 }

@@ -1,3 +1,2 @@
--- The laws behind the search, in reading order.
-pub mod Refusing
+-- The laws behind the search of tables that are known to fit.
 pub mod Whole

@@ -7,21 +7,19 @@ use mathlib.Core.Bool.{true, false}
 use mathlib.Core.List.{List, [], _∷_, _++_}
 use lib.Dec.{T}
 use lib.IntN.{ℤ, natAbs}
-use lib.ListN.{length, take, drop, length-append, replicate}
-use lib.Seq.{length-take-le, drop-at, drop-drop}
+use lib.ListN.{length, take, drop, length-append}
+use lib.Seq.{length-take-le, drop-at}
 use lib.Signed.{leZ}
 use mir.Facts.{toZ-ofZ}
 use mir.Syntax.{w64}
 use mir.Val.{toZ, ofZ, SFits}
-use Rattle.plpb.specs.Lists.{_and_, _or_, all, isEmpty}
+use Rattle.plpb.specs.Lists.{_and_, _or_, isEmpty}
 use Rattle.plpb.specs.Plan.{Plan, Assignment, satisfies, cost, floorCost}
 use Rattle.plpb.specs.Walk.{Mark, ends, short, run}
-use Rattle.plpb.specs.Search.{Mode, linear, lbs, Settings, Reached, failed, reached, call, tightened, Ending, floor, ended, none, short-found, short-none, atFloor, gap, tighten, searchWalk, lastFind, costOf, answerOf as answered, conclude, begin, search}
-use Rattle.plpb.specs.Sound.{findsOf, noPlan}
-use Rattle.plpb.proofs.Lists.{and-left}
-use Rattle.plpb.proofs.Walks.{at}
+use Rattle.plpb.specs.Settings.{Mode, linear, lbs, Settings}
+use Rattle.plpb.specs.Search.{Reached, failed, reached, call, tightened, floor, none, atFloor, gap, linearSearch, lbsSearch, tighten, searchWalk, lastFind, costOf, answerOf as answered, conclude, begin, search}
+use Rattle.plpb.specs.Walk.{at}
 use Rattle.plpb.proofs.Costs.{floor-below}
-use Rattle.plpb.proofs.Soundness.{search-sound}
 use Rattle.words.specs.Words.{wordBytes, wordAt}
 use Rattle.words.proofs.Words.{length-wordBytes}
 use Rattle.format.specs.Limits.{lawful, roomy}
@@ -31,26 +29,24 @@ use Rattle.format.proofs.Lawful.{plan-parts, roomy-parts, lawful-roomy}
 use Rattle.format.proofs.IsLoaded.{isLoaded-lawful, isLoaded-holds}
 use Rattle.format.proofs.ReadBack.{read-back}
 use Rattle.format.proofs.Sections.{length-tableWords, length-termWords}
-use Rattle.objective.specs.Sums.{Summable, costIn, floorIn, bits}
+use Rattle.objective.specs.Sums.{Summable, costIn, floorIn}
 use Rattle.objective.proofs.Costs.{summable, variables-in, cost-in, floor-in, some-objective}
 use Rattle.objective.proofs.TightenedTables.{copied-hold, roomy-tightened, bound-holds}
-use Rattle.tallies.specs.Layout.{assignmentSize, tallySize, bitsOf, bitBytes, areBits}
+use Rattle.tallies.specs.Layout.{bitsOf, bitBytes, areBits}
 use Rattle.tallies.specs.Core.{Laid}
 use Rattle.tallies.proofs.Bits.{whole-bytes}
 use Rattle.tallies.proofs.Callers.{held-laid}
 use Rattle.numbers.specs.Numbers.{numbersOf}
-use Rattle.numbers.proofs.Runs.{linear-none, linear-floor, lbs-none, lbs-floor, tighten-linear, tighten-lbs, search-none, search-found, search-short}
+use Rattle.numbers.proofs.Runs.{descending-none, descending-floor, search-none, search-found, search-short}
 use Rattle.tries.specs.declared.Tried.{Tried}
 use Rattle.tries.specs.declared.Tried.the-variants as tried
-use Rattle.tighten.specs.declared.Stand.{Stand}
+use Rattle.tighten.specs.declared.Progress.{Progress}
 use Rattle.tighten.specs.declared.Ending.the-variants as code
 use Rattle.tighten.specs.declared.Searched.{Searched}
-use Rattle.tries.specs.Steps.{modeOf, Work, Startable, Beyond, triedOf, usedBy, flipsBy, IfReached, Tries}
-use Rattle.walk.specs.Calls.{Asked, Lent, markSize, searchRefusal, settings, answer, withFind, searchAssignment, cleared, endingNumber, unless, Searches, hasPlan, HandsOut}
-use Rattle.tighten.specs.Bounds.{basis, Bounded, Stands, Room, Leaves, answerOf, endingOf, Concludes}
-use Rattle.walk.specs.Whole.{Empty, Roomy, FirstFind, FromFind, Searchable, Whole}
+use Rattle.tries.specs.Steps.{Work, Startable, Beyond, triedOf, usedBy, flipsBy, IfReached, Tries}
+use Rattle.tighten.specs.Bounds.{basis, Bounded, Tracks, Room, Leaves, answerOf, endingOf, Concludes}
+use Rattle.walk.specs.Whole.{withFind, Empty, Roomy, FirstFind, FromFind, Searchable, Whole}
 use Rattle.tighten.proofs.Bounds.{bounded-basis, front-bits, front-areBits, front-beyond}
-use Rattle.walk.proofs.Refusing.{accepted}
 
 -- ---- a find copied out
 
@@ -73,10 +69,11 @@ find-bytes n entry exit t e = whole-bytes n exit t ∙ ap (λ d. bitBytes (bitsO
 
 module _ (s : Settings) (p : Plan) (ns : List ℕ) (a : Assignment) (m : Mark) (e : atFloor p a ≡ true) where
   floor-ends : (mode : Mode) (left : ℕ) → run (tighten mode s p left a) ns m ≡ ends floor m
-  floor-ends linear zero = tighten-linear s p ns a m 0 ∙ linear-none s p ns a m
-  floor-ends linear (suc left) = tighten-linear s p ns a m (suc left) ∙ linear-floor s p ns a m left e
-  floor-ends lbs zero = tighten-lbs s p ns a m 0 ∙ lbs-none s p ns a m
-  floor-ends lbs (suc left) = tighten-lbs s p ns a m (suc left) ∙ lbs-floor s p ns a m left e
+  unfolding tighten linearSearch lbsSearch
+  floor-ends linear zero = descending-none s p linear _ ns a m
+  floor-ends linear (suc left) = descending-floor s p linear _ ns a m left e
+  floor-ends lbs zero = descending-none s p lbs _ ns a m
+  floor-ends lbs (suc left) = descending-floor s p lbs _ ns a m left e
 
 first-answer : (p : Plan) (a : Assignment) (used flips : ℕ) (v : ℤ) → v ≡ cost p a
     → conclude p (ends floor (at used flips (a ∷ [])))
@@ -109,16 +106,15 @@ module _ {tables terms numbers : List ℕ} {used flips : ℕ} {assignment : List
   find-keepable = (find-summable, omega (arith, few, count, h .work .assignment), omega (arith, few, count, h .room))
 
   module _ {v least : ℤ} {kept : List ℕ}
-      (k : (v ≡ costIn tables (bits (wordAt tables 0) (w .assignment))) × (kept ≡ take (wordAt tables 0) (w .assignment) ++ drop (wordAt tables 0) assignment))
+      (k : (v ≡ costIn tables (bitsOf (wordAt tables 0) (w .assignment))) × (kept ≡ take (wordAt tables 0) (w .assignment) ++ drop (wordAt tables 0) assignment))
       (f : least ≡ floorIn tables) (vf : SFits w64 v) (lf : SFits w64 least)
     where
       bytes : here .variables ≤ length (w .assignment)
       bytes = omega (arith, few, h .work .assignment)
 
       costs : toZ w64 (ofZ w64 v) ≡ cost here find
-      unfolding bitsOf
       costs =
-          toZ-ofZ vf ∙ k .0 ∙ cost-in here tables terms room (h .holds) _ ∙ ap (λ n. cost here (bits n (w .assignment))) count
+          toZ-ofZ vf ∙ k .0 ∙ cost-in here tables terms room (h .holds) _ ∙ ap (λ n. cost here (bitsOf n (w .assignment))) count
 
       floored : toZ w64 (ofZ w64 least) ≡ floorCost here
       floored = toZ-ofZ lf ∙ f ∙ floor-in here tables terms room (h .holds)
@@ -135,13 +131,13 @@ module _ {tables terms numbers : List ℕ} {used flips : ℕ} {assignment : List
       kept-beyond : drop (here .variables) kept ≡ drop (here .variables) assignment
       kept-beyond = copied-beyond (here .variables) (w .assignment) assignment bytes copied
 
-      abbrev stand : Stand
-      stand = record { cost = toZ w64 (ofZ w64 v); finds = 1; flips = flips; used = used }
+      abbrev progress : Progress
+      progress = record { cost = toZ w64 (ofZ w64 v); finds = 1; flips = flips; used = used }
 
       -- "A found assignment of cost v with v = l(O) ends the search."
       pub from-floor : (s : Settings) → leZ (toZ w64 (ofZ w64 v)) (toZ w64 (ofZ w64 least)) ≡ true
           → FromFind s tables terms numbers used flips
-          (record { ending = code.Floor; stand = record { cost = toZ w64 (ofZ w64 v); finds = 1; flips = flips; used = used } })
+          (record { ending = code.Floor; progress = record { cost = toZ w64 (ofZ w64 v); finds = 1; flips = flips; used = used } })
           assignment kept w w
       unfolding atFloor _and_
       from-floor s t =
@@ -151,7 +147,7 @@ module _ {tables terms numbers : List ℕ} {used flips : ℕ} {assignment : List
             answers =
                 ap (conclude here) (floor-ends s here (numbersOf numbers) find (at used flips (find ∷ [])) ground (s .mode) (gap here find))
                 ∙ first-answer here find used flips _ costs
-                ∙ ap (λ b. answerOf code.Floor stand (reached b)) (sym kept-bits);
+                ∙ ap (λ b. answerOf code.Floor progress (reached b)) (sym kept-bits);
             find = find-bytes (here .variables) assignment kept kept-areBits kept-beyond;
             beyond = record { assignment = refl; tallies = refl; marks = refl };
           }
@@ -188,10 +184,10 @@ module _ {tables terms numbers : List ℕ} {used flips : ℕ} {assignment : List
 
           pub tighten-ready :
               Room (basis tables′ terms′) tables′ terms′ kept w
-              × Stands (basis tables′ terms′) numbers kept (record { cost = toZ w64 (ofZ w64 v); finds = 1; flips = flips; used = used })
+              × Tracks (basis tables′ terms′) numbers kept (record { cost = toZ w64 (ofZ w64 v); finds = 1; flips = flips; used = used })
               × (toZ w64 (ofZ w64 least) ≡ floorCost (basis tables′ terms′))
           tighten-ready =
-              subst (λ q. Room q tables′ terms′ kept w × Stands q numbers kept stand × (toZ w64 (ofZ w64 least) ≡ floorCost q)) (sym same) (
+              subst (λ q. Room q tables′ terms′ kept w × Tracks q numbers kept progress × (toZ w64 (ofZ w64 least) ≡ floorCost q)) (sym same) (
                 record {
                   bounded = bounded;
                   find = long;
@@ -225,15 +221,15 @@ module _ {tables terms numbers : List ℕ} {used flips : ℕ} {assignment : List
 
           pub from-tightened : (s : Settings) {r : Searched} {out exit : List ℕ} {u : Work}
               → Concludes (tighten (s .mode) s) (basis tables′ terms′) numbers (record { cost = toZ w64 (ofZ w64 v); finds = 1; flips = flips; used = used })
-              (bitsOf ((basis tables′ terms′) .variables) kept) (answerOf (r .ending) (r .stand) (reached (bitsOf ((basis tables′ terms′) .variables) exit)))
-              × Stands (basis tables′ terms′) numbers exit (r .stand)
+              (bitsOf ((basis tables′ terms′) .variables) kept) (answerOf (r .ending) (r .progress) (reached (bitsOf ((basis tables′ terms′) .variables) exit)))
+              × Tracks (basis tables′ terms′) numbers exit (r .progress)
               × Leaves (basis tables′ terms′) tables′ terms′ out kept exit w u
               → FromFind s tables terms numbers used flips r assignment exit w u
               × (drop tableSize out ≡ drop tableSize tables)
               × (drop termSize terms′ ≡ drop termSize terms)
           from-tightened s {r} {out} {exit} {u} k =
-              let c = subst (λ q. Concludes (tighten (s .mode) s) q numbers stand (bitsOf (q .variables) kept) (answerOf (r .ending) (r .stand) (reached (bitsOf (q .variables) exit)))) same (k .0) in
-              let b = subst (λ q. Stands q numbers exit (r .stand)) same (k .1) in
+              let c = subst (λ q. Concludes (tighten (s .mode) s) q numbers progress (bitsOf (q .variables) kept) (answerOf (r .ending) (r .progress) (reached (bitsOf (q .variables) exit)))) same (k .0) in
+              let b = subst (λ q. Tracks q numbers exit (r .progress)) same (k .1) in
               let l = subst (λ q. Leaves q tables′ terms′ out kept exit w u) same (k .2) in (
                 record {
                   answers =
@@ -257,7 +253,7 @@ nowhere a e = let z : _≡_ {A = ℕ} 0 1 = cc in omega arith
 -- What a search answers where it found nothing.
 module _ (s : Settings) (p : Plan) (numbers : List ℕ) (r : Searched) where
   none-answer : {used flips : ℕ} → run (searchWalk s p) (numbersOf numbers) begin ≡ ends none (at used flips []) → Empty code.None used flips r
-      → search s p (numbersOf numbers) ≡ answerOf (r .ending) (r .stand) failed
+      → search s p (numbersOf numbers) ≡ answerOf (r .ending) (r .progress) failed
   unfolding search conclude answered lastFind costOf answerOf endingOf
   none-answer e k =
       ap (conclude p) e
@@ -271,7 +267,7 @@ module _ (s : Settings) (p : Plan) (numbers : List ℕ) (r : Searched) where
       })
 
   short-answer : {used flips : ℕ} → run (searchWalk s p) (numbersOf numbers) begin ≡ short (at used flips []) → Empty code.ShortNone used flips r
-      → search s p (numbersOf numbers) ≡ answerOf (r .ending) (r .stand) failed
+      → search s p (numbersOf numbers) ≡ answerOf (r .ending) (r .progress) failed
   unfolding search conclude answered lastFind costOf answerOf endingOf isEmpty
   short-answer e k =
       ap (conclude p) e
@@ -285,25 +281,25 @@ module _ (s : Settings) (p : Plan) (numbers : List ℕ) (r : Searched) where
       })
 
   -- .. and what it leaves.
-  empty-whole : {entry : List ℕ} {w v : Work} → search s p (numbersOf numbers) ≡ answerOf (r .ending) (r .stand) failed → Beyond (p .variables) w v
+  empty-whole : {entry : List ℕ} {w v : Work} → search s p (numbersOf numbers) ≡ answerOf (r .ending) (r .progress) failed → Beyond (p .variables) w v
       → Whole s p numbers r entry entry w v
   unfolding answerOf withFind
   empty-whole {entry} {w} {v} e b =
       let f : search s p (numbersOf numbers) .assignment ≡ failed = ap (λ x. x .assignment) e in
       record {
-        answers = e ∙ ap (answerOf (r .ending) (r .stand)) (sym f);
+        answers = e ∙ ap (answerOf (r .ending) (r .progress)) (sym f);
         last = λ a g. absurd (nowhere a (sym f ∙ g));
         find = rw f refl;
         beyond = b;
       }
 
-  found-whole : {entry exit : List ℕ} {w v : Work} → search s p (numbersOf numbers) ≡ answerOf (r .ending) (r .stand) (reached (bitsOf (p .variables) exit))
+  found-whole : {entry exit : List ℕ} {w v : Work} → search s p (numbersOf numbers) ≡ answerOf (r .ending) (r .progress) (reached (bitsOf (p .variables) exit))
       → exit ≡ withFind (reached (bitsOf (p .variables) exit)) (p .variables) entry → Beyond (p .variables) w v → Whole s p numbers r entry exit w v
   unfolding answerOf unreached
   found-whole {entry} {exit} {w} {v} e x b =
       let f : search s p (numbersOf numbers) .assignment ≡ reached (bitsOf (p .variables) exit) = ap (λ y. y .assignment) e in
       record {
-        answers = e ∙ ap (answerOf (r .ending) (r .stand)) (sym f);
+        answers = e ∙ ap (answerOf (r .ending) (r .progress)) (sym f);
         last = λ a g. ap (unreached a) (sym f ∙ g);
         find = rw f x;
         beyond = b;
@@ -377,7 +373,7 @@ module _ {plan planTerms assignment tables terms : List ℕ} {w : Work} (h : Sea
       unfolding triedOf search begin
       core-found {used} {flips} {r} {exit} {u} e z =
           let k = made-as (tried.Reached used flips) e in
-          let found : search s copy (numbersOf numbers) ≡ answerOf (r .ending) (r .stand) (reached (bitsOf (copy .variables) exit)) =
+          let found : search s copy (numbersOf numbers) ≡ answerOf (r .ending) (r .progress) (reached (bitsOf (copy .variables) exit)) =
           ap (conclude copy) (search-found s copy (numbersOf numbers) begin (k .outcome [])) ∙ z .answers in
           subst (λ p. Whole s p numbers r assignment exit w u) back (found-whole s copy numbers r found (z .find) (beyond-both (k .beyond) (z .beyond)))
 
@@ -396,94 +392,3 @@ module _ {plan planTerms assignment tables terms : List ℕ} {w : Work} (h : Sea
           let k = made-as (tried.Short used flips) e in
           subst (λ p. Whole s p numbers r assignment assignment w v) back
           (empty-whole s copy numbers r (short-answer s copy numbers r (search-short s copy (numbersOf numbers) begin (k .outcome [])) z) (k .beyond))
-
--- ---- what is handed out
-
-plan-told : (e : Ending) → T (hasPlan (endingNumber e)) → noPlan e ≡ false
-unfolding hasPlan endingNumber noPlan _or_
-plan-told floor t = refl
-plan-told ended t = refl
-plan-told none t = absurd t
-plan-told short-found t = refl
-plan-told short-none t = absurd t
-
-last-satisfies : (p : Plan) (fs : List Assignment) → isEmpty fs ≡ false → T (all (λ a. satisfies a p) fs)
-    → (a : Assignment) × (lastFind fs ≡ reached a) × T (satisfies a p)
-unfolding isEmpty all lastFind
-last-satisfies p [] e t = absurd (let z : _≡_ {A = ℕ} 0 1 = cc in omega arith)
-last-satisfies p (a ∷ fs) e t = (a, refl, and-left _ _ t)
-
--- "A plan handed out satisfies every clause", and the cost is its cost.
-pub handed-out : {s : Settings} {p : Plan} {numbers : List ℕ} {r : Searched} {entry exit : List ℕ} {w v : Work} → Whole s p numbers r entry exit w v
-    → T (hasPlan (endingNumber (endingOf (r .ending))))
-    → T (satisfies (bitsOf (p .variables) exit) p) × (r .stand .cost ≡ cost p (bitsOf (p .variables) exit))
-unfolding answerOf costOf
-handed-out {s} {p} {numbers} {r} {entry} {exit} {w} {v} h t =
-    let ns = numbersOf numbers in
-    let o = search-sound s p ns in
-    let same : search s p ns .ending ≡ endingOf (r .ending) = ap (λ x. x .ending) (h .answers) in
-    let some : isEmpty (findsOf s p ns) ≡ false = sym (o .none-found) ∙ ap noPlan same ∙ plan-told _ t in
-    let l = last-satisfies p (findsOf s p ns) some (o .each-satisfies) in
-    let is : search s p ns .assignment ≡ reached (l .0) = o .handed-out ∙ l .1 in
-    let bits = h .last (l .0) is in (
-      subst (λ a. T (satisfies a p)) (sym bits) (l .2),
-      sym (ap (λ x. x .cost) (h .answers)) ∙ o .cost-stated ∙ ap (costOf p) is ∙ ap (cost p) (sym bits),
-    )
-
--- ---- what a search answers and leaves
-
-drop-more : {n m : ℕ} (s t : List ℕ) → n ≤ m → drop n s ≡ drop n t → drop m s ≡ drop m t
-drop-more {n} {m} s t h e =
-    let k : n + (m - n) ≡ m = omega arith in
-    ap (λ i. drop i s) (sym k) ∙ sym (drop-drop (m - n) n s) ∙ ap (drop (m - n)) e ∙ drop-drop (m - n) n t ∙ ap (λ i. drop i t) k
-
-module _ (l : Lent) (k : Asked) (z : searchRefusal l k ≡ 0) {r : Searched} {exit : List ℕ} {v : Work}
-    (h : Whole (record { noise = k .noise; tries = k .tries; flips = k .flips; mode = modeOf (k .mode) }) (planOfTables (l .tables) (l .terms)) (l .numbers) r (l .assignment) exit
-    (record { assignment = l .workAssignment; tallies = l .workTallies; marks = l .workMarks }) v)
-    {n : ℕ} (e : n ≡ endingNumber (endingOf (r .ending))) (f : SFits w64 (r .stand .cost))
-  where
-    few-here : planOfTables (l .tables) (l .terms) .variables ≤ 512
-    few-here = plan-parts _ (isLoaded-lawful (l .tables) (l .terms) (accepted l k z .loaded)) .high
-
-    is : answer l k ≡ answerOf (r .ending) (r .stand) (answer l k .assignment)
-    unfolding answer settings
-    is = h .answers
-
-    pub searched : {a b c d m : List ℕ}
-        → a ≡ replicate tableSize 0 ++ drop tableSize (l .workTables)
-        → b ≡ replicate termSize 0 ++ drop termSize (l .workTerms)
-        → c ≡ replicate assignmentSize 0 ++ drop assignmentSize (v .assignment)
-        → d ≡ replicate tallySize 0 ++ drop tallySize (v .tallies)
-        → m ≡ replicate markSize 0 ++ drop markSize (v .marks)
-        → Searches l k (record { refusal = 0; ending = n; cost = toZ w64 (ofZ w64 (r .stand .cost)); finds = r .stand .finds; flips = r .stand .flips; used = r .stand .used })
-        (record {
-          tables = l .tables;
-          terms = l .terms;
-          numbers = l .numbers;
-          assignment = exit;
-          workTables = a;
-          workTerms = b;
-          workAssignment = c;
-          workTallies = d;
-          workMarks = m;
-        })
-    unfolding unless searchAssignment cleared answerOf
-    searched ea eb ec ed em =
-        record {
-          refusal = sym z;
-          ending = rw z (e ∙ ap (λ x. endingNumber (x .ending)) (sym is));
-          cost = rw z (toZ-ofZ f ∙ ap (λ x. x .cost) (sym is));
-          finds = rw z (ap (λ x. x .finds) (sym is));
-          flips = rw z (ap (λ x. x .flips) (sym is));
-          used = rw z (ap (λ x. x .used) (sym is));
-          assignment = rw z (unfold answer settings in h .find);
-          workTables = rw z ea;
-          workTerms = rw z eb;
-          workAssignment = rw z (ec ∙ ap (λ s. replicate assignmentSize 0 ++ s) (drop-more (v .assignment) (l .workAssignment) few-here (h .beyond .assignment)));
-          workTallies = rw z (ed ∙ ap (λ s. replicate tallySize 0 ++ s) (h .beyond .tallies));
-          workMarks = rw z (em ∙ ap (λ s. replicate markSize 0 ++ s) (drop-more (v .marks) (l .workMarks) few-here (h .beyond .marks)));
-        }
-
-    pub hands : HandsOut l (record { refusal = 0; ending = n; cost = toZ w64 (ofZ w64 (r .stand .cost)); finds = r .stand .finds; flips = r .stand .flips; used = r .stand .used }) exit
-    unfolding HandsOut
-    hands t = let o = handed-out h (subst (λ x. T (hasPlan x)) e t) in (o .0, toZ-ofZ f ∙ o .1)

@@ -1,3 +1,2 @@
--- What a search answers and leaves, for every lent byte; and what its parts do.
-pub mod Calls
+-- What the search of tables that are known to fit answers and leaves.
 pub mod Whole

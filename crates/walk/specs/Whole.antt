@@ -2,42 +2,39 @@
 -- Assumes nothing.
 use Prim.Native.Nat.{ℕ, _/_, _≤_}
 use mathlib.Core.Path.{_≡_}
-use mathlib.Core.Bool.{Bool}
-use mathlib.Core.List.{List, [], _∷_}
-use lib.Dec.{T, ltb}
+use mathlib.Core.List.{List, [], _∷_, _++_}
+use lib.Dec.{T}
 use lib.IntN.{pos}
-use lib.ListN.{length}
+use lib.ListN.{length, drop}
 use Rattle.plpb.specs.Lists.{_or_}
 use Rattle.plpb.specs.Plan.{Plan, Assignment}
 use Rattle.plpb.specs.Walk.{run}
-use Rattle.plpb.specs.Search.{Settings, reached, gap, tighten, conclude, search}
-use Rattle.plpb.proofs.Walks.{at}
+use Rattle.plpb.specs.Settings.{Settings}
+use Rattle.plpb.specs.Search.{Reached, failed, reached, gap, tighten, conclude, search}
+use Rattle.plpb.specs.Walk.{at}
 use Rattle.format.specs.Limits.{lawful}
 use Rattle.format.specs.Tables.{Holds, planOfTables, tableSize, termSize, isLoaded}
 use Rattle.tallies.specs.Layout.{assignmentSize, tallySize, bitsOf, areBits}
 use Rattle.numbers.specs.Numbers.{numbersOf}
 use Rattle.tighten.specs.declared.Ending.{Ending as EndingOf}
 use Rattle.tighten.specs.declared.Searched.{Searched}
-use Rattle.walk.specs.Calls.{markSize, withFind}
+use Rattle.format.specs.Layout.{markSize}
+use Rattle.format.specs.Assignment.{bitBytes}
 use Rattle.tries.specs.Steps.{Work, Beyond, bitsIn}
 use Rattle.tighten.specs.Bounds.{answerOf}
 
--- Whether three tables have less room than the full limits need, and whether the work tables do.
-unfoldable pub tablesSmall : List ℕ → List ℕ → List ℕ → Bool
-tablesSmall tables terms assignment =
-    ltb (length tables) tableSize or ltb (length terms) termSize or ltb (length assignment) assignmentSize
-
-unfoldable pub workSmall : List ℕ → List ℕ → Work → Bool
-workSmall tables terms w =
-    tablesSmall tables terms (w .assignment) or ltb (length (w .tallies)) tallySize or ltb (length (w .marks)) markSize
+-- "With a find, the first n assignment bytes hold the last one found; otherwise they are unchanged, as are all beyond n always."
+unfoldable pub withFind : Reached → ℕ → List ℕ → List ℕ
+withFind failed n bytes = bytes
+withFind (reached a) n bytes = bitBytes a ++ drop n bytes
 
 -- Nothing was found.
 pub record Empty (e : EndingOf) (used flips : ℕ) (r : Searched) : Type 0 where
   pub ending : r .ending ≡ e
-  pub cost : r .stand .cost ≡ pos 0
-  pub finds : r .stand .finds ≡ 0
-  pub flips-made : r .stand .flips ≡ flips
-  pub numbers-used : r .stand .used ≡ used
+  pub cost : r .progress .cost ≡ pos 0
+  pub finds : r .progress .finds ≡ 0
+  pub flips-made : r .progress .flips ≡ flips
+  pub numbers-used : r .progress .used ≡ used
 
 -- The walk's buffers have room for any plan.
 pub record Roomy (w : Work) : Type 0 where
@@ -62,7 +59,7 @@ pub record FromFind (s : Settings) (tables terms numbers : List ℕ) (used flips
       conclude (planOfTables tables terms)
       (run (tighten (s .mode) s (planOfTables tables terms) (gap (planOfTables tables terms) (bitsIn tables terms w)) (bitsIn tables terms w))
       (numbersOf numbers) (at used flips (bitsIn tables terms w ∷ [])))
-      ≡ answerOf (r .ending) (r .stand) (reached (bitsOf (planOfTables tables terms .variables) exit))
+      ≡ answerOf (r .ending) (r .progress) (reached (bitsOf (planOfTables tables terms .variables) exit))
   pub find : exit ≡ withFind (reached (bitsOf (planOfTables tables terms .variables) exit)) (planOfTables tables terms .variables) entry
   pub beyond : Beyond (planOfTables tables terms .variables) w v
 
@@ -78,7 +75,7 @@ pub record Searchable (tables terms assignment workTables workTerms : List ℕ) 
 
 -- The search of a plan, whole: the assignment is the last find, if there is one.
 pub record Whole (s : Settings) (p : Plan) (numbers : List ℕ) (r : Searched) (entry exit : List ℕ) (w v : Work) : Type 0 where
-  pub answers : search s p (numbersOf numbers) ≡ answerOf (r .ending) (r .stand) (search s p (numbersOf numbers) .assignment)
+  pub answers : search s p (numbersOf numbers) ≡ answerOf (r .ending) (r .progress) (search s p (numbersOf numbers) .assignment)
   pub last : (a : Assignment) → search s p (numbersOf numbers) .assignment ≡ reached a → bitsOf (p .variables) exit ≡ a
   pub find : exit ≡ withFind (search s p (numbersOf numbers) .assignment) (p .variables) entry
   pub beyond : Beyond (p .variables) w v

@@ -2,3 +2,4 @@
 pub mod Words
 pub mod Signs
 pub mod Writes
+pub mod Tests

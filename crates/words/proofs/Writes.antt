@@ -6,11 +6,11 @@ use native.Mathlib.Nat.{le-of-eq, le-refl}
 use native.Mathlib.Numerals.{add-one, add-two, add-three}
 use mathlib.Core.Path.{_≡_, refl, sym, ap, ap₂, _∙_}
 use mathlib.Core.List.{List, [], _∷_, _++_, append-assoc, append-nil}
-use lib.ListN.{length, take, drop, getD, set, replicate, length-append, length-drop, length-replicate}
-use lib.Seq.{sets, sets-eq, drop-at, drop-drop, length-take-le, drop-append-seam, take-append-seam, drop-length, take-all}
+use lib.ListN.{length, take, drop, getD, set, replicate, length-append, length-drop, length-replicate, take-append-drop}
+use lib.Seq.{take-length, set-at, append-snoc, take-suc, drop-cons, sets, sets-eq, drop-at, drop-drop, length-take-le, drop-append-seam, take-append-seam, drop-length, take-all}
 use borrow.Rule.Slice.PartMut.{midOf, postOf, putMid, post-is, mid-len, same-len-mid}
 use Rattle.words.specs.Words.{numAt, bytesOf, wordBytes}
-use Rattle.words.specs.Writes.{front, put}
+use Rattle.words.specs.Writes.{front, put, putWords}
 use Rattle.words.proofs.Words.{numAt-append, numAt-inside, numAt-bytesOf, numAt-take, numAt-drop, length-wordBytes}
 
 -- What two and four bytes read join to.
@@ -155,25 +155,6 @@ read-behind k at i bs s h l =
     ∙ behind-front k (take at s ++ bs) s (i - n)
     ∙ ap (λ (m : ℕ). numAt k s m) j
 
-wordBytes-snoc : (ws : List ℕ) (v : ℕ) → wordBytes (ws ++ (v ∷ [])) ≡ wordBytes ws ++ bytesOf 4 v
-unfolding wordBytes
-wordBytes-snoc ws v = wordBytes-append ws (v ∷ []) ∙ ap (λ (x : List ℕ). wordBytes ws ++ x) (append-nil (bytesOf 4 v))
-
--- Words written one behind the other fill a table from its front.
-pub write-next :
-    (o : List ℕ) {s t : List ℕ} (ws : List ℕ) (v at : ℕ) → s ≡ front (wordBytes ws) o → at ≡ 4 * length ws → t ≡ put at (bytesOf 4 v) s
-    → t ≡ front (wordBytes (ws ++ (v ∷ []))) o
-write-next o ws v at p q r =
-    let n : at ≡ length (wordBytes ws) = q ∙ sym (length-wordBytes ws) in
-    r
-    ∙ ap₂ (λ (k : ℕ) (x : List ℕ). put k (bytesOf 4 v) x) n p
-    ∙ front-put (wordBytes ws) (bytesOf 4 v) o
-    ∙ ap (λ (x : List ℕ). front x o) (sym (wordBytes-snoc ws v))
-
-pub write-first : (s : List ℕ) {t : List ℕ} (v : ℕ) → t ≡ put 0 (bytesOf 4 v) s → t ≡ front (wordBytes (v ∷ [])) s
-unfolding wordBytes
-write-first s v r = write-next s [] v 0 (sym (front-none s)) refl r
-
 -- A word written over one of a table's words.
 pub put-word : (ws : List ℕ) (i v : ℕ) → i < length ws → put (4 * i) (bytesOf 4 v) (wordBytes ws) ≡ wordBytes (set ws i v)
 unfolding front put wordBytes bytesOf
@@ -224,3 +205,51 @@ lent-long at t = mid-len at (length t) t (le-refl (length t))
 pub clear-same :
     (at : ℕ) (t ys : List ℕ) → ys ≡ replicate (length (midOf at (length t - at) t)) 0 → length (putMid at (length t - at) t ys) ≡ length t
 clear-same at t ys e = same-len-mid at (length t - at) t ys (ap length e ∙ length-replicate {A = ℕ} _ 0)
+
+-- ---- words behind words
+
+pub one-word : (i v : ℕ) (s : List ℕ) → put (4 * i) (bytesOf 4 v) s ≡ putWords i (v ∷ []) s
+unfolding putWords wordBytes
+one-word i v s = ap (λ bs. put (4 * i) bs s) (sym (append-nil (bytesOf 4 v)))
+
+pub no-words : (i : ℕ) (s : List ℕ) → putWords i [] s ≡ s
+unfolding putWords wordBytes put front
+no-words i s = take-append-drop (4 * i) s
+
+pub words-next :
+    (i : ℕ) (us vs s : List ℕ) → 4 * (i + length us) ≤ length s → putWords (i + length us) vs (putWords i us s) ≡ putWords i (us ++ vs) s
+unfolding putWords
+words-next i us vs s h =
+    let n : 4 * (i + length us) ≡ 4 * i + length (wordBytes us) = omega (arith, length-wordBytes us) in
+    rw (n, wordBytes-append us vs) (put-put (4 * i) (wordBytes us) (wordBytes vs) s (omega arith))
+
+pub length-putWords : (i : ℕ) (ws s : List ℕ) → 4 * (i + length ws) ≤ length s → length (putWords i ws s) ≡ length s
+unfolding putWords
+length-putWords i ws s h = length-put (4 * i) (wordBytes ws) s (omega (arith, length-wordBytes ws))
+
+-- Words written one behind the other fill a table from its front.
+pub first-words : (ws s : List ℕ) → putWords 0 ws s ≡ front (wordBytes ws) s
+unfolding putWords put
+first-words ws s = refl
+
+pub words-behind :
+    (o us vs : List ℕ) (i : ℕ) {s t : List ℕ} → s ≡ front (wordBytes us) o → i ≡ length us → t ≡ putWords i vs s → t ≡ front (wordBytes (us ++ vs)) o
+unfolding putWords
+words-behind o us vs i p q r =
+    let n : 4 * i ≡ length (wordBytes us) = omega (arith, length-wordBytes us) in
+    r
+    ∙ ap₂ (λ (k : ℕ) (x : List ℕ). put k (wordBytes vs) x) n p
+    ∙ front-put (wordBytes us) (wordBytes vs) o
+    ∙ ap (λ (x : List ℕ). front x o) (sym (wordBytes-append us vs))
+
+-- ---- copied bytes
+
+pub copied-more :
+    (s t : List ℕ) (i : ℕ) → i < length s → i < length t → set (take i s ++ drop i t) i (getD s i 0) ≡ take (i + 1) s ++ drop (i + 1) t
+copied-more s t i h k =
+    rw (add-one, drop-cons t i 0 k, take-suc s i 0 h, append-snoc)
+    (set-at (take i s) (getD t i 0) (drop (suc i) t) (getD s i 0) i (length-take-le i s (omega arith)))
+
+pub copied-whole : (s o : List ℕ) {t : List ℕ} → t ≡ take (length s) s ++ drop (length s) o → t ≡ front s o
+unfolding front
+copied-whole s o e = e ∙ ap (λ (l : List ℕ). l ++ drop (length s) o) (take-length s)

@@ -1,3 +1,4 @@
 pub mod Words
 pub mod Writes
 pub mod Signed
+pub mod Tests

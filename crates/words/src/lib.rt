@@ -1,11 +1,13 @@
 // Numbers in byte slices, little-endian: "All numbers are little-endian; coefficients and bounds are signed 32-bit, the rest unsigned."
 ghost use mathlib.Core.Path.{_≡_};
+ghost use mathlib.Core.List.{[], _∷_, _++_};
 ghost use Prim.Native.Nat.{_+_, _*_, _/_, _%_, _≤_, _<_};
-ghost use lib.ListN.{length, replicate};
+ghost use lib.ListN.{length, take, drop, replicate};
 ghost use lib.IntN.{natAbs};
 ghost use Rattle.words.specs.Words.{numAt, bytesOf, wordAt, signed, unsigned};
 ghost use Rattle.words.specs.Signed.{complement};
-ghost use Rattle.words.specs.Writes.{put};
+ghost use Rattle.words.specs.Writes.{put, putWords};
+ghost use Rattle.words.specs.Tests.{Decides, ZeroWords};
 
 // Bytes joined to a number, the lowest first. The compiler makes one load of four reads that are joined.
 fn join2(a: u8, b: u8) -> u32
@@ -36,11 +38,25 @@ pub fn read_u32(s: &[u8], at: usize) -> u32
     join4(s[at], s[at + 1], s[at + 2], s[at + 3])
 }
 
-// The same as a length, a count or an index.
+// A byte as a number.
+pub fn byte_word(b: u8) -> u32
+    ensures { λ r. ⌜ r ≡ b ⌝ }
+{
+    b as u32
+}
+
+// A number as a length, a count or an index, and back.
 fn widen(n: u32) -> usize
     ensures { λ r. ⌜ r ≡ n ⌝ }
 {
     n as usize
+}
+
+pub fn narrow(n: usize) -> u32
+    requires { ⌜ n < 4_294_967_296 ⌝ }
+    ensures { λ r. ⌜ r ≡ n ⌝ }
+{
+    n as u32
 }
 
 pub fn read_size(s: &[u8], at: usize) -> usize
@@ -48,13 +64,6 @@ pub fn read_size(s: &[u8], at: usize) -> usize
     ensures { λ r. ⌜ r ≡ numAt 2 (now (s .entry)) at ⌝ }
 {
     widen(read_u16(s, at))
-}
-
-pub fn read_index(s: &[u8], at: usize) -> usize
-    requires { ⌜ at + 4 ≤ length (now s) ⌝ }
-    ensures { λ r. ⌜ r ≡ numAt 4 (now (s .entry)) at ⌝ }
-{
-    widen(read_u32(s, at))
 }
 
 // The word at an index of a table.
@@ -136,6 +145,50 @@ pub fn write_u32(s: &mut [u8], at: usize, v: u32)
     s[at + 1] = byte(v / 256);
     s[at + 2] = byte(v / 65536);
     s[at + 3] = byte(v / 16777216);
+}
+
+// Writes a word at an index of a table.
+pub fn write_word(s: &mut [u8], i: usize, v: u32)
+    requires { ⌜ 4 * i + 4 ≤ length (now s) ⌝ }
+    ensures { λ _. ⌜ now (s .exit) ≡ putWords i (v ∷ []) (now (s .entry)) ⌝ }
+{
+    write_u32(s, 4 * i, v);
+}
+
+// Writes two words from an index on.
+pub fn write_two(s: &mut [u8], i: usize, a: u32, b: u32)
+    requires { ⌜ 4 * i + 8 ≤ length (now s) ⌝ }
+    ensures { λ _. ⌜ now (s .exit) ≡ putWords i (a ∷ b ∷ []) (now (s .entry)) ⌝ }
+{
+    write_word(s, i, a);
+    write_word(s, i + 1, b);
+}
+
+// Whether the words from an index on and before another are 0. It does not stop at the first that is not: without a way out the loop is compiled to
+// 16 bytes at a time.
+pub fn zeros(s: &[u8], from: usize, end: usize) -> bool
+    requires { ⌜ 4 * end ≤ length (now s) ⌝ }
+    ensures { λ r. ⌜ Decides r (ZeroWords (now (s .entry)) from end) ⌝ }
+{
+    let mut all = true;
+    let mut i = from;
+    while i < end {
+        all = all & (word(s, i) == 0);
+        i += 1;
+    }
+    all
+}
+
+// Copies the first n bytes of a slice over those of another.
+pub fn copy(from: &[u8], to: &mut [u8], n: usize)
+    requires { ⌜ (n ≤ length (now from)) × (n ≤ length (now to)) ⌝ }
+    ensures { λ _. ⌜ now (to .exit) ≡ take n (now (from .entry)) ++ drop n (now (to .entry)) ⌝ }
+{
+    let mut i = 0;
+    while i < n {
+        to[i] = from[i];
+        i += 1;
+    }
 }
 
 // Fills a slice with 0.

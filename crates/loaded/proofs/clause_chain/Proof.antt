@@ -4,19 +4,20 @@
 use borrow.Author.Needs.{needs}
 use Rattle.loaded.proofs.clause_chain.Statement.{statement}
 use Rattle.loaded.proofs.clause_chain.Tie as tie
-use Prim.Native.Nat.{ℕ, _+_, _*_, _-_, _≤_}
+use Prim.Native.Nat.{ℕ, _+_, _-_, _≤_}
 use mathlib.Core.Path.{_≡_, sym, _∙_}
 use mathlib.Core.List.{List}
 use native.Mathlib.Omega.{arith}
 use Rattle.words.specs.Words.{wordAt}
-use Rattle.format.proofs.Good.{chainFrom}
+use Rattle.format.specs.Good.{chainFrom}
 use Rattle.loaded.proofs.Turns.{chain-turn, chain-refused, chain-done, link-fits}
+use Rattle.format.specs.Layout.{clauseCountAt, clauseFirstAt}
 
 abbrev first : List ℕ → ℕ → ℕ
-first t c = wordAt t (516 + 2 * c)
+first t c = wordAt t (clauseFirstAt c)
 
 abbrev count : List ℕ → ℕ → ℕ
-count t c = wordAt t (517 + 2 * c)
+count t c = wordAt t (clauseCountAt c)
 
 abbrev Inv-loop : tie.InvT-loop
 Inv-loop tables clauses rules at₀ c₀ at c =

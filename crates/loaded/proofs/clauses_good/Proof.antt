@@ -3,18 +3,19 @@
 use borrow.Author.Needs.{needs}
 use Rattle.loaded.proofs.clauses_good.Statement.{statement}
 use Rattle.loaded.proofs.clauses_good.Tie as tie
-use Prim.Native.Nat.{_+_, _*_, _-_}
+use Prim.Native.Nat.{_*_, _-_}
 use mathlib.Core.Path.{_≡_}
 use native.Mathlib.Omega.{arith}
-use Rattle.format.proofs.Good.{clausesGood}
-use Rattle.loaded.proofs.Turns.{both}
+use Rattle.format.specs.Good.{clausesGood}
+use Rattle.loaded.proofs.Turns.{zeros-are, both}
+use Rattle.format.specs.Layout.{clauseFirstAt, clauseWordCount, rulesAt}
 
 returns : tie.Need-returns
 unfolding clausesGood
 returns c =
     let s = c .before .before .before in
-    let n : 1_542 - (516 + 2 * s .args .clauses) ≡ 1_026 - 2 * s .args .clauses = omega arith in
-    rw (both, c .before .clause-chain .ensures, c .zeros .ensures, n, s .pre .0, s .pre .1 .0)
+    let n : rulesAt - (clauseFirstAt (s .args .clauses)) ≡ clauseWordCount - 2 * s .args .clauses = omega arith in
+    rw (both, c .before .clause-chain .ensures, zeros-are _ _ _ _ (c .zeros .ensures), n, s .pre .0, s .pre .1 .0)
 
 pub clauses-good-spec : {M : Type 1} → statement M
 clauses-good-spec =

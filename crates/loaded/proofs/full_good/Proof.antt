@@ -5,19 +5,30 @@ use Rattle.loaded.proofs.full_good.Statement.{statement}
 use Rattle.loaded.proofs.full_good.Tie as tie
 use native.Mathlib.Omega.{arith}
 use Rattle.words.specs.Words.{wordAt}
-use Rattle.loaded.proofs.Turns.{both}
+use Rattle.loaded.proofs.Turns.{zeros-are, both}
 use Rattle.loaded.proofs.Parts.{Limited, limited, counts-refused, parts-whole}
 
 returns : tie.Need-returns
 returns c =
     let k = c .before in
-    counts-refused _ _ (k .before .before .before .before .index .ensures) (k .before .before .before .index2 .ensures) (k .before .before .index3 .ensures) (k .before .index4 .ensures) (k .counts-good .ensures) (c .if1 .taken)
+    let total = k .before in
+    let rules = total .before in
+    let clauses = rules .before in
+    counts-refused _ _ (clauses .before .index .ensures) (clauses .index2 .ensures) (rules .index3 .ensures) (total .index4 .ensures)
+    (k .counts-good .ensures) (c .if1 .taken)
 
-within : (c : tie.Else1) → Limited (c .before .before .before .before .before .index .result) (c .before .before .before .before .index2 .result) (c .before .before .before .index3 .result) (c .before .before .index4 .result)
+within :
+    (c : tie.Else1)
+    → Limited (c .before .before .before .before .before .index .result) (c .before .before .before .before .index2 .result)
+    (c .before .before .before .index3 .result) (c .before .before .index4 .result)
 within c =
     let k = c .before in
     let f = wordAt (k .before .before .before .before .before .before .before .args .tables .now) in
-    limited f f (k .before .before .before .before .index .ensures) (k .before .before .before .index2 .ensures) (k .before .before .index3 .ensures) (k .before .index4 .ensures) (k .counts-good .ensures) (c .if1 .left)
+    let total = k .before in
+    let rules = total .before in
+    let clauses = rules .before in
+    limited f f (clauses .before .index .ensures) (clauses .index2 .ensures) (rules .index3 .ensures) (total .index4 .ensures)
+    (k .counts-good .ensures) (c .if1 .left)
 
 objective-good-requires : tie.Need-objective-good-requires
 objective-good-requires c κs =
@@ -40,14 +51,19 @@ mul-zeros : tie.Need-mul-zeros
 mul-zeros c = let w = within (c .before .before .before) in omega arith
 
 zeros-requires : tie.Need-zeros-requires
-zeros-requires c κs = let w = within (c .before .before .before) in (omega arith, search needs)
+zeros-requires c κs = let w = within (c .before .before .before) in search needs
 
 returns-2 : tie.Need-returns-2
 returns-2 c =
     let e = c .before .before .before .before in
     let k = e .before in
+    let total = k .before in
+    let rules = total .before in
+    let clauses = rules .before in
     rw (both, both, both)
-    (parts-whole _ _ (k .before .before .before .before .index .ensures) (k .before .before .before .index2 .ensures) (k .before .before .index3 .ensures) (k .before .index4 .ensures) (k .counts-good .ensures) (e .if1 .left) (c .before .before .before .objective-good .ensures) (c .before .before .clauses-good .ensures) (c .before .rules-good .ensures) (c .zeros .ensures))
+    (parts-whole _ _ (clauses .before .index .ensures) (clauses .index2 .ensures) (rules .index3 .ensures) (total .index4 .ensures)
+    (k .counts-good .ensures) (e .if1 .left) (c .before .before .before .objective-good .ensures) (c .before .before .clauses-good .ensures)
+    (c .before .rules-good .ensures) (zeros-are _ _ _ _ (c .zeros .ensures)))
 
 pub full-good-spec : {M : Type 1} → statement M
 full-good-spec =

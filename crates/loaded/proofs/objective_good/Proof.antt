@@ -6,15 +6,16 @@ use Rattle.loaded.proofs.objective_good.Tie as tie
 use Prim.Native.Nat.{_+_, _-_}
 use mathlib.Core.Path.{_≡_}
 use native.Mathlib.Omega.{arith}
-use Rattle.format.proofs.Good.{objectiveGood}
-use Rattle.loaded.proofs.Turns.{both}
+use Rattle.format.specs.Good.{objectiveGood}
+use Rattle.loaded.proofs.Turns.{zeros-are, both}
+use Rattle.format.specs.Layout.{clausesAt}
 
 returns : tie.Need-returns
 unfolding objectiveGood
 returns c =
     let s = c .before .before .before in
-    let n : 516 - (4 + s .args .variables) ≡ 512 - s .args .variables = omega arith in
-    cc (both (c .before .coefficients .result) (c .zeros .result))
+    let n : clausesAt - (4 + s .args .variables) ≡ 512 - s .args .variables = omega arith in
+    cc (both (c .before .coefficients .result) (c .zeros .result), zeros-are _ _ _ _ (c .zeros .ensures))
 
 pub objective-good-spec : {M : Type 1} → statement M
 objective-good-spec =

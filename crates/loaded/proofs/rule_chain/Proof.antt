@@ -5,7 +5,7 @@ use borrow.Author.Needs.{needs}
 use borrow.Author.Tests.{not-true, not-false}
 use Rattle.loaded.proofs.rule_chain.Statement.{statement}
 use Rattle.loaded.proofs.rule_chain.Tie as tie
-use Prim.Native.Nat.{ℕ, _+_, _*_, _-_, _≤_}
+use Prim.Native.Nat.{ℕ, _+_, _-_, _≤_}
 use mathlib.Core.Path.{_≡_, sym, ap, ap₂, _∙_}
 use mathlib.Core.Bool.{Bool}
 use mathlib.Core.List.{List}
@@ -13,14 +13,16 @@ use native.Mathlib.Omega.{arith}
 use Rattle.plpb.specs.Lists.{_and_}
 use Rattle.words.specs.Words.{wordAt}
 use Rattle.format.proofs.Bools.{and-stop, and-false}
-use Rattle.format.proofs.Good.{chainFrom, everyFrom, every-step, every-fail, ruleGood}
+use Rattle.format.specs.Good.{chainFrom, everyFrom, ruleGood}
+use Rattle.format.proofs.Good.{every-step, every-fail}
 use Rattle.loaded.proofs.Turns.{chain-turn, chain-refused, chain-done, every-done, link-start, link-fits}
+use Rattle.format.specs.Layout.{ruleCountAt, ruleFirstAt}
 
 abbrev first : List ℕ → ℕ → ℕ
-first t r = wordAt t (1_542 + 5 * r)
+first t r = wordAt t (ruleFirstAt r)
 
 abbrev count : List ℕ → ℕ → ℕ
-count t r = wordAt t (1_543 + 5 * r)
+count t r = wordAt t (ruleCountAt r)
 
 -- The rules from one on, with a chain that has come to a place.
 abbrev rulesFrom : List ℕ → List ℕ → ℕ → ℕ → ℕ → ℕ → Bool

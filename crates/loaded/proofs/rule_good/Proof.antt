@@ -3,18 +3,19 @@
 use borrow.Author.Needs.{needs}
 use Rattle.loaded.proofs.rule_good.Statement.{statement}
 use Rattle.loaded.proofs.rule_good.Tie as tie
-use Prim.Native.Nat.{_+_, _*_, _-_}
+use Prim.Native.Nat.{_-_}
 use mathlib.Core.Path.{_≡_}
 use native.Mathlib.Omega.{arith}
 use Rattle.words.specs.Words.{wordAt}
-use Rattle.format.proofs.Good.{ruleGood}
+use Rattle.format.specs.Good.{ruleGood}
 use Rattle.loaded.proofs.Turns.{both}
+use Rattle.format.specs.Layout.{ruleCountAt}
 
 returns : tie.Need-returns
 unfolding ruleGood
 returns c =
     let s = c .before .before .before .before .before .before .before in
-    let n : s .args .to - s .args .from ≡ wordAt (s .args .tables .now) (1_543 + 5 * s .args .r) = omega (arith, s .pre .1 .1 .0) in
+    let n : s .args .to - s .args .from ≡ wordAt (s .args .tables .now) (ruleCountAt (s .args .r)) = omega (arith, s .pre .1 .1 .0) in
     cc (both (c .before .bounds-good .result) (c .rule-terms .result))
 
 pub rule-good-spec : {M : Type 1} → statement M

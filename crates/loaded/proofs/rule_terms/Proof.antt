@@ -10,7 +10,7 @@ use native.Mathlib.Omega.{arith}
 use Rattle.plpb.specs.Lists.{_and_}
 use Rattle.words.specs.Words.{wordAt}
 use Rattle.format.proofs.Bools.{and-first}
-use Rattle.format.proofs.Good.{termGood, termsFrom}
+use Rattle.format.specs.Good.{termGood, termsFrom}
 use Rattle.loaded.proofs.Turns.{both, terms-turn, terms-done}
 
 abbrev Inv-loop : tie.InvT-loop

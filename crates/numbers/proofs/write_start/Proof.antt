@@ -10,7 +10,7 @@ use mathlib.Core.Path.{_≡_, refl, ap, _∙_}
 use lib.ListN.{length, set, take, drop, length-set}
 use lib.Seq.{take-all}
 use Rattle.plpb.specs.Numbers.{startWords, startOf}
-use Rattle.tallies.specs.Layout.{bitBytes}
+use Rattle.format.specs.Assignment.{bitBytes}
 use Rattle.numbers.specs.Numbers.{numbersOf}
 use Rattle.numbers.proofs.Taking.{start-bit, length-start, write-more}
 

@@ -13,17 +13,46 @@ use Rattle.tables.proofs.fill_tables.Tie as tie
 
 read-u16-requires : tie.Need-read-u16-requires
 unfolding firstClause
-read-u16-requires c κs = omega (arith, begun-room _ _ (c .before .before .before .before .before .before .before .before .before .before .before .before .before .before .pre .0))
+read-u16-requires c κs =
+    let start = c .before .before .before .before .before .before .before .before .before .before .before .before .before .before in
+    omega (arith, begun-room _ _ (start .pre .0))
 
 put-head-requires : tie.Need-put-head-requires
-put-head-requires c κs = let q = (lawful-file _ _ (c .before .before .before .before .before .before .before .before .before .before .before .before .before .before .before .before .pre .0)) in
-    (omega (arith, behind-long _ (lawful-file _ _ (c .before .before .before .before .before .before .before .before .before .before .before .before .before .before .before .before .pre .0)) (c .before .before .before .before .before .before .before .before .before .before .before .before .before .before .before .before .args .tables .now) _ _ _ (c .before .before .before .before .before .before .before .before .before .before .before .before .before .before .before .before .pre .1) (c .before .before .before .before .before .before .before .before .before .before .before .before .objective-section .ensures) (c .before .before .before .before .before .before .before .before .clause-section .ensures .1) (c .before .before .before .before .rule-section .ensures .2), c .before .before .before .before .before .before .before .before .before .before .before .before .before .before .before .before .pre .1), omega (arith, c .before .before .before .before .before .before .before .before .clause-section .ensures .0, q .clauseCount), omega (arith, c .before .before .before .before .rule-section .ensures .0, q .ruleCount), omega (arith, c .before .before .before .before .rule-section .ensures .1, q .terms))
-
-same-length : tie.Need-same-length
-same-length c = ap length (tables-whole _ (lawful-file _ _ (c .before .before .before .before .before .before .before .before .before .before .before .before .before .before .before .before .before .before .before .pre .0)) (c .before .before .before .before .before .before .before .before .before .before .before .before .before .before .before .before .before .before .before .args .tables .now) _ _ _ (c .before .before .before .before .before .before .before .before .before .before .before .before .before .before .before .before .before .before .before .pre .1) (c .before .before .before .before .before .before .before .before .before .before .before .before .before .before .before .objective-section .ensures) (c .before .before .before .before .before .before .before .before .before .before .before .clause-section .ensures .1) (c .before .before .before .before .before .before .before .rule-section .ensures .2) _ (c .before .before .before .before .read-u16 .ensures ∙ sym (begun-file _ _ (c .before .before .before .before .before .before .before .before .before .before .before .before .before .before .before .before .before .before .before .pre .0) .variables)) (c .before .before .before .before .before .before .before .before .before .before .before .clause-section .ensures .0) (c .before .before .before .before .before .before .before .rule-section .ensures .0) (c .before .before .before .before .before .before .before .rule-section .ensures .1) (c .before .before .put-head .ensures)) ∙ table-size _ (lawful-file _ _ (c .before .before .before .before .before .before .before .before .before .before .before .before .before .before .before .before .before .before .before .pre .0)) (c .before .before .before .before .before .before .before .before .before .before .before .before .before .before .before .before .before .before .before .args .tables .now) (c .before .before .before .before .before .before .before .before .before .before .before .before .before .before .before .before .before .before .before .pre .1)
+put-head-requires c κs =
+    let rules = c .before .before .before .before in
+    let clauses = rules .before .before .before .before in
+    let objective = clauses .before .before .before .before in
+    let start = objective .before .before .before .before in
+    let q = lawful-file _ _ (start .pre .0) in (
+      omega (
+        arith,
+        behind-long _ q (start .args .tables .now) _ _ _ (start .pre .1)
+            (objective .objective-section .ensures) (clauses .clause-section .ensures .1) (rules .rule-section .ensures .2),
+        start .pre .1,
+      ),
+      omega (arith, clauses .clause-section .ensures .0, q .clauseCount),
+      omega (arith, rules .rule-section .ensures .0, q .ruleCount),
+      omega (arith, rules .rule-section .ensures .1, q .terms),
+    )
 
 returns : tie.Need-returns
-returns c = tables-whole _ (lawful-file _ _ (c .before .before .before .before .before .before .before .before .before .before .before .before .before .before .before .before .before .before .before .pre .0)) (c .before .before .before .before .before .before .before .before .before .before .before .before .before .before .before .before .before .before .before .args .tables .now) _ _ _ (c .before .before .before .before .before .before .before .before .before .before .before .before .before .before .before .before .before .before .before .pre .1) (c .before .before .before .before .before .before .before .before .before .before .before .before .before .before .before .objective-section .ensures) (c .before .before .before .before .before .before .before .before .before .before .before .clause-section .ensures .1) (c .before .before .before .before .before .before .before .rule-section .ensures .2) _ (c .before .before .before .before .read-u16 .ensures ∙ sym (begun-file _ _ (c .before .before .before .before .before .before .before .before .before .before .before .before .before .before .before .before .before .before .before .pre .0) .variables)) (c .before .before .before .before .before .before .before .before .before .before .before .clause-section .ensures .0) (c .before .before .before .before .before .before .before .rule-section .ensures .0) (c .before .before .before .before .before .before .before .rule-section .ensures .1) (c .before .before .put-head .ensures)
+returns c =
+    let head = c .before .before in
+    let read = head .before .before in
+    let rules = read .before .before .before in
+    let clauses = rules .before .before .before .before in
+    let objective = clauses .before .before .before .before in
+    let start = objective .before .before .before .before in
+    tables-whole _ (lawful-file _ _ (start .pre .0)) (start .args .tables .now) _ _ _ (start .pre .1)
+    (objective .objective-section .ensures) (clauses .clause-section .ensures .1) (rules .rule-section .ensures .2) _
+    (read .read-u16 .ensures ∙ sym (begun-file _ _ (start .pre .0) .variables)) (clauses .clause-section .ensures .0)
+    (rules .rule-section .ensures .0) (rules .rule-section .ensures .1) (head .put-head .ensures)
+
+same-length : tie.Need-same-length
+same-length c =
+    let rules = c .before .before .before .before .before .before .before in
+    let start = rules .before .before .before .before .before .before .before .before .before .before .before .before in
+    ap length (returns c) ∙ table-size _ (lawful-file _ _ (start .pre .0)) (start .args .tables .now) (start .pre .1)
 
 pub fill-tables-spec : {M : Type 1} → statement M
 fill-tables-spec =

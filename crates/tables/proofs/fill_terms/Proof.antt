@@ -7,7 +7,10 @@ use Rattle.tables.proofs.fill_terms.Statement.{statement}
 use Rattle.tables.proofs.fill_terms.Tie as tie
 
 returns : tie.Need-returns
-returns c = terms-whole _ (lawful-file _ _ (c .before .before .before .before .before .before .pre .0)) _ _ (c .before .before .before .before .before .before .pre .1) (c .before .before .term-section .ensures)
+returns c =
+    let term = c .before .before in
+    let start = term .before .before .before .before in
+    terms-whole _ (lawful-file _ _ (start .pre .0)) _ _ (start .pre .1) (term .term-section .ensures)
 
 pub fill-terms-spec : {M : Type 1} → statement M
 fill-terms-spec =

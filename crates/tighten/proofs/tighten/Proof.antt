@@ -1,56 +1,49 @@
--- `tighten` meets its contract: linear alone, or LBS and, where that fails, linear from there.
+-- `tighten` meets its contract: the mode's own tightening, and where LBS failed, linear from there.
 -- Assumes nothing.
 use borrow.Author.Needs.{needs}
 use mathlib.Core.Path.{_∙_, sym, ap}
 use mir.Facts.{toZ-ofZ}
 use Rattle.plpb.specs.Plan.{floorCost}
 use Rattle.tighten.proofs.Bounds.{bounded-basis}
-use Rattle.tighten.proofs.Concluding.{room-here, room-after, tightens-linear, tightens-lbs, lbs-answers, stopped-stands, failed-stands, lbs-then-linear}
+use Rattle.tighten.proofs.Concluding.{room-here, room-after, unfailed, tightens-linearly, stopped-tracks, failed-tracks, lbs-then-linear}
 use Rattle.tighten.proofs.tighten.Statement.{statement}
 use Rattle.tighten.proofs.tighten.Tie as tie
 
 returns : tie.Need-returns
 returns c =
-    let d = c .before .before .before .before .before .before .before .before .before .before in
-    let t = d .before .before .before .before .before .before in
-    let e = d .linear .ensures in
-    (tightens-linear _ _ _ (t .before .before .before .before .before .before .before .before .before .args .from) _ _ _ (t .if1 .taken) (e .0), e .1, e .2)
-
-returns-2 : tie.Need-returns-2
-returns-2 c =
-    let d = c .before .before .before .before .before .before .before .before .before .before .before .before in
-    let t = d .before .before .before .before .before .before in
-    let e = d .lbs .ensures in (
-      tightens-lbs _ _ _ (t .before .before .before .before .before .before .before .before .before .args .from) _ _ _ (t .if1 .left) (lbs-answers _ _ _ (t .before .before .before .before .before .before .before .before .before .args .from) _ _ _ (c .before .match .keys2) (e .0) _ (c .stopped .ensures)),
-      stopped-stands _ _ (c .stopped .ensures) (e .1),
+    let e = c .before .before .before .before .before .before .before .before .before .before .before .before .before .descend .ensures in (
+      tightens-linearly _ _ _ (c .before .before .before .before .before .before .before .before .before .before .before .before .before .before .before .before .before .before .before .before .before .before .before .before .before .before .args .from) _ _ _ _ (c .stopped .ensures) _ (c .before .if1 .taken) (e .1) (e .0),
+      stopped-tracks _ _ (c .stopped .ensures) (e .1),
       e .2,
     )
 
-linear-requires-2 : tie.Need-linear-requires-2
-linear-requires-2 c κs =
-    let d = c .before .before .before .before .before .before .before .before .before .before .before .before .before .before .before .before .before .before in
-    let a = d .before .before .before .before .before .before .before .before .before .before .before .before .before .before .before in
-    let e = d .lbs .ensures in
-    let k = d .lbs .kept in (
-      room-here (e .2 .bounded) (room-after (a .pre .0) (e .2 .bounded) (record { tables = k .0; assignment = k .1 .1 .1 .1 .1 .1 .0; tried = k .1 .1 .1 .1 .1 .1 .1 .0; tallies = k .1 .1 .1 .1 .1 .1 .1 .1 .0; marks = k .1 .1 .1 .1 .1 .1 .1 .1 .1 .0 })),
-      failed-stands (c .before .before .before .before .before .before .c .given .1) (e .2) (e .1),
+returns-2 : tie.Need-returns-2
+returns-2 c =
+    let e = c .before .before .before .before .before .before .before .before .before .before .before .before .before .before .descend .ensures in
+    (unfailed _ _ _ (c .before .before .before .before .before .before .before .before .before .before .before .before .before .before .before .before .before .before .before .before .before .before .before .before .before .before .before .args .from) _ _ _ _ (c .stopped2 .ensures) _ (c .before .match .keys2) (e .0), stopped-tracks _ _ (c .stopped2 .ensures) (e .1), e .2)
+
+descend-requires-2 : tie.Need-descend-requires-2
+descend-requires-2 c κs =
+    let d = c .before .before .before .before .before .before .before .before .before .before .before .before .before .before .before .before .before .before .before .before in
+    let a = c .before .before .before .before .before .before .before .before .before .before .before .before .before .before .before .before .before .before .before .before .before .before .before .before .before .before .before .before .before .before .before .before .before in
+    let e = d .descend .ensures in (
+      room-here (e .2 .bounded)
+          (room-after (a .pre .0) (e .2 .bounded)
+          (record { tables = c .before .before .before .before .before .before .before .before .before .before .before .before .before .before .before .before .before .before .before .tables .given; assignment = c .before .before .before .before .before .before .before .before .before .before .before .before .before .before .before .before .before .assignment .given; tried = c .before .before .before .before .before .before .before .before .before .before .before .before .before .before .before .tried .given; tallies = c .before .before .before .before .before .before .before .before .before .before .before .before .before .tallies .given; marks = c .before .before .before .before .before .before .before .before .before .before .before .marks .given })),
+      failed-tracks (c .before .before .before .before .before .before .c .given .1) (e .2) (e .1),
       toZ-ofZ (a .fits .floor) ∙ a .pre .2 ∙ ap floorCost (sym (bounded-basis (e .2 .bounded))),
     )
 
 returns-3 : tie.Need-returns-3
 returns-3 c =
-    let n = c .before .before .before .before .before .before .before .before .before .before in
-    let m = n .before .before .before .before .before .before .before in
-    let d = m .before .before .before .before .before .before .before .before .before .before .before .before in
-    let t = d .before .before .before .before .before .before in
-    let e = d .lbs .ensures in
-    let z = lbs-then-linear (m .c .given .1) (e .2) _ _ (e .0) _ (n .linear2 .ensures) in
-    (tightens-lbs _ _ _ (t .before .before .before .before .before .before .before .before .before .args .from) _ _ _ (t .if1 .left) (z .0), z .1, z .2)
+    let e = c .before .before .before .before .before .before .before .before .before .before .before .before .before .before .before .before .before .before .before .before .before .before .before .before .before .before .before .before .before .before .before .before .descend .ensures in
+    lbs-then-linear (c .before .before .before .before .before .before .before .before .before .before .before .before .before .before .before .before .before .before .c .given .1) (e .2) _ (c .before .before .before .before .before .before .before .before .before .before .before .before .before .before .before .before .before .before .before .before .before .before .before .before .before .before .before .before .before .before .before .before .before .before .before .before .before .before .before .before .before .before .before .before .before .args .from) _ (c .before .before .before .before .before .before .before .before .before .before .before .before .before .before .before .before .before .before .before .before .if1 .left) (e .0) _ _ (c .stopped3 .ensures) (c .before .before .before .before .before .before .before .before .before .before .before .descend2 .ensures)
 
 pub tighten-spec : {M : Type 1} → statement M
 tighten-spec =
     tie.close
     (tie.spec
+    (λ c κs. search needs)
     (λ c κs. search needs)
     (λ c. search needs)
     (λ c. search needs)
@@ -58,7 +51,6 @@ tighten-spec =
     (λ c. search needs)
     (λ c. search needs)
     returns
-    (λ c κs. search needs)
     (λ c. search needs)
     (λ c κs. search needs)
     (λ c. search needs)
@@ -67,10 +59,11 @@ tighten-spec =
     (λ c. search needs)
     (λ c. search needs)
     returns-2
-    linear-requires-2
-    (λ c. c .before .before .before .before .before .before .before .before .before .before .linear2 .kept .0 ∙ c .before .before .before .before .before .before .before .before .before .before .before .before .before .before .before .before .before .before .before .before .before .before .before .before .before .before .before .before .before .lbs .kept .0)
-    (λ c. c .before .before .before .before .before .before .before .before .before .before .linear2 .kept .1 .1 .1 .1 .1 .1 .0 ∙ c .before .before .before .before .before .before .before .before .before .before .before .before .before .before .before .before .before .before .before .before .before .before .before .before .before .before .before .before .before .lbs .kept .1 .1 .1 .1 .1 .1 .0)
-    (λ c. c .before .before .before .before .before .before .before .before .before .before .linear2 .kept .1 .1 .1 .1 .1 .1 .1 .0 ∙ c .before .before .before .before .before .before .before .before .before .before .before .before .before .before .before .before .before .before .before .before .before .before .before .before .before .before .before .before .before .lbs .kept .1 .1 .1 .1 .1 .1 .1 .0)
-    (λ c. c .before .before .before .before .before .before .before .before .before .before .linear2 .kept .1 .1 .1 .1 .1 .1 .1 .1 .0 ∙ c .before .before .before .before .before .before .before .before .before .before .before .before .before .before .before .before .before .before .before .before .before .before .before .before .before .before .before .before .before .lbs .kept .1 .1 .1 .1 .1 .1 .1 .1 .0)
-    (λ c. c .before .before .before .before .before .before .before .before .before .before .linear2 .kept .1 .1 .1 .1 .1 .1 .1 .1 .1 .0 ∙ c .before .before .before .before .before .before .before .before .before .before .before .before .before .before .before .before .before .before .before .before .before .before .before .before .before .before .before .before .before .lbs .kept .1 .1 .1 .1 .1 .1 .1 .1 .1 .0)
+    descend-requires-2
+    (λ c κs. search needs)
+    (λ c. c .before .before .before .before .before .before .before .before .before .before .tables2 .given ∙ c .before .before .before .before .before .before .before .before .before .before .before .before .before .before .before .before .before .before .before .before .before .before .before .before .before .before .before .before .before .before .before .tables .given)
+    (λ c. c .before .before .before .before .before .before .before .before .assignment2 .given ∙ c .before .before .before .before .before .before .before .before .before .before .before .before .before .before .before .before .before .before .before .before .before .before .before .before .before .before .before .before .before .assignment .given)
+    (λ c. c .before .before .before .before .before .before .tried2 .given ∙ c .before .before .before .before .before .before .before .before .before .before .before .before .before .before .before .before .before .before .before .before .before .before .before .before .before .before .before .tried .given)
+    (λ c. c .before .before .before .before .tallies2 .given ∙ c .before .before .before .before .before .before .before .before .before .before .before .before .before .before .before .before .before .before .before .before .before .before .before .before .before .tallies .given)
+    (λ c. c .before .before .marks2 .given ∙ c .before .before .before .before .before .before .before .before .before .before .before .before .before .before .before .before .before .before .before .before .before .before .before .marks .given)
     returns-3)

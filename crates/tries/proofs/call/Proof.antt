@@ -3,7 +3,7 @@
 use borrow.Author.Needs.{needs}
 use native.Mathlib.Omega.{arith}
 use mathlib.Core.Path.{_∙_}
-use Rattle.tries.specs.Steps.{settingsOf}
+use Rattle.settings.specs.Settings.{settingsOf}
 use Rattle.tries.proofs.Trying.{Calling, calls-begin, calls-more, calls-done, calls-end, not-failed}
 use Rattle.tries.proofs.call.Statement.{statement}
 use Rattle.tries.proofs.call.Tie as tie

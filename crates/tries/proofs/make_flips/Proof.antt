@@ -3,9 +3,9 @@
 use borrow.Author.Needs.{needs}
 use native.Mathlib.Omega.{arith}
 use mathlib.Core.Path.{_∙_}
-use Rattle.tries.specs.Steps.{settingsOf}
+use Rattle.settings.specs.Settings.{settingsOf}
 use Rattle.tries.proofs.Moving.{tally-room}
-use Rattle.tries.proofs.Trying.{Flipping, flips-begin, flips-found, flips-more, flips-short, flips-end, sized-on}
+use Rattle.tries.proofs.Trying.{Flipping, flips-begin, flips-found, flips-more, flips-stopped, flips-end, sized-on}
 use Rattle.tries.proofs.make_flips.Statement.{statement}
 use Rattle.tries.proofs.make_flips.Tie as tie
 
@@ -25,8 +25,7 @@ word-requires c κs = tally-room (c .before .before .loop .inv .walking)
 
 returns : tie.Need-returns Inv-loop μ-loop
 returns c =
-    let l = c .before .before .before .before in
-    flips-found (l .loop .inv) (omega (arith, c .before .before .before .loop-test .taken)) (rw (← c .before .word .ensures) (c .if1 .taken))
+    flips-found (c .before .before .before .before .loop .inv) (omega (arith, c .before .before .before .loop-test .taken)) (rw (← c .before .word .ensures) (c .if1 .taken))
 
 same-length : tie.Need-same-length Inv-loop μ-loop
 same-length c = c .before .before .before .before .loop .inv .sized .assignment
@@ -43,38 +42,37 @@ make-move-requires c κs =
     let l = t .before .before .before .before in
     (l .loop .inv .walking, omega (arith, t .if1 .left, t .before .word .ensures), l .loop .inv .within)
 
+same-length-4 : tie.Need-same-length-4 Inv-loop μ-loop
+same-length-4 c = c .before .before .before .before .before .before .before .assignment .given ∙ c .before .before .before .before .before .before .before .before .before .before .before .before .before .before .before .before .loop .inv .sized .assignment
+
+same-length-5 : tie.Need-same-length-5 Inv-loop μ-loop
+same-length-5 c = c .before .before .before .before .before .tallies .given ∙ c .before .before .before .before .before .before .before .before .before .before .before .before .before .before .before .before .loop .inv .sized .tallies
+
+same-length-6 : tie.Need-same-length-6 Inv-loop μ-loop
+same-length-6 c = c .before .before .before .marks .given ∙ c .before .before .before .before .before .before .before .before .before .before .before .before .before .before .before .before .loop .inv .sized .marks
+
 returns-2 : tie.Need-returns-2 Inv-loop μ-loop
 returns-2 c =
-    let m = c .before .before .before .before .before .before .before .before in
-    let t = m .before .before .before .before in
+    let t = c .before .before .before .before .before .before .before .before .before .before .before .before in
     let l = t .before .before .before .before in
-    flips-short (l .loop .inv) (omega (arith, t .before .before .before .loop-test .taken)) (λ e. t .if1 .left (t .before .word .ensures ∙ e)) (m .make-move .ensures) (c .if2 .taken)
+    rw (c .stopped .ensures)
+    (flips-stopped (l .loop .inv) (omega (arith, t .before .before .before .loop-test .taken)) (λ e. t .if1 .left (t .before .word .ensures ∙ e)) _ (c .before .match .keys2) (c .before .before .before .before .before .before .before .before .make-move .ensures))
 
 add-made : tie.Need-add-made Inv-loop μ-loop
-add-made c =
-    let m = c .before .before .before .before .before .before .before .before in
-    let l = m .before .before .before .before .before .before .before .before in
-    let at = l .before .before .before .before .before .before .before in
-    omega (arith, l .loop .inv .flipped, l .loop .inv .within, at .good .1 .1 .0 .1)
+add-made c = let l = c .before .before .before .before .before .before .before .before .before .before .before .before .before .before .before .before .before in omega (arith, l .loop .inv .flipped, l .loop .inv .within, l .before .before .before .before .before .before .before .good .1 .1 .0 .1)
 
 sub-left : tie.Need-sub-left Inv-loop μ-loop
-sub-left c =
-    let m = c .before .before .before .before .before .before .before .before in
-    omega (arith, m .before .before .before .before .before .before .before .loop-test .taken)
+sub-left c = omega (arith, c .before .before .before .before .before .before .before .before .before .before .before .before .before .before .before .before .loop-test .taken)
 
 loop-less : tie.Need-loop-less Inv-loop μ-loop
-loop-less c =
-    let m = c .before .before .before .before .before .before .before .before in
-    omega (arith, m .before .before .before .before .before .before .before .loop-test .taken)
+loop-less c = omega (arith, c .before .before .before .before .before .before .before .before .before .before .before .before .before .before .before .before .loop-test .taken)
 
 loop-again : tie.Need-loop-again Inv-loop μ-loop
 loop-again c =
-    let a = c .before .before .before .before .before .before .before in
-    let m = a .before in
-    let t = m .before .before .before .before in
+    let t = c .before .before .before .before .before .before .before .before .before .before .before .before .before in
     let l = t .before .before .before .before in
-    flips-more (l .loop .inv) (omega (arith, t .before .before .before .loop-test .taken)) (λ e. t .if1 .left (t .before .word .ensures ∙ e)) (m .make-move .ensures) (c .if2 .left)
-    (sized-on (l .loop .inv .sized) (a .assignment .given) (c .before .before .before .before .before .tallies .given) (c .before .before .before .marks .given))
+    flips-more (l .loop .inv) (omega (arith, t .before .before .before .loop-test .taken)) (λ e. t .if1 .left (t .before .word .ensures ∙ e)) (c .before .before .before .before .before .before .before .before .before .make-move .ensures) (c .before .m .given .1)
+    (sized-on (l .loop .inv .sized) (c .before .before .before .before .before .before .before .before .assignment .given) (c .before .before .before .before .before .before .tallies .given) (c .before .before .before .before .marks .given))
 
 returns-3 : tie.Need-returns-3 Inv-loop μ-loop
 returns-3 c = flips-end (c .before .loop .inv) (omega (arith, c .loop-test .left))
@@ -93,8 +91,10 @@ make-flips-spec =
     returns
     make-move-requires
     (λ c. search needs)
-    (λ c. search needs)
-    (λ c. search needs)
+    (λ c κs. search needs)
+    same-length-4
+    same-length-5
+    same-length-6
     returns-2
     add-made
     sub-left

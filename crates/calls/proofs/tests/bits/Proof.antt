@@ -21,7 +21,10 @@ shared-slice-read-if1 : tie.Need-shared-slice-read-if1 Inv-loop μ-loop
 shared-slice-read-if1 c = search needs
 
 returns : tie.Need-returns Inv-loop μ-loop
-returns c = sym (bits-fail _ _ (c .before .before .before .before .pre) (c .before .before .before .loop .i) (omega arith) (omega arith)) ∙ c .before .before .before .loop .inv .1
+returns c =
+    let at = c .before .before .before in
+    let start = at .before in
+    sym (bits-fail _ _ (start .pre) (at .loop .i) (omega arith) (omega arith)) ∙ at .loop .inv .1
 
 add-i : tie.Need-add-i Inv-loop μ-loop
 add-i c = search needs
@@ -31,7 +34,9 @@ loop-less c = search needs
 
 loop-again : tie.Need-loop-again Inv-loop μ-loop
 loop-again c =
-    (omega arith, sym (bits-step _ _ (c .before .before .before .before .pre) (c .before .before .before .loop .i) (omega arith) (omega arith)) ∙ c .before .before .before .loop .inv .1)
+    let at = c .before .before .before in
+    let start = at .before in
+    (omega arith, sym (bits-step _ _ (start .pre) (at .loop .i) (omega arith) (omega arith)) ∙ at .loop .inv .1)
 
 returns-2 : tie.Need-returns-2 Inv-loop μ-loop
 returns-2 c = sym (bits-end _ _ (c .before .before .pre) (c .before .loop .i) (omega arith)) ∙ c .before .loop .inv .1

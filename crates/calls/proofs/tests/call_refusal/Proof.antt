@@ -21,22 +21,47 @@ fresh-requires c κs = let o = opens _ (sym (c .before .open-refusal .ensures) �
 
 returns-2 : tie.Need-returns-2
 unfolding freshBytes plan
-returns-2 c = call-25 _ _ (sym (c .before .before .before .open-refusal .ensures) ∙ c .before .before .if1 .left) (sym (c .before .fresh .ensures) ∙ not-true _ (c .if2 .taken))
+returns-2 c =
+    let test = c .before .before in
+    let opening = test .before in
+    call-25 _ _ (sym (opening .open-refusal .ensures) ∙ test .if1 .left) (sym (c .before .fresh .ensures) ∙ not-true _ (c .if2 .taken))
 
 returns-3 : tie.Need-returns-3
 unfolding freshBytes plan
-returns-3 c = call-zero _ _ (sym (c .before .before .before .before .open-refusal .ensures) ∙ c .before .before .before .if1 .left) (sym (c .before .before .fresh .ensures) ∙ not-false _ (c .before .if2 .left)) (c .if3 .taken)
+returns-3 c =
+    let fresh = c .before .before in
+    let test = fresh .before in
+    let opening = test .before in
+    call-zero _ _ (sym (opening .open-refusal .ensures) ∙ test .if1 .left) (sym (fresh .fresh .ensures) ∙ not-false _ (c .before .if2 .left))
+    (c .if3 .taken)
 
 word-requires : tie.Need-word-requires
-word-requires c κs = omega (arith, loaded-tables _ (opens _ (sym (c .before .before .before .before .open-refusal .ensures) ∙ c .before .before .before .if1 .left)))
+word-requires c κs =
+    let test = c .before .before .before in
+    let opening = test .before in
+    omega (arith, loaded-tables _ (opens _ (sym (opening .open-refusal .ensures) ∙ test .if1 .left)))
 
 returns-4 : tie.Need-returns-4
 unfolding freshBytes plan
-returns-4 c = call-high _ _ (sym (c .before .before .before .before .before .before .open-refusal .ensures) ∙ c .before .before .before .before .before .if1 .left) (sym (c .before .before .before .before .fresh .ensures) ∙ not-false _ (c .before .before .before .if2 .left)) (c .before .before .if3 .left) (omega (arith, c .before .word .ensures))
+returns-4 c =
+    let test3 = c .before .before in
+    let test2 = test3 .before in
+    let fresh = test2 .before in
+    let test = fresh .before in
+    let opening = test .before in
+    call-high _ _ (sym (opening .open-refusal .ensures) ∙ test .if1 .left) (sym (fresh .fresh .ensures) ∙ not-false _ (test2 .if2 .left))
+    (test3 .if3 .left) (omega (arith, c .before .word .ensures))
 
 returns-5 : tie.Need-returns-5
 unfolding freshBytes plan
-returns-5 c = call-none _ _ (sym (c .before .before .before .before .before .before .open-refusal .ensures) ∙ c .before .before .before .before .before .if1 .left) (sym (c .before .before .before .before .fresh .ensures) ∙ not-false _ (c .before .before .before .if2 .left)) (c .before .before .if3 .left) (omega (arith, c .before .word .ensures))
+returns-5 c =
+    let test3 = c .before .before in
+    let test2 = test3 .before in
+    let fresh = test2 .before in
+    let test = fresh .before in
+    let opening = test .before in
+    call-none _ _ (sym (opening .open-refusal .ensures) ∙ test .if1 .left) (sym (fresh .fresh .ensures) ∙ not-false _ (test2 .if2 .left))
+    (test3 .if3 .left) (omega (arith, c .before .word .ensures))
 
 pub call-refusal-spec : {M : Type 1} → statement M
 call-refusal-spec =

@@ -24,17 +24,32 @@ index-requires : tie.Need-index-requires
 index-requires c κs = omega (arith, large-tables _ (sym (c .before .before .before .too-small .ensures) ∙ c .before .before .if1 .left))
 
 bits-requires : tie.Need-bits-requires
-bits-requires c κs = room-for-bits _ (sym (c .before .before .before .before .too-small .ensures) ∙ c .before .before .before .if1 .left) (sym (c .before .before .good2 .ensures) ∙ not-false _ (c .before .if2 .left)) _ (c .index .ensures)
+bits-requires c κs =
+    let good2 = c .before .before in
+    let test = good2 .before in
+    let too = test .before in
+    room-for-bits _ (sym (too .too-small .ensures) ∙ test .if1 .left) (sym (good2 .good2 .ensures) ∙ not-false _ (c .before .if2 .left)) _
+    (c .index .ensures)
 
 returns-3 : tie.Need-returns-3
 returns-3 c =
-    refused-24 _ (sym (c .before .before .before .before .before .before .too-small .ensures) ∙ c .before .before .before .before .before .if1 .left) (sym (c .before .before .before .before .good2 .ensures) ∙ not-false _ (c .before .before .before .if2 .left)) _ (c .before .before .index .ensures)
-    (sym (c .before .bits .ensures) ∙ not-true _ (c .if3 .taken))
+    let index = c .before .before in
+    let test2 = index .before in
+    let good2 = test2 .before in
+    let test = good2 .before in
+    let too = test .before in
+    refused-24 _ (sym (too .too-small .ensures) ∙ test .if1 .left) (sym (good2 .good2 .ensures) ∙ not-false _ (test2 .if2 .left)) _
+    (index .index .ensures) (sym (c .before .bits .ensures) ∙ not-true _ (c .if3 .taken))
 
 returns-4 : tie.Need-returns-4
 returns-4 c =
-    refused-none _ (sym (c .before .before .before .before .before .before .too-small .ensures) ∙ c .before .before .before .before .before .if1 .left) (sym (c .before .before .before .before .good2 .ensures) ∙ not-false _ (c .before .before .before .if2 .left)) _ (c .before .before .index .ensures)
-    (sym (c .before .bits .ensures) ∙ not-false _ (c .if3 .left))
+    let index = c .before .before in
+    let test2 = index .before in
+    let good2 = test2 .before in
+    let test = good2 .before in
+    let too = test .before in
+    refused-none _ (sym (too .too-small .ensures) ∙ test .if1 .left) (sym (good2 .good2 .ensures) ∙ not-false _ (test2 .if2 .left)) _
+    (index .index .ensures) (sym (c .before .bits .ensures) ∙ not-false _ (c .if3 .left))
 
 pub open-refusal-spec : {M : Type 1} → statement M
 open-refusal-spec =

@@ -2,6 +2,7 @@
 -- Assumes nothing.
 use borrow.Author.Needs.{needs}
 use mathlib.Core.Path.{refl}
+use Rattle.words.proofs.Writes.{copied-whole}
 use Rattle.folder.proofs.Writing.{front-more}
 use native.Mathlib.Omega.{arith}
 use Rattle.folder.proofs.lines.put_word.Statement.{statement}
@@ -10,7 +11,7 @@ use Rattle.folder.proofs.lines.put_word.Tie as tie
 returns : tie.Need-returns
 returns c =
     let start = c .before .before .before .before .before .before in
-    (front-more (start .args .out .now) (start .args .word .now) (start .args .end) (c .before .before .copy .ensures) (omega (arith, start .pre, c .before .before .copy .kept .0)), refl)
+    (front-more (start .args .out .now) (start .args .word .now) (start .args .end) (copied-whole _ _ (c .before .before .copy .ensures)) (omega (arith, start .pre, c .before .before .copy .kept .1)), refl)
 
 pub put-word-spec : {M : Type 1} → statement M
 put-word-spec =

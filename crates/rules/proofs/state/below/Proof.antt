@@ -4,7 +4,7 @@ use borrow.Author.Needs.{needs}
 use Rattle.rules.proofs.state.below.Statement.{statement}
 use Rattle.rules.proofs.state.below.Tie as tie
 use mathlib.Core.Path.{refl}
-use Rattle.plpb.proofs.Normal.{belowSize}
+use Rattle.plpb.specs.Normal.{belowSize}
 
 returns : tie.Need-returns
 unfolding belowSize

@@ -6,7 +6,12 @@ use Rattle.tables.proofs.entries.put_head.Statement.{statement}
 use Rattle.tables.proofs.entries.put_head.Tie as tie
 
 returns : tie.Need-returns
-returns c = c .before .before .put4 .ensures ∙ rw (c .before .before .before .before .before .narrow .ensures, c .before .before .before .before .narrow2 .ensures, c .before .before .before .narrow3 .ensures)
+returns c =
+    let put = c .before .before in
+    let narrow3 = put .before in
+    let narrow2 = narrow3 .before in
+    let narrow = narrow2 .before in
+    put .put4 .ensures ∙ rw (narrow .narrow .ensures, narrow2 .narrow2 .ensures, narrow3 .narrow3 .ensures)
 
 pub put-head-spec : {M : Type 1} → statement M
 put-head-spec =

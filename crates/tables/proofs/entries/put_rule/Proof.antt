@@ -15,7 +15,14 @@ terms-of-requires : tie.Need-terms-of-requires
 terms-of-requires c κs = (here-room _ _ (c .before .before .pre .0), omega (arith, c .before .before .pre .0 .size))
 
 narrow-requires : tie.Need-narrow-requires
-narrow-requires c κs = omega (arith, c .terms-of .ensures, size-small (c .before .before .before .args .file .now) (c .before .before .before .args .at) (λ i. c .before .before .shared-slice-known .given i .fits))
+narrow-requires c κs =
+    let known = c .before .before in
+    let start = known .before in
+    omega (
+      arith,
+      c .terms-of .ensures,
+      size-small (start .args .file .now) (start .args .at) (λ i. known .shared-slice-known .given i .fits),
+    )
 
 add-byte-word : tie.Need-add-byte-word
 add-byte-word c = omega (arith, here-body _ _ (c .before .before .before .before .pre .0))
@@ -36,7 +43,19 @@ read-u32-requires-2 : tie.Need-read-u32-requires-2
 read-u32-requires-2 c κs = omega (arith, here-body _ _ (c .before .before .before .before .before .before .before .pre .0))
 
 returns : tie.Need-returns
-returns c = c .before .before .put5 .ensures ∙ ap (λ (ws : List ℕ). front (wordBytes ws) (c .before .before .before .before .before .before .before .before .before .before .before .before .before .args .out .now)) (rule-words _ _ (c .before .before .before .before .before .before .before .before .before .before .before .before .before .pre .0) _ (c .before .before .before .narrow2 .ensures) (c .before .before .before .before .before .before .before .before .before .narrow .ensures ∙ c .before .before .before .before .before .before .before .before .before .before .terms-of .ensures) (c .before .before .before .before .before .before .before .byte-word .ensures) (c .before .before .before .before .before .before .read-u32 .ensures) (c .before .before .before .before .before .before .read-u32 .ok) (c .before .before .before .before .before .read-u322 .ensures) (c .before .before .before .before .before .read-u322 .ok))
+returns c =
+    let put = c .before .before in
+    let narrow2 = put .before in
+    let read = narrow2 .before .before in
+    let read2 = read .before in
+    let byte = read2 .before in
+    let narrow = byte .before .before in
+    let terms = narrow .before in
+    let start = terms .before .before .before in
+    put .put5 .ensures
+    ∙ ap (λ (ws : List ℕ). front (wordBytes ws) (start .args .out .now))
+    (rule-words _ _ (start .pre .0) _ (narrow2 .narrow2 .ensures) (narrow .narrow .ensures ∙ terms .terms-of .ensures)
+    (byte .byte-word .ensures) (read2 .read-u32 .ensures) (read2 .read-u32 .ok) (read .read-u322 .ensures) (read .read-u322 .ok))
 
 pub put-rule-spec : {M : Type 1} → statement M
 put-rule-spec =

@@ -17,7 +17,11 @@ loop-holds : tie.Need-loop-holds Inv-loop μ-loop
 loop-holds c = written-start _ _ _ _ (c .before .before .pre .0) (c .before .before .pre .1)
 
 loop-again : tie.Need-loop-again Inv-loop μ-loop
-loop-again c = written-more (c .before .before .before .before .before .loop .inv) _ (c .before .before .before .before .loop-test .taken) (c .before .before .put-term .ensures)
+loop-again c =
+    let put = c .before .before in
+    let loop = put .before .before in
+    let at = loop .before in
+    written-more (at .loop .inv) _ (loop .loop-test .taken) (put .put-term .ensures)
 
 pub put-terms-spec : {M : Type 1} → statement M
 put-terms-spec =

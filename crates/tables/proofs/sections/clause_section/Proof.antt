@@ -18,55 +18,83 @@ abbrev μ-loop : tie.MeasureT-loop
 μ-loop file out₀ at₀ clauses₀ first₀ out at clauses first = length file - at
 
 loop-holds : tie.Need-loop-holds Inv-loop μ-loop
-loop-holds c = clause-start _ _ _ _ (begun-file _ _ (c .before .before .before .pre .0)) (c .first-clause .ensures)
+loop-holds c =
+    let start = c .before .before .before in
+    clause-start _ _ _ _ (lawful-file _ _ (start .pre .0)) (start .pre .1) (begun-file _ _ (start .pre .0)) (c .first-clause .ensures)
 
 shared-slice-read-if1 : tie.Need-shared-slice-read-if1 Inv-loop μ-loop
-shared-slice-read-if1 c = omega (arith, clause-room (lawful-file _ _ (c .before .before .before .before .before .pre .0)) (c .before .before .before .before .before .pre .1) (c .before .loop .inv))
+shared-slice-read-if1 c = omega (arith, clause-room (c .before .loop .inv))
 
 add-clause-run : tie.Need-add-clause-run Inv-loop μ-loop
-add-clause-run c = omega (arith, clause-room (lawful-file _ _ (c .before .before .before .before .before .before .pre .0)) (c .before .before .before .before .before .before .pre .1) (c .before .before .loop .inv))
+add-clause-run c = omega (arith, clause-room (c .before .before .loop .inv))
 
 clause-run-requires : tie.Need-clause-run-requires Inv-loop μ-loop
-clause-run-requires c κs = clause-reads (lawful-file _ _ (c .before .before .before .before .before .before .pre .0)) (c .before .before .before .before .before .before .pre .1) (c .before .before .loop .inv) (c .if1 .taken)
+clause-run-requires c κs = clause-reads (c .before .before .loop .inv) (c .if1 .taken)
 
 mul-place : tie.Need-mul-place Inv-loop μ-loop
-mul-place c = omega (arith, clause-few (lawful-file _ _ (c .before .before .before .before .before .before .before .pre .0)) (c .before .before .before .before .before .before .before .pre .1) (c .before .before .before .loop .inv))
+mul-place c = omega (arith, clause-few (c .before .before .before .loop .inv))
 
 sub-put-clause : tie.Need-sub-put-clause Inv-loop μ-loop
-sub-put-clause c = clause-space (lawful-file _ _ (c .before .before .before .before .before .before .before .pre .0)) (c .before .before .before .before .before .before .before .pre .1) (c .before .before .before .loop .inv)
+sub-put-clause c = clause-space (c .before .before .before .loop .inv)
 
 part-put-clause-start : tie.Need-part-put-clause-start Inv-loop μ-loop
-part-put-clause-start c = clause-space (lawful-file _ _ (c .before .before .before .before .before .before .before .pre .0)) (c .before .before .before .before .before .before .before .pre .1) (c .before .before .before .loop .inv)
+part-put-clause-start c = clause-space (c .before .before .before .loop .inv)
 
 put-clause-requires : tie.Need-put-clause-requires Inv-loop μ-loop
-put-clause-requires c κs = let h = clause-rules (lawful-file _ _ (c .before .before .before .before .before .before .before .before .pre .0)) (c .before .before .before .before .before .before .before .before .pre .1) (c .before .before .before .before .loop .inv) (c .before .before .if1 .taken) _ _ (c .before .clause-run .ensures) in (clause-part (lawful-file _ _ (c .before .before .before .before .before .before .before .before .pre .0)) (c .before .before .before .before .before .before .before .before .pre .1) (c .before .before .before .before .loop .inv) (c .before .before .if1 .taken), omega arith, omega arith)
+put-clause-requires c κs =
+    let test = c .before .before in
+    let at = test .before .before in
+    let h = clause-rules (at .loop .inv) (test .if1 .taken) _ _ (c .before .clause-run .ensures) in
+    (clause-part (at .loop .inv) (test .if1 .taken), omega arith, omega arith)
 
 add-first : tie.Need-add-first Inv-loop μ-loop
-add-first c = omega (arith, clause-rules (lawful-file _ _ (c .before .before .before .before .before .before .before .before .before .before .before .pre .0)) (c .before .before .before .before .before .before .before .before .before .before .before .pre .1) (c .before .before .before .before .before .before .before .loop .inv) (c .before .before .before .before .before .if1 .taken) _ _ (c .before .before .before .before .clause-run .ensures))
+add-first c =
+    let run = c .before .before .before .before in
+    let test = run .before in
+    let at = test .before .before in
+    omega (arith, clause-rules (at .loop .inv) (test .if1 .taken) _ _ (run .clause-run .ensures))
 
 add-clauses : tie.Need-add-clauses Inv-loop μ-loop
-add-clauses c = omega (arith, clause-few (lawful-file _ _ (c .before .before .before .before .before .before .before .before .before .before .before .pre .0)) (c .before .before .before .before .before .before .before .before .before .before .before .pre .1) (c .before .before .before .before .before .before .before .loop .inv))
+add-clauses c = omega (arith, clause-few (c .before .before .before .before .before .before .before .loop .inv))
 
 loop-less : tie.Need-loop-less Inv-loop μ-loop
-loop-less c = omega (arith, clause-on (lawful-file _ _ (c .before .before .before .before .before .before .before .before .before .before .before .pre .0)) (c .before .before .before .before .before .before .before .before .before .before .before .pre .1) (c .before .before .before .before .before .before .before .loop .inv) _ _ (c .before .before .before .before .clause-run .ensures), clause-room (lawful-file _ _ (c .before .before .before .before .before .before .before .before .before .before .before .pre .0)) (c .before .before .before .before .before .before .before .before .before .before .before .pre .1) (c .before .before .before .before .before .before .before .loop .inv))
+loop-less c =
+    let run = c .before .before .before .before in
+    let at = run .before .before .before in
+    omega (arith, clause-on (at .loop .inv) _ _ (run .clause-run .ensures), clause-room (at .loop .inv))
 
 loop-again : tie.Need-loop-again Inv-loop μ-loop
-loop-again c = clause-more (lawful-file _ _ (c .before .before .before .before .before .before .before .before .before .before .before .pre .0)) (c .before .before .before .before .before .before .before .before .before .before .before .pre .1) (c .before .before .before .before .before .before .before .loop .inv) (c .before .before .before .before .before .if1 .taken) _ _ _ (c .before .before .before .before .clause-run .ensures) (c .before .before .put-clause .ensures)
+loop-again c =
+    let put = c .before .before in
+    let run = put .before .before in
+    let test = run .before in
+    let at = test .before .before in
+    clause-more (at .loop .inv) (test .if1 .taken) _ _ _ (run .clause-run .ensures) (put .put-clause .ensures)
 
 mul-end : tie.Need-mul-end Inv-loop μ-loop
-mul-end c = omega (arith, clause-few (lawful-file _ _ (c .before .before .before .before .before .before .pre .0)) (c .before .before .before .before .before .before .pre .1) (c .before .before .loop .inv))
+mul-end c = omega (arith, clause-few (c .before .before .loop .inv))
 
 sub-clear : tie.Need-sub-clear Inv-loop μ-loop
-sub-clear c = omega (arith, clause-space (lawful-file _ _ (c .before .before .before .before .before .before .pre .0)) (c .before .before .before .before .before .before .pre .1) (c .before .before .loop .inv), c .before .before .loop .inv .same, c .before .before .before .before .before .before .pre .1)
+sub-clear c =
+    let at = c .before .before in
+    let start = at .before .before .before .before in
+    omega (arith, clause-space (at .loop .inv), at .loop .inv .same, start .pre .1)
 
 part-clear-start : tie.Need-part-clear-start Inv-loop μ-loop
-part-clear-start c = omega (arith, clause-space (lawful-file _ _ (c .before .before .before .before .before .before .pre .0)) (c .before .before .before .before .before .before .pre .1) (c .before .before .loop .inv), c .before .before .loop .inv .same, c .before .before .before .before .before .before .pre .1)
+part-clear-start c =
+    let at = c .before .before in
+    let start = at .before .before .before .before in
+    omega (arith, clause-space (at .loop .inv), at .loop .inv .same, start .pre .1)
 
 same-length : tie.Need-same-length Inv-loop μ-loop
-same-length c = clause-same (lawful-file _ _ (c .before .before .before .before .before .before .before .before .before .before .pre .0)) (c .before .before .before .before .before .before .before .before .before .before .pre .1) (c .before .before .before .before .before .before .loop .inv) _ (c .before .before .clear .ensures)
+same-length c = clause-same (c .before .before .before .before .before .before .loop .inv) _ (c .before .before .clear .ensures)
 
 returns : tie.Need-returns Inv-loop μ-loop
-returns c = (clause-count (lawful-file _ _ (c .before .before .before .before .before .before .before .before .before .before .pre .0)) (c .before .before .before .before .before .before .before .before .before .before .pre .1) (c .before .before .before .before .before .before .loop .inv) (c .before .before .before .before .if1 .left), clause-end (lawful-file _ _ (c .before .before .before .before .before .before .before .before .before .before .pre .0)) (c .before .before .before .before .before .before .before .before .before .before .pre .1) (c .before .before .before .before .before .before .loop .inv) (c .before .before .before .before .if1 .left) _ (c .before .before .clear .ensures))
+returns c =
+    let clear = c .before .before in
+    let test = clear .before .before in
+    let at = test .before .before in
+    (clause-count (at .loop .inv) (test .if1 .left), clause-end (at .loop .inv) (test .if1 .left) _ (clear .clear .ensures))
 
 pub clause-section-spec : {M : Type 1} → statement M
 clause-section-spec =

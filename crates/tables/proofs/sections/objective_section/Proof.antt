@@ -16,10 +16,23 @@ unfolding firstClause
 read-size-requires c κs = omega (arith, begun-room _ _ (c .before .before .before .before .before .before .pre .0))
 
 put-coefficients-requires : tie.Need-put-coefficients-requires
-put-coefficients-requires c κs = let e = c .before .read-size .ensures in (objective-room _ _ (c .before .before .before .before .before .before .before .before .pre .0) _ e, objective-range _ _ (c .before .before .before .before .before .before .before .before .pre .0) _ e, ap length (c .before .before .before .before .clear .ensures) ∙ length-replicate {A = ℕ} _ 0 ∙ c .before .before .before .before .before .before .before .before .pre .1)
+put-coefficients-requires c κs =
+    let clear = c .before .before .before .before in
+    let start = clear .before .before .before .before in
+    let e = c .before .read-size .ensures in (
+      objective-room _ _ (start .pre .0) _ e,
+      objective-range _ _ (start .pre .0) _ e,
+      ap length (clear .clear .ensures) ∙ length-replicate {A = ℕ} _ 0 ∙ start .pre .1,
+    )
 
 returns : tie.Need-returns
-returns c = objective-done _ _ (c .before .before .before .before .before .before .before .before .before .before .before .pre .0) _ (c .before .before .before .before .read-size .ensures) (c .before .before .before .before .before .before .before .before .before .before .before .args .out .now) _ _ (c .before .before .before .before .before .before .before .before .before .before .before .pre .1) (c .before .before .before .before .before .before .before .clear .ensures) (c .before .before .put-coefficients .ensures)
+returns c =
+    let put = c .before .before in
+    let read = put .before .before in
+    let clear = read .before .before .before in
+    let start = clear .before .before .before .before in
+    objective-done _ _ (start .pre .0) _ (read .read-size .ensures) (start .args .out .now) _ _ (start .pre .1) (clear .clear .ensures)
+    (put .put-coefficients .ensures)
 
 pub objective-section-spec : {M : Type 1} → statement M
 objective-section-spec =

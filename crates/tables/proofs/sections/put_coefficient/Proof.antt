@@ -6,7 +6,11 @@ use Rattle.tables.proofs.sections.put_coefficient.Statement.{statement}
 use Rattle.tables.proofs.sections.put_coefficient.Tie as tie
 
 returns : tie.Need-returns
-returns c = c .before .before .write-u32 .ensures ∙ rw (c .before .before .before .before .before .read-size .ensures, c .before .before .before .read-u32 .ensures)
+returns c =
+    let write = c .before .before in
+    let read = write .before in
+    let read2 = read .before .before in
+    write .write-u32 .ensures ∙ rw (read2 .read-size .ensures, read .read-u32 .ensures)
 
 pub put-coefficient-spec : {M : Type 1} → statement M
 put-coefficient-spec =

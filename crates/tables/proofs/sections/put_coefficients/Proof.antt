@@ -17,10 +17,19 @@ loop-holds : tie.Need-loop-holds Inv-loop μ-loop
 loop-holds c = placing-start _ _ _ _ (c .before .before .pre .0) (c .before .before .pre .1) (c .before .before .pre .2)
 
 put-coefficient-requires : tie.Need-put-coefficient-requires Inv-loop μ-loop
-put-coefficient-requires c κs = let h = c .before .before .loop .inv in let (a, b) = place-range h (c .before .loop-test .taken) in (omega (arith, h .room), a, b, h .long)
+put-coefficient-requires c κs =
+    let at = c .before .before in
+    let h = at .loop .inv in
+    let (a, b) = place-range h (c .before .loop-test .taken) in
+    (omega (arith, h .room), a, b, h .long)
 
 loop-again : tie.Need-loop-again Inv-loop μ-loop
-loop-again c = placing-more (c .before .before .before .before .before .loop .inv) (c .before .before .before .before .loop-test .taken) _ (λ i. c .before .before .before .before .before .before .before .shared-slice-known .given i .fits) (c .before .before .put-coefficient .ensures)
+loop-again c =
+    let put = c .before .before in
+    let loop = put .before .before in
+    let at = loop .before in
+    let known = at .before .before in
+    placing-more (at .loop .inv) (loop .loop-test .taken) _ (λ i. known .shared-slice-known .given i .fits) (put .put-coefficient .ensures)
 
 pub put-coefficients-spec : {M : Type 1} → statement M
 put-coefficients-spec =

@@ -7,7 +7,7 @@ use native.Mathlib.Omega.{arith}
 use mathlib.Core.Path.{sym, _∙_}
 use lib.ListN.{length}
 use Rattle.tables.specs.Places.{planOfFile}
-use Rattle.tables.proofs.Judged.{tag-byte}
+use Rattle.judge.proofs.Judged.{tag-byte}
 use Rattle.tables.proofs.Entered.{here-room}
 use Rattle.tables.proofs.Found.{begun-file, begun-room, rules-room, behind-room, rules-on}
 use Rattle.tables.proofs.Filled.{TermFill, lawful-file, term-start, term-space, term-here, term-file, term-more-space, term-part, term-same, term-more, term-end}
@@ -21,49 +21,78 @@ abbrev μ-loop : tie.MeasureT-loop
 μ-loop file terms₀ at₀ end₀ terms at end = length file - at
 
 loop-holds : tie.Need-loop-holds Inv-loop μ-loop
-loop-holds c = term-start _ _ _ _ (begun-file _ _ (c .before .before .before .pre .0)) (c .first-rule .ensures)
+loop-holds c =
+    let start = c .before .before .before in
+    term-start _ _ _ _ (lawful-file _ _ (start .pre .0)) (start .pre .1) (begun-file _ _ (start .pre .0)) (c .first-rule .ensures)
 
 terms-of-requires : tie.Need-terms-of-requires Inv-loop μ-loop
-terms-of-requires c κs = let h = term-here (lawful-file _ _ (c .before .before .before .before .before .before .pre .0)) (c .before .before .before .before .before .before .pre .1) (c .before .before .loop .inv) (c .if1 .taken) in (here-room _ _ h, omega (arith, h .size))
+terms-of-requires c κs = let h = term-here (c .before .before .loop .inv) (c .if1 .taken) in (here-room _ _ h, omega (arith, h .size))
 
 add-put-terms : tie.Need-add-put-terms Inv-loop μ-loop
-add-put-terms c = omega (arith, term-file (lawful-file _ _ (c .before .before .before .before .before .before .before .pre .0)) (c .before .before .before .before .before .before .before .pre .1) (c .before .before .before .loop .inv) (c .before .if1 .taken))
+add-put-terms c = omega (arith, term-file (c .before .before .before .loop .inv) (c .before .if1 .taken))
 
 sub-put-terms : tie.Need-sub-put-terms Inv-loop μ-loop
-sub-put-terms c = term-space (lawful-file _ _ (c .before .before .before .before .before .before .before .pre .0)) (c .before .before .before .before .before .before .before .pre .1) (c .before .before .before .loop .inv)
+sub-put-terms c = term-space (c .before .before .before .loop .inv)
 
 part-put-terms-start : tie.Need-part-put-terms-start Inv-loop μ-loop
-part-put-terms-start c = term-space (lawful-file _ _ (c .before .before .before .before .before .before .before .pre .0)) (c .before .before .before .before .before .before .before .pre .1) (c .before .before .before .loop .inv)
+part-put-terms-start c = term-space (c .before .before .before .loop .inv)
 
 put-terms-requires : tie.Need-put-terms-requires Inv-loop μ-loop
-put-terms-requires c κs = (omega (arith, c .before .terms-of .ensures, term-file (lawful-file _ _ (c .before .before .before .before .before .before .before .before .pre .0)) (c .before .before .before .before .before .before .before .before .pre .1) (c .before .before .before .before .loop .inv) (c .before .before .if1 .taken)), omega (arith, c .before .terms-of .ensures, term-part (lawful-file _ _ (c .before .before .before .before .before .before .before .before .pre .0)) (c .before .before .before .before .before .before .before .before .pre .1) (c .before .before .before .before .loop .inv) (c .before .before .if1 .taken)))
+put-terms-requires c κs =
+    let test = c .before .before in
+    let at = test .before .before in (
+      omega (arith, c .before .terms-of .ensures, term-file (at .loop .inv) (test .if1 .taken)),
+      omega (arith, c .before .terms-of .ensures, term-part (at .loop .inv) (test .if1 .taken)),
+    )
 
 mul-end : tie.Need-mul-end Inv-loop μ-loop
-mul-end c = omega (arith, c .before .before .before .before .terms-of .ensures, term-more-space (lawful-file _ _ (c .before .before .before .before .before .before .before .before .before .before .before .pre .0)) (c .before .before .before .before .before .before .before .before .before .before .before .pre .1) (c .before .before .before .before .before .before .before .loop .inv) (c .before .before .before .before .before .if1 .taken))
+mul-end c =
+    let terms = c .before .before .before .before in
+    let test = terms .before in
+    let at = test .before .before in
+    omega (arith, terms .terms-of .ensures, term-more-space (at .loop .inv) (test .if1 .taken))
 
 add-end : tie.Need-add-end Inv-loop μ-loop
-add-end c = omega (arith, c .before .before .before .before .terms-of .ensures, term-more-space (lawful-file _ _ (c .before .before .before .before .before .before .before .before .before .before .before .pre .0)) (c .before .before .before .before .before .before .before .before .before .before .before .pre .1) (c .before .before .before .before .before .before .before .loop .inv) (c .before .before .before .before .before .if1 .taken))
+add-end c =
+    let terms = c .before .before .before .before in
+    let test = terms .before in
+    let at = test .before .before in
+    omega (arith, terms .terms-of .ensures, term-more-space (at .loop .inv) (test .if1 .taken))
 
 next-rule-requires : tie.Need-next-rule-requires Inv-loop μ-loop
-next-rule-requires c κs = behind-room (c .before .before .before .before .before .before .before .loop .inv .left) (sym (tag-byte _ _) ∙ c .before .before .before .before .before .if1 .taken)
+next-rule-requires c κs =
+    let test = c .before .before .before .before .before in
+    let at = test .before .before in
+    behind-room (at .loop .inv .left) (sym (tag-byte _ _) ∙ test .if1 .taken)
 
 loop-less : tie.Need-loop-less Inv-loop μ-loop
-loop-less c = omega (arith, c .next-rule .ensures, rules-on (c .before .before .before .before .before .before .before .before .loop .inv .left), rules-room (c .before .before .before .before .before .before .before .before .loop .inv .left))
+loop-less c =
+    let at = c .before .before .before .before .before .before .before .before in
+    omega (arith, c .next-rule .ensures, rules-on (at .loop .inv .left), rules-room (at .loop .inv .left))
 
 loop-again : tie.Need-loop-again Inv-loop μ-loop
-loop-again c = term-more (lawful-file _ _ (c .before .before .before .before .before .before .before .before .before .before .before .before .pre .0)) (c .before .before .before .before .before .before .before .before .before .before .before .before .pre .1) (c .before .before .before .before .before .before .before .before .loop .inv) (c .before .before .before .before .before .before .if1 .taken) _ _ _ (c .next-rule .ensures) (c .before .before .before .before .before .terms-of .ensures) (c .before .before .before .put-terms .ensures)
+loop-again c =
+    let put = c .before .before .before in
+    let terms = put .before .before in
+    let test = terms .before in
+    let at = test .before .before in
+    term-more (at .loop .inv) (test .if1 .taken) _ _ _ (c .next-rule .ensures) (terms .terms-of .ensures) (put .put-terms .ensures)
 
 sub-clear : tie.Need-sub-clear Inv-loop μ-loop
-sub-clear c = term-space (lawful-file _ _ (c .before .before .before .before .before .before .pre .0)) (c .before .before .before .before .before .before .pre .1) (c .before .before .loop .inv)
+sub-clear c = term-space (c .before .before .loop .inv)
 
 part-clear-start : tie.Need-part-clear-start Inv-loop μ-loop
-part-clear-start c = term-space (lawful-file _ _ (c .before .before .before .before .before .before .pre .0)) (c .before .before .before .before .before .before .pre .1) (c .before .before .loop .inv)
+part-clear-start c = term-space (c .before .before .loop .inv)
 
 same-length : tie.Need-same-length Inv-loop μ-loop
-same-length c = term-same (lawful-file _ _ (c .before .before .before .before .before .before .before .before .before .before .pre .0)) (c .before .before .before .before .before .before .before .before .before .before .pre .1) (c .before .before .before .before .before .before .loop .inv) _ (c .before .before .clear .ensures)
+same-length c = term-same (c .before .before .before .before .before .before .loop .inv) _ (c .before .before .clear .ensures)
 
 returns : tie.Need-returns Inv-loop μ-loop
-returns c = term-end (lawful-file _ _ (c .before .before .before .before .before .before .before .before .before .before .pre .0)) (c .before .before .before .before .before .before .before .before .before .before .pre .1) (c .before .before .before .before .before .before .loop .inv) (c .before .before .before .before .if1 .left) _ (c .before .before .clear .ensures)
+returns c =
+    let clear = c .before .before in
+    let test = clear .before .before in
+    let at = test .before .before in
+    term-end (at .loop .inv) (test .if1 .left) _ (clear .clear .ensures)
 
 pub term-section-spec : {M : Type 1} → statement M
 term-section-spec =

@@ -6,7 +6,8 @@ use native.Mathlib.Omega.{arith}
 use mathlib.Core.Path.{refl}
 use Rattle.tallies.proofs.Laid.{run-readable, rules-inside, rules-few, clauses-few}
 use Rattle.tallies.proofs.Recounting.{RulesDone, rules-start}
-use Rattle.tallies.proofs.Testing.{not-decides, check-step, check-stop, check-end}
+use Rattle.words.proofs.Tests.{not-decides}
+use Rattle.tallies.proofs.Testing.{check-step, check-stop, check-end}
 use Rattle.tallies.proofs.fresh.clause_fresh.Statement.{statement}
 use Rattle.tallies.proofs.fresh.clause_fresh.Tie as tie
 

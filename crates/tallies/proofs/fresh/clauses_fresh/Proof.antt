@@ -7,7 +7,8 @@ use native.Mathlib.Omega.{arith}
 use mathlib.Core.Path.{refl}
 use Rattle.tallies.proofs.Laid.{tables-long, clauses-few}
 use Rattle.tallies.proofs.Recounting.{ClausesDone, clauses-start, clauses-step}
-use Rattle.tallies.proofs.Testing.{not-decides, fresh-clause, whole-end}
+use Rattle.words.proofs.Tests.{not-decides}
+use Rattle.tallies.proofs.Testing.{fresh-clause, whole-end}
 use Rattle.tallies.proofs.fresh.clauses_fresh.Statement.{statement}
 use Rattle.tallies.proofs.fresh.clauses_fresh.Tie as tie
 

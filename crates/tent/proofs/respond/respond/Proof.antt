@@ -10,7 +10,7 @@ returns : tie.Need-returns
 returns c =
     let y = c .before .before .before .before .before in
     let a = y .before .before .before .before .before .before .before .args in
-    written (a .out .now) (c .before .before .refusal-line .ensures) (output-long (a .plan .now) (a .walk .now) (a .numbers .now) (y .any-too-long .ensures) (c .before .before .before .before .if1 .taken))
+    written (a .out .now) (c .before .before .refusal-line .ensures) (output-long (a .more) (a .plan .now) (a .walk .now) (a .numbers .now) (y .any-too-long .ensures) (c .before .before .before .before .if1 .taken))
 
 respond-loaded-requires : tie.Need-respond-loaded-requires
 respond-loaded-requires c κs =
@@ -31,7 +31,7 @@ returns-2 c =
     let a = at .args in
     written (a .out .now) (c .before .before .refusal-line2 .ensures)
     (plan-refused (a .plan .now) (a .tables .now) (a .terms .now) (at .pre .0) (at .pre .1) (l .load .ensures .0) (a .walk .now) (a .numbers .now) (c .before .before .before .before .before .a .given .1)
-    ∙ output-read (a .plan .now) (a .walk .now) (a .numbers .now) (y .any-too-long .ensures) (l .before .before .before .if1 .left))
+    ∙ output-read (a .more) (a .plan .now) (a .walk .now) (a .numbers .now) (y .any-too-long .ensures) (l .before .before .before .if1 .left))
 
 returns-3 : tie.Need-returns-3
 returns-3 c =
@@ -42,7 +42,7 @@ returns-3 c =
     let e = l .load .ensures in
     written (a .out .now) (c .before .before .respond-loaded .ensures)
     (plan-accepted (a .plan .now) (a .tables .now) (a .terms .now) (at .pre .0) (at .pre .1) (e .0) (c .before .before .before .before .before .before .enum-told .given .1) (e .1 .0) (e .1 .1) (a .walk .now) (a .numbers .now)
-    ∙ output-read (a .plan .now) (a .walk .now) (a .numbers .now) (y .any-too-long .ensures) (l .before .before .before .if1 .left))
+    ∙ output-read (a .more) (a .plan .now) (a .walk .now) (a .numbers .now) (y .any-too-long .ensures) (l .before .before .before .if1 .left))
 
 pub respond-spec : {M : Type 1} → statement M
 respond-spec =

@@ -18,7 +18,7 @@ returns c =
     let m = c .before .before .before .before .before in
     let s = m .before .before .before .before .before .before .search in
     let at = m .before .before .before .before .before .before .before .before .before .before .before .before .before .before .before .before .before in
-    let k = s .kept .1 .1 .1 .1 .1 .1 .1 in
+    let k = s .kept .1 .1 .1 .1 in
     written (at .args .out .now) (c .before .before .write-answer .ensures)
     (search-written _ _ _ _ (s .ensures .0) (at .pre .0) (at .pre .1) (at .pre .2) (at .pre .3)
     (k .0)

@@ -1,0 +1,72 @@
+-- The test of tables for refusal 22, by their words: f gives those of the table and g those of the terms. It is a few loops over indices, each the loop
+-- that code runs, and is proved to hold of the tables that an accepted loading leaves and of no others (proofs/IsLoaded.antt).
+-- Assumes nothing.
+use Prim.Native.Nat.{ℕ, zero, suc, _+_, _*_, _-_}
+use mathlib.Core.Bool.{Bool, true}
+use lib.Dec.{leb, ltb, eqb}
+use lib.IntN.{natAbs}
+use Rattle.plpb.specs.Lists.{_and_}
+use Rattle.words.specs.Words.{signed}
+use Rattle.format.specs.Limits.{maxVariables, maxClauses, maxRules, maxTerms, maxWeight, weightLawful}
+use Rattle.format.specs.File.{boundsLawful}
+use Rattle.format.specs.Layout.{clauseCountAt, clauseFirstAt, clauseWordCount, clausesAt, objectiveAt, ruleCountAt, ruleFirstAt, ruleLowerAt, ruleModeAt, ruleUpperAt, ruleWordCount, rulesAt, termWordCount}
+
+-- A test holds at i, i + 1, .., k places in all.
+unfoldable pub everyFrom : (ℕ → Bool) → ℕ → ℕ → Bool
+everyFrom p i zero = true
+everyFrom p i (suc k) = p i and everyFrom p (suc i) k
+
+-- The k words from i on are 0.
+unfoldable pub zerosFrom : (ℕ → ℕ) → ℕ → ℕ → Bool
+zerosFrom f i k = everyFrom (λ j. eqb (f j) 0) i k
+
+-- Entry i of a chain: its first place is where the one before it ended, and of the places up to e it takes one at least.
+unfoldable pub linkGood : (ℕ → ℕ) → (ℕ → ℕ) → ℕ → ℕ → ℕ → Bool
+linkGood first count e at i = eqb (first i) at and leb 1 (count i) and leb (count i) (e - at)
+
+-- A chain of k entries from entry i on, of which the last ends at e.
+unfoldable pub chainFrom : (ℕ → ℕ) → (ℕ → ℕ) → ℕ → ℕ → ℕ → ℕ → Bool
+chainFrom first count e at i zero = eqb at e
+chainFrom first count e at i (suc k) = linkGood first count e at i and chainFrom first count e (at + count i) (suc i) k
+
+-- Term i: its number above v and at most n, its weight lawful.
+unfoldable pub termGood : (ℕ → ℕ) → ℕ → ℕ → ℕ → Bool
+termGood g n v i = ltb v (g (2 * i)) and leb (g (2 * i)) n and weightLawful (signed (g (2 * i + 1)))
+
+-- Terms k in number from term i on, of which the numbers rise strictly from above v.
+unfoldable pub termsFrom : (ℕ → ℕ) → ℕ → ℕ → ℕ → ℕ → Bool
+termsFrom g n v i zero = true
+termsFrom g n v i (suc k) = termGood g n v i and termsFrom g n (g (2 * i)) (suc i) k
+
+-- The counts of the table within the limits.
+unfoldable pub countsGood : (ℕ → ℕ) → Bool
+countsGood f = leb 1 (f 0) and leb (f 0) maxVariables and leb (f 1) maxClauses and leb (f 2) maxRules and leb (f 3) maxTerms
+
+-- The objective: 0 or a lawful coefficient for each variable, 0 beyond the last.
+unfoldable pub coefficientGood : (ℕ → ℕ) → ℕ → Bool
+coefficientGood f x = leb (natAbs (signed (f (objectiveAt x)))) maxWeight
+
+unfoldable pub objectiveGood : (ℕ → ℕ) → Bool
+objectiveGood f = everyFrom (coefficientGood f) 1 (f 0) and zerosFrom f (4 + f 0) (512 - f 0)
+
+-- The clauses share out the rules in order; unused entries 0.
+unfoldable pub clausesGood : (ℕ → ℕ) → Bool
+clausesGood f =
+    chainFrom (λ c. f (clauseFirstAt c)) (λ c. f (clauseCountAt c)) (f 2) 0 0 (f 1) and zerosFrom f (clausesAt + 2 * f 1) (clauseWordCount - 2 * f 1)
+
+-- The rules share out the terms in order; unused entries 0.
+unfoldable pub rulesGood : (ℕ → ℕ) → Bool
+rulesGood f =
+    chainFrom (λ r. f (ruleFirstAt r)) (λ r. f (ruleCountAt r)) (f 3) 0 0 (f 2) and zerosFrom f (rulesAt + 5 * f 2) (ruleWordCount - 5 * f 2)
+
+-- A rule's mode, bounds and terms.
+unfoldable pub ruleGood : (ℕ → ℕ) → (ℕ → ℕ) → ℕ → Bool
+ruleGood f g r =
+    boundsLawful (f (ruleModeAt r)) (signed (f (ruleLowerAt r))) (signed (f (ruleUpperAt r)))
+    and termsFrom g (f 0) 0 (f (ruleFirstAt r)) (f (ruleCountAt r))
+
+-- Whether two tables, as words, are those of a lawful plan.
+unfoldable pub goodBy : (ℕ → ℕ) → (ℕ → ℕ) → Bool
+goodBy f g =
+    countsGood f and objectiveGood f and clausesGood f and rulesGood f and everyFrom (ruleGood f g) 0 (f 2)
+    and zerosFrom g (2 * f 3) (termWordCount - 2 * f 3)

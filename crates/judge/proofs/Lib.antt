@@ -1,0 +1,4 @@
+-- What holds of the code's answers beside the definitions of the file.
+pub mod Judged
+pub mod TermLaws
+pub mod Stepped

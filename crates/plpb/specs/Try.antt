@@ -1,0 +1,18 @@
+-- What a try has come to, from its start on (document 01, "The walk").
+-- Assumes nothing.
+use Prim.Native.Nat.{ℕ}
+use mathlib.Core.List.{List}
+use Rattle.plpb.specs.Plan.{Plan, Assignment, flip}
+use Rattle.plpb.specs.Numbers.{startOf}
+
+-- The assignment that a try holds.
+pub record Try : Type 0 where
+  pub bits : Assignment
+
+-- "for each try, take ⌈n/32⌉ numbers; variable i gets bit (i−1) mod 32 .."
+unfoldable pub begun : Plan → List ℕ → Try
+begun p ws = record { bits = startOf (p .variables) ws }
+
+-- A try after a flip.
+unfoldable pub turnOver : Try → ℕ → Try
+turnOver t x = record { bits = flip (t .bits) x }

@@ -1,0 +1,120 @@
+-- The search as a definition on what is lent: the refusal, the answer and the bytes left (document 01, "Who can cause which refusal" and "The walk").
+-- Assumes nothing.
+use Prim.Native.Nat.{ℕ}
+use mathlib.Core.Path.{_≡_}
+use mathlib.Core.Bool.{Bool, not, cond}
+use mathlib.Core.List.{List, _++_}
+use lib.Dec.{T, ltb, eqb}
+use lib.IntN.{pos}
+use lib.ListN.{length, drop, replicate}
+use Rattle.plpb.specs.Lists.{_or_}
+use Rattle.plpb.specs.Plan.{satisfies, cost}
+use Rattle.plpb.specs.Search.{Ending, floor, ended, none, short-found, short-none, Answer, search}
+use Rattle.format.specs.File.{refuse}
+use Rattle.format.specs.Tables.{tableSize, termSize, planOfTables, isLoaded}
+use Rattle.format.specs.Layout.{markSize, tallySize}
+use Rattle.format.specs.Assignment.{assignmentSize, bitsOf}
+use Rattle.tries.specs.Steps.{Work}
+use Rattle.walk.specs.Whole.{withFind}
+use Rattle.numbers.specs.Numbers.{numbersOf}
+use Rattle.settings.specs.declared.Settings.{Settings as Asked}
+use Rattle.settings.specs.Settings.{settingsRefusal, settingsOf}
+use Rattle.search.specs.declared.Answer.{Answer as Answered}
+
+-- What the host program lends: the plan's tables, the list of numbers, the assignment, and the work tables: those of the plan with one clause
+-- more, an assignment, its tallies, and what the choice marks of each variable.
+pub record Lent : Type 0 where
+  pub tables : List ℕ
+  pub terms : List ℕ
+  pub numbers : List ℕ
+  pub assignment : List ℕ
+  pub workTables : List ℕ
+  pub workTerms : List ℕ
+  pub workAssignment : List ℕ
+  pub workTallies : List ℕ
+  pub workMarks : List ℕ
+
+abbrev pub lentAll : (tables terms numbers assignment workTables workTerms workAssignment workTallies workMarks : List ℕ) → Lent
+lentAll tables terms numbers assignment workTables workTerms workAssignment workTallies workMarks =
+    record {
+      tables = tables;
+      terms = terms;
+      numbers = numbers;
+      assignment = assignment;
+      workTables = workTables;
+      workTerms = workTerms;
+      workAssignment = workAssignment;
+      workTallies = workTallies;
+      workMarks = workMarks;
+    }
+
+unfoldable pub tooSmall : Lent → Bool
+tooSmall l =
+    ltb (length (l .tables)) tableSize or ltb (length (l .terms)) termSize or ltb (length (l .assignment)) assignmentSize
+    or ltb (length (l .workTables)) tableSize or ltb (length (l .workTerms)) termSize or ltb (length (l .workAssignment)) assignmentSize
+    or ltb (length (l .workTallies)) tallySize or ltb (length (l .workMarks)) markSize
+
+-- Whether three tables have less room than the full limits need, and whether the work tables do.
+unfoldable pub tablesSmall : List ℕ → List ℕ → List ℕ → Bool
+tablesSmall tables terms assignment =
+    ltb (length tables) tableSize or ltb (length terms) termSize or ltb (length assignment) assignmentSize
+
+unfoldable pub workSmall : List ℕ → List ℕ → Work → Bool
+workSmall tables terms w =
+    tablesSmall tables terms (w .assignment) or ltb (length (w .tallies)) tallySize or ltb (length (w .marks)) markSize
+
+-- "Search: 21, 22, 11, 12, 13, 14."
+unfoldable pub searchRefusal : Lent → Asked → ℕ
+searchRefusal l k = refuse (tooSmall l) 21 (refuse (not (isLoaded (l .tables) (l .terms))) 22 (settingsRefusal k))
+
+-- What a search that is not refused answers.
+unfoldable pub answer : Lent → Asked → Answer
+answer l k = search (settingsOf k) (planOfTables (l .tables) (l .terms)) (numbersOf (l .numbers))
+
+unfoldable pub searchAssignment : Lent → Asked → List ℕ
+searchAssignment l k =
+    cond (eqb (searchRefusal l k) 0)
+    (withFind (answer l k .assignment) (planOfTables (l .tables) (l .terms) .variables) (l .assignment))
+    (l .assignment)
+
+-- "The work tables end filled with 0.", and are as they were past the full limits, and with a refusal.
+unfoldable pub cleared : Lent → Asked → ℕ → List ℕ → List ℕ
+cleared l k size bytes = cond (eqb (searchRefusal l k) 0) (replicate size 0 ++ drop size bytes) bytes
+
+-- The endings by number; 0 stands for a search that was refused.
+unfoldable pub endingNumber : Ending → ℕ
+endingNumber floor = 1
+endingNumber ended = 2
+endingNumber none = 3
+endingNumber short-found = 4
+endingNumber short-none = 5
+
+-- What is answered where nothing is refused, and what else.
+unfoldable pub unless : {A : Type 0} → Lent → Asked → A → A → A
+unless l k refused answered = cond (eqb (searchRefusal l k) 0) answered refused
+
+-- A search of what is lent and set gives this answer, and leaves this of what was lent.
+pub record Searches (l : Lent) (k : Asked) (r : Answered) (left : Lent) : Type 0 where
+  pub refusal : r .refusal ≡ searchRefusal l k
+  pub ending : r .ending ≡ unless l k 0 (endingNumber (answer l k .ending))
+  pub cost : r .cost ≡ unless l k (pos 0) (answer l k .cost)
+  pub finds : r .finds ≡ unless l k 0 (answer l k .finds)
+  pub flips : r .flips ≡ unless l k 0 (answer l k .flips)
+  pub used : r .used ≡ unless l k 0 (answer l k .used)
+  pub assignment : left .assignment ≡ searchAssignment l k
+  pub workTables : left .workTables ≡ cleared l k tableSize (l .workTables)
+  pub workTerms : left .workTerms ≡ cleared l k termSize (l .workTerms)
+  pub workAssignment : left .workAssignment ≡ cleared l k assignmentSize (l .workAssignment)
+  pub workTallies : left .workTallies ≡ cleared l k tallySize (l .workTallies)
+  pub workMarks : left .workMarks ≡ cleared l k markSize (l .workMarks)
+
+-- Whether an ending, by its number, comes with a plan.
+unfoldable pub hasPlan : ℕ → Bool
+hasPlan e = eqb e 1 or eqb e 2 or eqb e 4
+
+-- What a crew relies on: "A plan handed out satisfies every clause", and the cost is its cost.
+unfoldable pub HandsOut : Lent → Answered → List ℕ → Type 0
+HandsOut l r assignment =
+    let p = planOfTables (l .tables) (l .terms) in
+    let a = bitsOf (p .variables) assignment in
+    T (hasPlan (r .ending)) → T (satisfies a p) × (r .cost ≡ cost p a)

@@ -1,0 +1,35 @@
+-- "Places past the full limits are neither read nor written." (document 01, "Who can cause which refusal"): what is lent to a search may differ there,
+-- and neither its answer nor a byte within the limits tells of it.
+-- Assumes nothing.
+use mathlib.Core.Path.{_≡_}
+use Rattle.words.specs.Writes.{SameWithin}
+use Rattle.format.specs.Layout.{tableSize, termSize, tallySize, markSize}
+use Rattle.format.specs.Assignment.{assignmentSize}
+use Rattle.settings.specs.declared.Settings.{Settings as Asked}
+use Rattle.search.specs.Calls.{Lent, searchRefusal, answer, searchAssignment, cleared}
+
+-- What is lent is the same within the full limits. The list of numbers has none.
+pub record SameLent (l m : Lent) : Type 0 where
+  pub tables : SameWithin tableSize (l .tables) (m .tables)
+  pub terms : SameWithin termSize (l .terms) (m .terms)
+  pub numbers : l .numbers ≡ m .numbers
+  pub assignment : SameWithin assignmentSize (l .assignment) (m .assignment)
+  pub workTables : SameWithin tableSize (l .workTables) (m .workTables)
+  pub workTerms : SameWithin termSize (l .workTerms) (m .workTerms)
+  pub workAssignment : SameWithin assignmentSize (l .workAssignment) (m .workAssignment)
+  pub workTallies : SameWithin tallySize (l .workTallies) (m .workTallies)
+  pub workMarks : SameWithin markSize (l .workMarks) (m .workMarks)
+
+-- So are the refusal, the answer where there is none, and what is left.
+pub record SameSearch (l m : Lent) (k : Asked) : Type 0 where
+  pub refusal : searchRefusal l k ≡ searchRefusal m k
+  pub answers : searchRefusal l k ≡ 0 → answer l k ≡ answer m k
+  pub assignment : SameWithin assignmentSize (searchAssignment l k) (searchAssignment m k)
+  pub workTables : SameWithin tableSize (cleared l k tableSize (l .workTables)) (cleared m k tableSize (m .workTables))
+  pub workTerms : SameWithin termSize (cleared l k termSize (l .workTerms)) (cleared m k termSize (m .workTerms))
+  pub workAssignment : SameWithin assignmentSize (cleared l k assignmentSize (l .workAssignment)) (cleared m k assignmentSize (m .workAssignment))
+  pub workTallies : SameWithin tallySize (cleared l k tallySize (l .workTallies)) (cleared m k tallySize (m .workTallies))
+  pub workMarks : SameWithin markSize (cleared l k markSize (l .workMarks)) (cleared m k markSize (m .workMarks))
+
+abbrev pub SearchesWithin : Type 0
+SearchesWithin = (l m : Lent) (k : Asked) → SameLent l m → SameSearch l m k

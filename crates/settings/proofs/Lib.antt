@@ -1,0 +1,2 @@
+-- Laws of the test of settings.
+mod Refusing
