@@ -1,7 +1,9 @@
-// One capped binomial and one capped difference: the proved functions beside the same in C, in one run.
+// One capped binomial and one capped difference: the proved functions beside the same in C, in one run:
+//     counting ROUNDS     the best of so many rounds
 #include <stdbool.h>
 #include <stdint.h>
 #include <stdio.h>
+#include <stdlib.h>
 #include <time.h>
 
 uint32_t probe_binomial(uint64_t m, uint64_t k);
@@ -46,45 +48,54 @@ static double now(void) {
     return t.tv_sec + t.tv_nsec / 1e9;
 }
 
-enum { CASES = 4096, ROUNDS = 600 };
+enum { CASES = 4096, TIMES = 600 };
 static uint32_t ms[CASES], ws[CASES];
 static uint64_t ks[CASES];
 static volatile uint32_t sink;
 
-static double best(bool proved, bool differences) {
+static uint32_t one(bool proved, bool difference, int i) {
+    if (difference) return proved ? probe_difference(ms[i], ws[i], ks[i]) : plain_difference(ms[i], ws[i], ks[i]);
+    return proved ? probe_binomial(ms[i], ks[i]) : plain_binomial(ms[i], ks[i]);
+}
+
+// Nanoseconds a call, the best of some rounds.
+static double best(bool proved, bool difference, long rounds) {
     double least = 1e9;
-    for (int repeat = 0; repeat < 7; repeat++) {
+    for (long round = 0; round < rounds; round++) {
         double begin = now();
         uint32_t sum = 0;
-        for (int round = 0; round < ROUNDS; round++)
-            for (int i = 0; i < CASES; i++)
-                sum += differences ? (proved ? probe_difference(ms[i], ws[i], ks[i]) : plain_difference(ms[i], ws[i], ks[i]))
-                                   : (proved ? probe_binomial(ms[i], ks[i]) : plain_binomial(ms[i], ks[i]));
+        for (int time = 0; time < TIMES; time++) {
+            for (int i = 0; i < CASES; i++) sum += one(proved, difference, i);
+        }
         double taken = now() - begin;
         sink = sum;
         if (taken < least) least = taken;
     }
-    return least / ROUNDS / CASES * 1e9;
+    return least / TIMES / CASES * 1e9;
 }
 
-static void compare(const char *what, uint32_t most, uint32_t weight, uint64_t choice) {
+// Whether the two agree on every case; if so, what each takes.
+static bool compare(const char *what, uint32_t most, uint32_t weight, uint64_t choice, long rounds) {
     for (int i = 0; i < CASES; i++) {
-        ms[i] = draw() % most;
-        ws[i] = 1 + draw() % weight;
+        ms[i] = (uint32_t)(draw() % most);
+        ws[i] = (uint32_t)(1 + draw() % weight);
         ks[i] = draw() % choice;
-        if (probe_binomial(ms[i], ks[i]) != plain_binomial(ms[i], ks[i])) printf("binomials differ at %u %lu\n", ms[i], ks[i]);
-        if (probe_difference(ms[i], ws[i], ks[i]) != plain_difference(ms[i], ws[i], ks[i])) printf("differences differ at %u %u %lu\n", ms[i], ws[i], ks[i]);
+        if (one(true, false, i) != one(false, false, i) || one(true, true, i) != one(false, true, i)) {
+            printf("the two differ at %u %u %lu\n", ms[i], ws[i], (unsigned long)ks[i]);
+            return false;
+        }
     }
-    double c = best(false, false), r = best(true, false);
-    printf("| binomial, %s | %.1f | %.1f | %.2f |\n", what, r, c, r / c);
-    c = best(false, true), r = best(true, true);
-    printf("| difference, %s | %.1f | %.1f | %.2f |\n", what, r, c, r / c);
+    for (int difference = 0; difference < 2; difference++) {
+        double c = best(false, difference, rounds), r = best(true, difference, rounds);
+        printf("| %s, %s | %.1f | %.1f | %.2f |\n", difference ? "difference" : "binomial", what, r, c, r / c);
+    }
+    return true;
 }
 
-int main(void) {
+int main(int count, char **words) {
+    long rounds = count > 1 ? strtol(words[1], NULL, 10) : 7;
     printf("| counts | proved, ns | C, ns | ratio |\n|---|---|---|---|\n");
-    compare("rows to 34", 35, 6, 36);
-    compare("rows to 4,000, k to 12", 4000, 300, 12);
-    compare("the largest rows", 511000000, 1000000, 20);
-    return 0;
+    bool same = compare("rows to 34", 35, 6, 36, rounds) && compare("rows to 4,000, k to 12", 4000, 300, 12, rounds) &&
+                compare("the largest rows", 511000000, 1000000, 20, rounds);
+    return same ? 0 : 1;
 }

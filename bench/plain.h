@@ -1,4 +1,5 @@
-// The planner as a straightforward C program writes it: the same file, tables, tallies and answers as the proved library, for comparison.
+// The planner as a straightforward C program writes it: the same file, tables, tallies and answers as the proved
+// library, for comparison.
 #ifndef PLAIN_H
 #define PLAIN_H
 
@@ -8,23 +9,45 @@
 typedef struct {
     uint32_t variables, clauses, rules, terms;
     int32_t objective[512];
-    struct { uint32_t first, count; } clause[513];
-    struct { uint32_t first, count, mode; int32_t lower, upper; } rule[1025];
+    struct {
+        uint32_t first, count;
+    } clause[513];
+    struct {
+        uint32_t first, count, mode;
+        int32_t lower, upper;
+    } rule[1025];
 } plain_tables;
 
-typedef struct { struct { uint32_t variable; int32_t weight; } term[6512]; } plain_terms;
+typedef struct {
+    struct {
+        uint32_t variable;
+        int32_t weight;
+    } term[6512];
+} plain_terms;
 
-typedef struct { uint32_t p[1025], holding[513], unsatisfied; } plain_tallies;
+typedef struct {
+    uint32_t p[1025], holding[513], unsatisfied;
+} plain_tallies;
 
-typedef struct { uint32_t refusal; size_t offset; } plain_loaded;
-typedef struct { uint32_t refusal, breaks, makes; } plain_counted;
-typedef struct { uint32_t refusal, ending; int64_t cost; uint64_t finds, flips, used; } plain_searched;
+typedef struct {
+    uint32_t refusal;
+    size_t offset;
+} plain_loaded;
+typedef struct {
+    uint32_t refusal, breaks, makes;
+} plain_counted;
+typedef struct {
+    uint32_t refusal, ending;
+    int64_t cost;
+    uint64_t finds, flips, used;
+} plain_searched;
 
 plain_loaded plain_load(const uint8_t *file, size_t length, plain_tables *tables, plain_terms *terms);
 uint32_t plain_open(const plain_tables *t, const plain_terms *s, const uint8_t *a, plain_tallies *y);
 uint32_t plain_flip(const plain_tables *t, const plain_terms *s, uint8_t *a, plain_tallies *y, uint32_t x);
-plain_counted plain_counts(const plain_tables *t, const plain_terms *s, const uint8_t *a, const plain_tallies *y, uint32_t x);
-plain_searched plain_search(const plain_tables *t, const plain_terms *s, uint32_t noise, uint32_t tries, uint32_t flips, uint32_t mode,
-                            const uint8_t *numbers, size_t length, uint8_t *a);
+plain_counted plain_counts(const plain_tables *t, const plain_terms *s, const uint8_t *a, const plain_tallies *y,
+                           uint32_t x);
+plain_searched plain_search(const plain_tables *t, const plain_terms *s, uint32_t noise, uint32_t tries, uint32_t flips,
+                            uint32_t mode, const uint8_t *numbers, size_t length, uint8_t *a);
 
 #endif

@@ -1,4 +1,5 @@
-// The deepest that each call goes down the stack, over the plan files named: it runs on a painted stack, and what it touched is counted.
+// The deepest that each call goes down the stack, over the plan files named: it runs on a painted stack, and what it
+// touched is counted.
 //     stack NUMBERS PLAN...
 #include "../include/planner.h"
 
@@ -8,24 +9,21 @@
 
 enum { SIZE = 1 << 20, PAINT = 0xa5, CALLS = 6, LISTED = 4 * 200 };
 
-static uint8_t file[65536], numbers[65536], tables[PLANNER_TABLES_SIZE], terms[PLANNER_TERMS_SIZE];
-static uint8_t assignment[PLANNER_ASSIGNMENT_SIZE], tallies[PLANNER_TALLIES_SIZE], work_tables[PLANNER_TABLES_SIZE], work_terms[PLANNER_TERMS_SIZE];
-static uint8_t work_assignment[PLANNER_ASSIGNMENT_SIZE], work_tallies[PLANNER_TALLIES_SIZE], work_marks[PLANNER_MARKS_SIZE];
+static uint8_t file[PLANNER_INPUT_SIZE], numbers[LISTED];
+static planner_plan plan;
+static planner_state state;
+static planner_work work;
 static size_t length, listed;
 static uint32_t refusal;
 
 static void nothing(void) {}
-static void load(void) { refusal = planner_load(file, length, PLANNER_LEND(tables), PLANNER_LEND(terms)).refusal; }
-static void open(void) { refusal = planner_open(PLANNER_LEND(tables), PLANNER_LEND(terms), PLANNER_LEND(assignment), PLANNER_LEND(tallies)); }
-static void flip(void) { refusal = planner_flip(PLANNER_LEND(tables), PLANNER_LEND(terms), PLANNER_LEND(assignment), PLANNER_LEND(tallies), 1); }
-static void counts(void) {
-    refusal = planner_counts(PLANNER_LEND(tables), PLANNER_LEND(terms), PLANNER_LEND(assignment), PLANNER_LEND(tallies), 1).refusal;
-}
+static void load(void) { refusal = planner_plan_load(&plan, file, length).refusal; }
+static void open(void) { refusal = planner_state_open(&state, &plan).refusal; }
+static void flip(void) { refusal = planner_state_flip(&state, &plan, 1).refusal; }
+static void counts(void) { refusal = planner_state_counts(&state, &plan, 1).refusal; }
 static void search(void) {
-    refusal = planner_search(PLANNER_LEND(tables), PLANNER_LEND(terms), numbers, listed, 500, 10, 1000, 1, PLANNER_LEND(assignment),
-                             PLANNER_LEND(work_tables), PLANNER_LEND(work_terms), PLANNER_LEND(work_assignment), PLANNER_LEND(work_tallies),
-                             PLANNER_LEND(work_marks))
-                  .refusal;
+    planner_settings settings = planner_settings_of(500, 10, 1000, PLANNER_LBS);
+    refusal = planner_plan_search(&plan, settings, numbers, listed, &state, &work).refusal;
 }
 
 static size_t touched(void (*call)(void)) {
@@ -54,14 +52,20 @@ int main(int count, char **names) {
     void (*calls[CALLS])(void) = {nothing, load, search, open, flip, counts};
     const char *called[CALLS] = {"nothing", "load", "search", "open", "flip", "counts"};
     size_t deepest[CALLS] = {0};
-    if (count < 3) return printf("usage: stack NUMBERS PLAN...\n"), 2;
+    if (count < 3) {
+        printf("usage: stack NUMBERS PLAN...\n");
+        return 2;
+    }
     listed = contents(names[1], numbers, LISTED);
     for (int i = 2; i < count; i++) {
         length = contents(names[i], file, sizeof file);
-        memset(assignment, 0, sizeof assignment);
+        memset(state.assignment, 0, sizeof state.assignment);
         for (int call = 0; call < CALLS; call++) {
             size_t depth = touched(calls[call]);
-            if (refusal) return printf("%s of %s is refused: %u\n", called[call], names[i], refusal), 1;
+            if (refusal) {
+                printf("%s of %s is refused: %u\n", called[call], names[i], (unsigned)refusal);
+                return 1;
+            }
             if (depth > deepest[call]) deepest[call] = depth;
         }
     }

@@ -1,98 +1,123 @@
-/* A screen for the tent: it loads a plan, searches, shows what was chosen by name, and lets the crew turn sites over and see what that spoils.
+/* A screen for the tent: it loads a plan, searches, shows what was chosen by name, and lets the crew turn sites over
+ * and see which clauses that leaves unmet.
  *
  *     screen [FOLDER]
  *
- * FOLDER, or the current one, holds plan.bin, walk.bin and numbers.bin, and names.txt if the variables have names, one line for each.
- * Commands come from the standard input; `help` lists them. It exits with 1 where a file is refused.
+ * FOLDER, or the current one, holds plan.bin, walk.bin and numbers.bin. names.txt has a line for each variable and
+ * clauses.txt one for each clause, if they are there; `desk write` writes all five. Commands come from the standard
+ * input; `help` lists them. It exits with 1 where a file is refused.
+ *
+ * The planner's calls are proved. What this program does around them is not: it reads the files, and it judges walk.bin
+ * and the length of numbers.bin itself, as docs/FORMAT.md says.
  */
 #include "planner.h"
 
 #include <stdio.h>
 #include <string.h>
 
-enum { LARGEST = 65536, NAME = 40, LINE = 80, MOST = 512 };
+enum { NAME_SIZE = 40, CLAUSE_SIZE = 120, LINE_SIZE = 80, LONG_LIST = 1024 };
 
-typedef struct { uint32_t noise, tries, flips, mode; } settings;
-
-static uint8_t plan[LARGEST + 1], walk[LARGEST + 1], numbers[LARGEST + 1];
-static uint8_t tables[PLANNER_TABLES_SIZE], terms[PLANNER_TERMS_SIZE], assignment[PLANNER_ASSIGNMENT_SIZE], tallies[PLANNER_TALLIES_SIZE];
-static uint8_t work_tables[PLANNER_TABLES_SIZE], work_terms[PLANNER_TERMS_SIZE], work_assignment[PLANNER_ASSIGNMENT_SIZE];
-static uint8_t work_tallies[PLANNER_TALLIES_SIZE], work_marks[PLANNER_MARKS_SIZE];
-static char names[MOST][NAME];
-
-/* ---- what stands in bytes (docs/FORMAT.md) */
-
-static uint32_t word(const uint8_t *b) { return b[0] | (uint32_t)b[1] << 8 | (uint32_t)b[2] << 16 | (uint32_t)b[3] << 24; }
-
-static uint32_t half(const uint8_t *b) { return b[0] | (uint32_t)b[1] << 8; }
-
-static uint32_t variables(void) { return word(tables); }
-
-static uint32_t unmet(void) { return word(tallies + PLANNER_TALLIES_SIZE - 4); }
-
-static int64_t cost(void) {
-    int64_t sum = 0;
-    for (uint32_t i = 0; i < variables(); i++)
-        if (assignment[i]) sum += (int32_t)word(tables + 16 + 4 * i);
-    return sum;
-}
+static uint8_t plan_file[PLANNER_INPUT_SIZE], walk_file[PLANNER_INPUT_SIZE], numbers[PLANNER_INPUT_SIZE];
+static planner_plan plan;
+static planner_state state, trial;
+static planner_work work;
+static char names[PLANNER_MOST_VARIABLES][NAME_SIZE];
+static char clauses[PLANNER_MOST_CLAUSES][CLAUSE_SIZE];
 
 /* ---- files */
 
-static FILE *file(const char *folder, const char *name) {
+static FILE *open_file(const char *folder, const char *name) {
     char path[4096];
     int length = snprintf(path, sizeof path, "%s/%s", folder, name);
-    return length > 0 && (size_t)length < sizeof path ? fopen(path, "rb") : NULL;
+    if (length < 0 || (size_t)length >= sizeof path) return NULL;
+    return fopen(path, "rb");
 }
 
-/* A file's bytes, one more than the largest at most; none where it cannot be opened or read. */
-static size_t contents(const char *folder, const char *name, uint8_t *bytes) {
-    FILE *f = file(folder, name);
-    if (!f) return 0;
-    size_t length = fread(bytes, 1, LARGEST + 1, f);
-    if (ferror(f)) length = 0;
-    fclose(f);
-    return length;
+/* Reads a file of at most PLANNER_INPUT_SIZE bytes. One that cannot be opened or read counts as empty. Whether it
+ * fits: a longer one is told by the byte that follows. */
+static int read_file(const char *folder, const char *name, uint8_t *bytes, size_t *length) {
+    int fits = 1;
+    FILE *file = open_file(folder, name);
+    *length = 0;
+    if (!file) return fits;
+    *length = fread(bytes, 1, PLANNER_INPUT_SIZE, file);
+    if (*length == PLANNER_INPUT_SIZE) fits = fgetc(file) == EOF;
+    if (ferror(file)) *length = 0;
+    fclose(file);
+    return fits;
 }
 
-/* One line without the blanks around it; 0 at the end of the input. What cannot be shown becomes '?', and so does what has no room. */
-static int read_line(FILE *f, char *line, size_t room) {
+/* One line without the blanks around it; 0 at the end of the input. What cannot be shown becomes '?', and so does what
+ * has no room. */
+static int read_line(FILE *file, char *line, size_t room) {
     size_t length = 0;
-    int c = getc(f);
+    int c = getc(file);
     if (c == EOF) return 0;
-    for (; c != EOF && c != '\n'; c = getc(f)) {
-        if (c == '\r' || (c == ' ' && !length)) continue;
-        if (length + 1 < room) line[length++] = c < 32 || c == 127 ? '?' : (char)c;
-        else line[room - 2] = '?';
+    while (c != EOF && c != '\n') {
+        int skipped = c == '\r' || (c == ' ' && length == 0);
+        if (!skipped && length + 1 < room) {
+            line[length] = c < 32 || c == 127 ? '?' : (char)c;
+            length++;
+        } else if (!skipped) {
+            line[room - 2] = '?';
+        }
+        c = getc(file);
     }
-    while (length && line[length - 1] == ' ') length--;
+    while (length > 0 && line[length - 1] == ' ') length--;
     line[length] = 0;
     return 1;
 }
 
 /* A variable without a name of its own is called x and its number. */
 static void read_names(const char *folder) {
-    FILE *f = file(folder, "names.txt");
-    for (uint32_t i = 0; i < MOST; i++)
-        if (!f || !read_line(f, names[i], NAME) || !names[i][0]) snprintf(names[i], NAME, "x%u", (unsigned)i + 1);
-    if (f) fclose(f);
+    FILE *file = open_file(folder, "names.txt");
+    for (unsigned i = 0; i < PLANNER_MOST_VARIABLES; i++) {
+        int named = file && read_line(file, names[i], NAME_SIZE) && names[i][0];
+        if (!named) snprintf(names[i], NAME_SIZE, "x%u", i + 1);
+    }
+    if (file) fclose(file);
 }
 
+/* A clause without words of its own has its number alone. */
+static void read_clauses(const char *folder) {
+    FILE *file = open_file(folder, "clauses.txt");
+    for (unsigned i = 0; i < PLANNER_MOST_CLAUSES; i++) {
+        int named = file && read_line(file, clauses[i], CLAUSE_SIZE);
+        if (!named) clauses[i][0] = 0;
+    }
+    if (file) fclose(file);
+}
+
+static uint32_t two_bytes(const uint8_t *bytes) { return (uint32_t)bytes[0] | (uint32_t)bytes[1] << 8; }
+
 /* walk.bin is one field: tag 16, length 9, then noise, tries, flips and mode. */
-static planner_loaded read_walk(size_t length, settings *s) {
-    planner_loaded refused = {PLANNER_ACCEPTED, 0};
-    if (length < 3) refused.refusal = PLANNER_CUT_SHORT;
-    else if (walk[0] != 16) refused.refusal = PLANNER_WRONG_TAG;
-    else if (half(walk + 1) != 9) refused.refusal = PLANNER_WRONG_LENGTH;
-    else if (length < 12) refused.refusal = PLANNER_CUT_SHORT;
-    else if (length > 12) refused.refusal = PLANNER_BYTES_AFTER_END, refused.offset = 12;
-    if (refused.refusal) return refused;
-    s->noise = half(walk + 3), s->tries = half(walk + 5), s->flips = word(walk + 7), s->mode = walk[11];
-    if (s->noise > 1000) refused.refusal = PLANNER_WRONG_NOISE;
-    else if (s->tries < 1 || s->tries > 1000) refused.refusal = PLANNER_WRONG_TRIES;
-    else if (s->flips < 1 || s->flips > 1000000) refused.refusal = PLANNER_WRONG_FLIPS;
-    else if (s->mode > 1) refused.refusal = PLANNER_WRONG_MODE;
-    return refused;
+static planner_loaded read_walk(size_t length, planner_settings *settings) {
+    planner_loaded answer = {PLANNER_ACCEPTED, 0};
+    if (length < 3) {
+        answer.refusal = PLANNER_CUT_SHORT;
+    } else if (walk_file[0] != 16) {
+        answer.refusal = PLANNER_WRONG_TAG;
+    } else if (two_bytes(walk_file + 1) != 9) {
+        answer.refusal = PLANNER_WRONG_LENGTH;
+    } else if (length < 12) {
+        answer.refusal = PLANNER_CUT_SHORT;
+    } else if (length > 12) {
+        answer.refusal = PLANNER_BYTES_AFTER_END;
+        answer.offset = 12;
+    }
+    if (answer.refusal) return answer;
+    *settings = planner_settings_of(two_bytes(walk_file + 3), two_bytes(walk_file + 5), planner_word(walk_file + 7),
+                                    walk_file[11]);
+    if (settings->noise > 1000) {
+        answer.refusal = PLANNER_WRONG_NOISE;
+    } else if (settings->tries < 1 || settings->tries > 1000) {
+        answer.refusal = PLANNER_WRONG_TRIES;
+    } else if (settings->flips < 1 || settings->flips > 1000000) {
+        answer.refusal = PLANNER_WRONG_FLIPS;
+    } else if (settings->mode > 1) {
+        answer.refusal = PLANNER_WRONG_MODE;
+    }
+    return answer;
 }
 
 static int refuse(const char *what, uint32_t refusal, size_t offset) {
@@ -104,111 +129,228 @@ static int refuse(const char *what, uint32_t refusal, size_t offset) {
 
 /* ---- what is shown */
 
-static void show_standing(void) {
-    printf("Cost %lld, ", (long long)cost());
-    if (unmet()) printf("%u of %u clauses not met.\n", (unsigned)unmet(), (unsigned)word(tables + 4));
-    else printf("every clause met.\n");
+/* A state's cost and how many clauses it does not meet. */
+static void show_standing(const planner_state *of) {
+    unsigned unmet = planner_state_unmet(of);
+    printf("cost %lld, ", (long long)planner_state_cost(of, &plan));
+    if (unmet) {
+        printf("%u of %u clauses not met.\n", unmet, (unsigned)planner_plan_clauses(&plan));
+    } else {
+        printf("every clause met.\n");
+    }
 }
 
 static void show_chosen(void) {
-    uint32_t chosen = 0;
-    for (uint32_t i = 0; i < variables(); i++)
-        if (assignment[i]) printf("%5u  %s\n", (unsigned)i + 1, names[i]), chosen++;
-    printf("%u of %u chosen. ", (unsigned)chosen, (unsigned)variables());
-    show_standing();
+    unsigned variables = planner_plan_variables(&plan), chosen = 0;
+    for (unsigned i = 0; i < variables; i++) {
+        if (state.assignment[i]) {
+            printf("%5u  %s\n", i + 1, names[i]);
+            chosen++;
+        }
+    }
+    printf("%u of %u chosen: ", chosen, variables);
+    show_standing(&state);
 }
 
 static void show_all(void) {
-    for (uint32_t i = 0; i < variables(); i++) printf("%5u  %-3s  %s\n", (unsigned)i + 1, assignment[i] ? "yes" : "no", names[i]);
+    unsigned variables = planner_plan_variables(&plan);
+    for (unsigned i = 0; i < variables; i++) {
+        printf("%5u  %-3s  %s\n", i + 1, state.assignment[i] ? "yes" : "no", names[i]);
+    }
+}
+
+/* A clause's number, what there is to say of it, and its words. */
+static void show_clause(unsigned clause, const char *what) {
+    const char *words = clauses[clause - 1];
+    printf("%5u  %s%s%s\n", clause, what, words[0] ? ": " : "", words);
+}
+
+static void show_unmet(void) {
+    unsigned count = planner_plan_clauses(&plan);
+    for (unsigned clause = 1; clause <= count; clause++) {
+        if (!planner_state_meets(&state, clause)) show_clause(clause, "not met");
+    }
+    printf("As it stands: ");
+    show_standing(&state);
+}
+
+/* The clauses that are met in one of the two states and not in the other. */
+static void show_changes(const planner_state *before, const planner_state *after) {
+    unsigned count = planner_plan_clauses(&plan);
+    for (unsigned clause = 1; clause <= count; clause++) {
+        int met_before = planner_state_meets(before, clause), met_after = planner_state_meets(after, clause);
+        if (met_before && !met_after) show_clause(clause, "no longer met");
+        if (!met_before && met_after) show_clause(clause, "now met");
+    }
 }
 
 /* ---- the planner's calls */
 
-/* Searches from the files' settings and list, and opens what was found; with nothing found, nothing is chosen. */
-static int search(const settings *s, size_t listed) {
-    memset(assignment, 0, sizeof assignment);
-    planner_searched found =
-        planner_search(PLANNER_LEND(tables), PLANNER_LEND(terms), numbers, listed, s->noise, s->tries, s->flips, s->mode,
-                       PLANNER_LEND(assignment), PLANNER_LEND(work_tables), PLANNER_LEND(work_terms), PLANNER_LEND(work_assignment),
-                       PLANNER_LEND(work_tallies), PLANNER_LEND(work_marks));
+/* Searches with the first so many bytes of the list. */
+static planner_searched search_part(planner_settings settings, size_t length) {
+    memset(&state, 0, sizeof state);
+    return planner_plan_search(&plan, settings, numbers, length, &state, &work);
+}
+
+/* A search cannot be asked how far it is. So that the crew sees something early, a long list is searched with its first
+ * sixteenth and its first quarter before the whole: what these find is what the whole finds first. */
+static planner_searched search_list(planner_settings settings, size_t length) {
+    size_t count = length / 4;
+    for (size_t part = 16; part > 1 && count >= LONG_LIST; part /= 4) {
+        planner_searched found = search_part(settings, count / part * 4);
+        int is_short = found.ending == PLANNER_SHORT_FOUND || found.ending == PLANNER_SHORT_NONE;
+        if (!is_short) return found;
+        printf("With %zu of %zu numbers: ", count / part, count);
+        if (found.finds) {
+            printf("cost %lld so far.\n", (long long)found.cost);
+        } else {
+            printf("nothing so far.\n");
+        }
+        fflush(stdout);
+    }
+    return search_part(settings, length);
+}
+
+/* Searches and opens what was found. With nothing found nothing is chosen. */
+static int search(planner_settings settings, size_t length) {
+    planner_searched found = search_list(settings, length);
     if (found.refusal) return refuse("The search", found.refusal, 0);
-    uint32_t refusal = planner_open(PLANNER_LEND(tables), PLANNER_LEND(terms), PLANNER_LEND(assignment), PLANNER_LEND(tallies));
-    if (refusal) return refuse("The opening", refusal, 0);
+    planner_opened opened = planner_state_open(&state, &plan);
+    if (opened.refusal) return refuse("The opening", opened.refusal, 0);
     printf("%s.\n", planner_ending_text(found.ending));
     if (found.finds) printf("Cost %lld. ", (long long)found.cost);
-    printf("%zu found, %zu flips, %zu of %zu numbers used.\n", found.finds, found.flips, found.used, listed / 4);
+    printf("%zu found, %zu flips, %zu of %zu numbers used.\n", found.finds, found.flips, found.used, length / 4);
     show_chosen();
     return 0;
 }
 
-/* The counts of a variable, or why there are none. */
-static int show_counts(uint32_t variable) {
-    planner_counted c = planner_counts(PLANNER_LEND(tables), PLANNER_LEND(terms), PLANNER_LEND(assignment), PLANNER_LEND(tallies), variable);
-    if (c.refusal) return refuse("This", c.refusal, 0);
-    printf("%s is %s: turning it over spoils %u and mends %u.\n", names[variable - 1], assignment[variable - 1] ? "chosen" : "not chosen",
-           (unsigned)c.break_count, (unsigned)c.make_count);
-    return 0;
+static const char *or_more(uint32_t count) { return count == UINT32_MAX ? " or more" : ""; }
+
+/* What a flip would do: it is made on a copy. */
+static void show_flip(uint32_t variable) {
+    planner_counted counted = planner_state_counts(&state, &plan, variable);
+    if (counted.refusal) {
+        refuse("This", counted.refusal, 0);
+        return;
+    }
+    trial = state;
+    planner_flipped flipped = planner_state_flip(&trial, &plan, variable);
+    if (flipped.refusal) {
+        refuse("The flip", flipped.refusal, 0);
+        return;
+    }
+    int chosen = state.assignment[variable - 1];
+    printf("%s is %s. %s it: ", names[variable - 1], chosen ? "chosen" : "not chosen", chosen ? "Without" : "With");
+    show_standing(&trial);
+    show_changes(&state, &trial);
+    printf("Of the plan's full expansion this would spoil %u%s and mend %u%s.\n", (unsigned)counted.break_count,
+           or_more(counted.break_count), (unsigned)counted.make_count, or_more(counted.make_count));
 }
 
 static void flip(uint32_t variable) {
-    if (show_counts(variable)) return;
-    uint32_t refusal = planner_flip(PLANNER_LEND(tables), PLANNER_LEND(terms), PLANNER_LEND(assignment), PLANNER_LEND(tallies), variable);
-    if (refusal) {
-        refuse("The flip", refusal, 0);
+    trial = state;
+    planner_flipped flipped = planner_state_flip(&state, &plan, variable);
+    if (flipped.refusal) {
+        refuse("The flip", flipped.refusal, 0);
         return;
     }
-    show_counts(variable);
-    show_standing();
+    printf("%s is %s: ", names[variable - 1], state.assignment[variable - 1] ? "now chosen" : "no longer chosen");
+    show_standing(&state);
+    show_changes(&trial, &state);
 }
 
 /* ---- commands */
 
-/* A variable by its number, or else by its name. A number without room stands for the largest, which no plan has; 0 is in no plan either. */
-static int variable_called(const char *words, uint32_t *variable) {
+/* A variable by its number, or else by its name; whether there is one so called. A number without room stands for the
+ * largest, which no plan has; 0 is in no plan either. */
+static int find_variable(const char *words, uint32_t *variable) {
     uint64_t number = 0;
-    const char *c = words;
-    for (; *c >= '0' && *c <= '9'; c++)
-        if (number < UINT32_MAX) number = 10 * number + (uint64_t)(*c - '0');
-    *variable = number < UINT32_MAX ? (uint32_t)number : UINT32_MAX;
-    if (c != words && !*c) return 1;
-    for (uint32_t i = 0; i < variables(); i++)
-        if (!strcmp(words, names[i])) return *variable = i + 1, 1;
+    size_t digits = strspn(words, "0123456789");
+    for (size_t i = 0; i < digits && number < UINT32_MAX; i++) number = 10 * number + (uint64_t)(words[i] - '0');
+    if (digits > 0 && words[digits] == 0) {
+        *variable = number < UINT32_MAX ? (uint32_t)number : UINT32_MAX;
+        return 1;
+    }
+    for (uint32_t i = 0; i < planner_plan_variables(&plan); i++) {
+        if (strcmp(words, names[i]) == 0) {
+            *variable = i + 1;
+            return 1;
+        }
+    }
     return 0;
 }
 
-static void commands(const settings *s, size_t listed) {
-    char line[LINE];
-    while (fflush(stdout), read_line(stdin, line, sizeof line)) {
+static void show_help(void) {
+    printf("show             what is chosen\n");
+    printf("all              every site, chosen or not\n");
+    printf("unmet            the clauses that are not met\n");
+    printf("try SITE         what turning a site over would do\n");
+    printf("flip SITE        turn it over\n");
+    printf("search           from the files, again\n");
+    printf("quit\n");
+    printf("SITE is a number or a name.\n");
+}
+
+/* A command with a site after it. */
+static void turn(const char *command, const char *words) {
+    uint32_t variable;
+    if (!find_variable(words, &variable)) {
+        printf("No site is called '%s'.\n", words);
+    } else if (strcmp(command, "try") == 0) {
+        show_flip(variable);
+    } else {
+        flip(variable);
+    }
+}
+
+static void run_commands(planner_settings settings, size_t numbers_length) {
+    char line[LINE_SIZE];
+    fflush(stdout);
+    while (read_line(stdin, line, sizeof line)) {
         char *words = line + strcspn(line, " ");
-        if (*words) *words++ = 0;
+        if (*words) {
+            *words = 0;
+            words++;
+        }
         words += strspn(words, " ");
-        uint32_t variable;
-        if (!strcmp(line, "quit")) return;
-        else if (!*line) continue;
-        else if (!strcmp(line, "show")) show_chosen();
-        else if (!strcmp(line, "all")) show_all();
-        else if (!strcmp(line, "search")) search(s, listed);
-        else if (!strcmp(line, "help"))
-            printf("show, all, counts SITE, flip SITE, search (from the files, again), quit. SITE is a number or a name.\n");
-        else if (strcmp(line, "counts") && strcmp(line, "flip")) printf("No command is called '%s'; try help.\n", line);
-        else if (!variable_called(words, &variable)) printf("No site is called '%s'.\n", words);
-        else if (!strcmp(line, "counts")) show_counts(variable);
-        else flip(variable);
+        if (strcmp(line, "quit") == 0) return;
+        if (strcmp(line, "show") == 0) {
+            show_chosen();
+        } else if (strcmp(line, "all") == 0) {
+            show_all();
+        } else if (strcmp(line, "unmet") == 0) {
+            show_unmet();
+        } else if (strcmp(line, "search") == 0) {
+            search(settings, numbers_length);
+        } else if (strcmp(line, "help") == 0) {
+            show_help();
+        } else if (strcmp(line, "try") == 0 || strcmp(line, "flip") == 0) {
+            turn(line, words);
+        } else if (line[0]) {
+            printf("No command is called '%s'; try help.\n", line);
+        }
+        fflush(stdout);
     }
 }
 
 int main(int count, char **arguments) {
     const char *folder = count > 1 ? arguments[1] : ".";
-    settings s = {0, 0, 0, 0};
-    size_t planned = contents(folder, "plan.bin", plan), set = contents(folder, "walk.bin", walk), listed = contents(folder, "numbers.bin", numbers);
-    if (planned > LARGEST || set > LARGEST || listed > LARGEST) return refuse("A file", PLANNER_FILE_TOO_LARGE, 0);
-    planner_loaded loaded = planner_load(plan, planned, PLANNER_LEND(tables), PLANNER_LEND(terms));
+    size_t plan_length, walk_length, numbers_length;
+    int fits = read_file(folder, "plan.bin", plan_file, &plan_length);
+    fits &= read_file(folder, "walk.bin", walk_file, &walk_length);
+    fits &= read_file(folder, "numbers.bin", numbers, &numbers_length);
+    if (!fits) return refuse("One of the files", PLANNER_FILE_TOO_LARGE, 0);
+
+    planner_loaded loaded = planner_plan_load(&plan, plan_file, plan_length);
     if (loaded.refusal) return refuse("plan.bin", loaded.refusal, loaded.offset);
-    planner_loaded walked = read_walk(set, &s);
-    if (walked.refusal) return refuse("walk.bin", walked.refusal, walked.offset);
-    if (listed % 4) return refuse("numbers.bin", PLANNER_CUT_NUMBER, 0);
+    planner_settings settings = planner_settings_of(0, 0, 0, 0);
+    planner_loaded walk = read_walk(walk_length, &settings);
+    if (walk.refusal) return refuse("walk.bin", walk.refusal, walk.offset);
+    if (numbers_length % 4 != 0) return refuse("numbers.bin", PLANNER_CUT_NUMBER, 0);
+
     read_names(folder);
-    if (search(&s, listed)) return 1;
-    commands(&s, listed);
+    read_clauses(folder);
+    if (search(settings, numbers_length)) return 1;
+    run_commands(settings, numbers_length);
     return 0;
 }

@@ -1,9 +1,38 @@
-/* The tent planner: a plan file is loaded, a cheap assignment of it searched for, and an assignment opened, flipped and counted.
+/* The tent planner: a plan file is loaded, a cheap assignment of it is searched for, and an assignment is opened,
+ * turned over one variable at a time, and counted.
  *
- * Every call may be made with anything at all: it finishes, and gives what it was asked for or one of the refusals below. A refused call
- * changes no byte of what it was lent. No call keeps a pointer, allocates, or touches anything but the buffers it is lent; no two buffers of
- * one call may overlap. The promises in these comments are proved of the library's code; what is assumed is that the caller lends the
- * memory it says it lends.
+ *     static planner_plan plan;      // declare these three once, as static or global objects: they are large
+ *     static planner_state state;
+ *     static planner_work work;
+ *
+ *     planner_loaded loaded = planner_plan_load(&plan, file, file_length);
+ *     planner_settings settings = planner_settings_of(500, 10, 1000, PLANNER_LBS);
+ *     planner_searched found = planner_plan_search(&plan, settings, numbers, numbers_length, &state, &work);
+ *     planner_opened opened = planner_state_open(&state, &plan);
+ *     planner_flipped flipped = planner_state_flip(&state, &plan, 7);
+ *
+ * There are two layers. The archive exports five calls on pointers and lengths: planner_load, planner_open,
+ * planner_flip, planner_counts and planner_search. What the comments say of them is proved. The structs and the
+ * inline functions after them are plain C, which is tested and not proved: they lend buffers of the right sizes, so
+ * that none is mixed up, and read what the calls leave. A program that uses these alone need not change when a call
+ * gains an argument or an answer a field.
+ *
+ * What holds of every call:
+ * - It may be made with anything at all. It returns, and gives what it was asked for or one of the refusals below.
+ *   A refused call changes no byte of what it was lent.
+ * - It touches nothing but the buffers it is lent, keeps no pointer, allocates nothing, has no state of its own and
+ *   takes about a kilobyte of stack. It is reentrant: threads may call at once, each with buffers of its own.
+ * - The caller lends the memory that it says it lends, and no byte twice in one call. This cannot be tested by the
+ *   call; it is assumed.
+ * - NULL is fine where the length is 0: a file or a list of numbers may be empty, and any other buffer is then too
+ *   small. No alignment is asked for.
+ * - The archive is for x86-64 Linux. Where the layout of the answers is another one, this header does not compile
+ *   (C11, C++11).
+ *
+ * Time: load, open, flip and counts take microseconds. A search works through the list of numbers: a flip takes at
+ * least two of them. With 16,384 numbers it takes from a tenth of a second to some seconds on a server's core, more
+ * on a slow one. It cannot be stopped or asked how far it is. To show something early, search with the first part of
+ * the list, then with a longer one: the search with a part that runs short finds the first finds of the longer one.
  */
 #ifndef PLANNER_H
 #define PLANNER_H
@@ -15,118 +44,82 @@
 extern "C" {
 #endif
 
-/* Sizes of the buffers in bytes. Larger ones may be lent: places past these sizes are neither read nor written. */
+/* ---- sizes */
+
+/* The buffers in bytes (docs/FORMAT.md). None is larger than 64 KiB. Larger ones may be lent: places past these sizes
+ * are neither read nor written. */
 #define PLANNER_TABLES_SIZE 26668
 #define PLANNER_TERMS_SIZE 52096
 #define PLANNER_ASSIGNMENT_SIZE 512
 #define PLANNER_TALLIES_SIZE 6156
 #define PLANNER_MARKS_SIZE 512
-/* The largest plan file that is accepted. */
-#define PLANNER_FILE_SIZE 52907
 
-/* An array as two arguments: planner_load(file, length, PLANNER_LEND(tables), PLANNER_LEND(terms)). Not for a pointer. */
+/* The most of each that a plan has. Terms are those of its rules. */
+#define PLANNER_MOST_VARIABLES 512
+#define PLANNER_MOST_CLAUSES 512
+#define PLANNER_MOST_RULES 1024
+#define PLANNER_MOST_TERMS 6000
+
+/* The largest plan file that is accepted. Do not read a file into a buffer of this size: a longer one would be cut
+ * there, and its start might be a plan. */
+#define PLANNER_FILE_SIZE 52907
+/* A program takes files up to this size and gives PLANNER_FILE_TOO_LARGE for a longer one. Read so many bytes, then
+ * see whether one more follows. */
+#define PLANNER_INPUT_SIZE 65536
+
+/* An array as two arguments of a call: PLANNER_LEND(tables). Not for a pointer. */
 #define PLANNER_LEND(buffer) (buffer), sizeof(buffer)
 
-/* Refusals. 0: none. 8 and 9 are those of a program that reads files; no call below gives them. */
+/* ---- refusals: docs/REFUSALS.md has the same words */
+
 enum planner_refusal {
     PLANNER_ACCEPTED = 0,
-    PLANNER_CUT_SHORT = 1,
-    PLANNER_WRONG_TAG = 2,
-    PLANNER_WRONG_LENGTH = 3,
-    PLANNER_TOO_LARGE = 4,
-    PLANNER_WRONG_TERM = 5,
-    PLANNER_WRONG_BOUND = 6,
-    PLANNER_BYTES_AFTER_END = 7,
-    PLANNER_CUT_NUMBER = 8,
-    PLANNER_FILE_TOO_LARGE = 9,
-    PLANNER_WRONG_NOISE = 11,
-    PLANNER_WRONG_TRIES = 12,
-    PLANNER_WRONG_FLIPS = 13,
-    PLANNER_WRONG_MODE = 14,
-    PLANNER_BUFFER_TOO_SMALL = 21,
-    PLANNER_NOT_LOADED = 22,
-    PLANNER_WRONG_VARIABLE = 23,
-    PLANNER_NOT_BITS = 24,
-    PLANNER_STALE_TALLIES = 25
+
+    /* By the plan file, with the offset of the field at fault. Make the file again at the desk. */
+    PLANNER_CUT_SHORT = 1,       /* it ends within a field, or is empty: copy it again, whole */
+    PLANNER_WRONG_TAG = 2,       /* a field stands where it may not: is this a plan file? */
+    PLANNER_WRONG_LENGTH = 3,    /* a field has a length that none of its kind has */
+    PLANNER_TOO_LARGE = 4,       /* variables not from 1 to 512, the 513th clause, 1,025th rule, or above 6,000 terms */
+    PLANNER_WRONG_TERM = 5,      /* a variable outside the plan or out of order, a coefficient 0 or out of range */
+    PLANNER_WRONG_BOUND = 6,     /* a mode or a bound out of range, or an absent bound that is not 0 */
+    PLANNER_BYTES_AFTER_END = 7, /* bytes after the end field; the offset is that of the first of them */
+
+    /* By the files of a program that reads them. No call below gives these two. */
+    PLANNER_CUT_NUMBER = 8,     /* the list of numbers is no multiple of 4 bytes: copy it again, whole */
+    PLANNER_FILE_TOO_LARGE = 9, /* a file has more than 65,536 bytes: it is another file, or too long a list */
+
+    /* By the settings of a search. Choose others. */
+    PLANNER_WRONG_NOISE = 11, /* noise above 1,000 */
+    PLANNER_WRONG_TRIES = 12, /* tries not from 1 to 1,000 */
+    PLANNER_WRONG_FLIPS = 13, /* flips not from 1 to 1,000,000 */
+    PLANNER_WRONG_MODE = 14,  /* a mode other than PLANNER_LINEAR and PLANNER_LBS */
+
+    /* By what the program lends: a fault of the program, and none of the plan. */
+    PLANNER_BUFFER_TOO_SMALL = 21, /* a buffer below its size above: the inline functions lend the right ones */
+    PLANNER_NOT_LOADED = 22,       /* tables that no accepted loading left: load first, and write nothing there */
+    PLANNER_WRONG_VARIABLE = 23,   /* a variable outside 1 to the plan's number of them */
+    PLANNER_NOT_BITS = 24,         /* one of the plan's assignment bytes is neither 0 nor 1 */
+    PLANNER_STALE_TALLIES = 25     /* tallies that are not those of this assignment: open again */
 };
-
-/* How a search ended. */
-enum planner_ending {
-    PLANNER_NOT_SEARCHED = 0, /* refused */
-    PLANNER_FLOOR = 1,        /* found, and its cost is the sum of the negative coefficients: none costs less */
-    PLANNER_ENDED = 2,        /* found, and the walk for a lesser cost failed */
-    PLANNER_NONE = 3,         /* the walk for the plan alone failed */
-    PLANNER_SHORT_FOUND = 4,  /* found, and then fewer numbers were left than the next need */
-    PLANNER_SHORT_NONE = 5    /* fewer numbers were left than the next need before anything was found */
-};
-
-typedef struct {
-    uint32_t refusal;
-    size_t offset; /* of the first byte of the field at fault in the file; else 0 */
-} planner_loaded;
-
-typedef struct {
-    uint32_t refusal;
-    uint32_t break_count;
-    uint32_t make_count;
-} planner_counted;
-
-typedef struct {
-    uint32_t refusal;
-    uint32_t ending; /* enum planner_ending */
-    int64_t cost;    /* of the last find; 0 with none */
-    size_t finds;
-    size_t flips; /* made, over all tries */
-    size_t used;  /* how many of the numbers */
-} planner_searched;
-
-/* Loads a plan file of any length and content into the two tables.
- * 21, then the file's own refusal (1 to 7) with its offset. Accepted: the tables are those of the plan, unused entries 0. */
-planner_loaded planner_load(const uint8_t *file, size_t file_length, uint8_t *tables, size_t tables_length, uint8_t *terms, size_t terms_length);
-
-/* Counts the tallies of an assignment afresh and writes them, 0 in unused entries; writes nothing else.
- * 21, 22, 24. */
-uint32_t planner_open(const uint8_t *tables, size_t tables_length, const uint8_t *terms, size_t terms_length, const uint8_t *assignment,
-                      size_t assignment_length, uint8_t *tallies, size_t tallies_length);
-
-/* Turns one variable over: its assignment byte, and the tallies that concern it. The same flip twice restores every byte.
- * 21, 22, 24, 25, 23. */
-uint32_t planner_flip(const uint8_t *tables, size_t tables_length, const uint8_t *terms, size_t terms_length, uint8_t *assignment,
-                      size_t assignment_length, uint8_t *tallies, size_t tallies_length, uint32_t variable);
-
-/* The break count and the make count of a variable: how many clauses of the plan's full propositional expansion its flip would spoil and
- * mend, or 4,294,967,295 if there are more. Writes nothing.
- * 21, 22, 24, 25, 23; the counts are 0 with a refusal. */
-planner_counted planner_counts(const uint8_t *tables, size_t tables_length, const uint8_t *terms, size_t terms_length,
-                               const uint8_t *assignment, size_t assignment_length, const uint8_t *tallies, size_t tallies_length,
-                               uint32_t variable);
-
-/* Searches for an assignment that meets every clause, then for cheaper ones, by the walk of Liu and Truszczynski with the SKC choice. noise is
- * in thousandths; each call of the walk has so many tries of so many flips; mode 0 tightens linearly, 1 by LBS. numbers is a list of any
- * length, 32-bit and little-endian: the same plan, settings and list give the same answer. A last number of fewer than 4 bytes is not read.
- * 21 (a buffer other than numbers), 22, 11, 12, 13, 14; with a refusal every other field of the answer is 0.
- * Accepted: the answer is that of the walk. With a find (ending 1, 2 or 4) the first n bytes of assignment, n being the plan's number of
- * variables, are the last one found: it meets every clause, and cost is its cost. With none they are as they were; those beyond n always are. What the five work buffers hold at first does not matter; they end
- * filled with 0 up to the sizes above. Writes nothing else. */
-planner_searched planner_search(const uint8_t *tables, size_t tables_length, const uint8_t *terms, size_t terms_length, const uint8_t *numbers,
-                                size_t numbers_length, uint32_t noise, uint32_t tries, uint32_t flips, uint32_t mode, uint8_t *assignment,
-                                size_t assignment_length, uint8_t *work_tables, size_t work_tables_length, uint8_t *work_terms,
-                                size_t work_terms_length, uint8_t *work_assignment, size_t work_assignment_length, uint8_t *work_tallies,
-                                size_t work_tallies_length, uint8_t *work_marks, size_t work_marks_length);
 
 /* A refusal in plain words, for a screen. */
 static inline const char *planner_refusal_text(uint32_t refusal) {
     switch (refusal) {
     case PLANNER_ACCEPTED: return "accepted";
     case PLANNER_CUT_SHORT: return "the file ends in the middle of a field";
-    case PLANNER_WRONG_TAG: return "the file has a field that may not stand here";
-    case PLANNER_WRONG_LENGTH: return "a field of the file has a wrong length";
-    case PLANNER_TOO_LARGE: return "the plan has no variable, or too many variables, clauses, rules or terms";
-    case PLANNER_WRONG_TERM: return "a sum has a variable out of range or out of order, or a coefficient out of range";
-    case PLANNER_WRONG_BOUND: return "a rule has a mode or a bound out of range";
+    case PLANNER_WRONG_TAG: return "a field of this kind may not stand here";
+    case PLANNER_WRONG_LENGTH: return "no field of this kind has this length";
+    case PLANNER_TOO_LARGE:
+        return "the number of variables is not from 1 to 512, or this is one clause, rule or term too many";
+    case PLANNER_WRONG_TERM:
+        return "a term's variable is not in the plan or not above the one before it, "
+               "or its coefficient is 0 or beyond 1,000,000 either way";
+    case PLANNER_WRONG_BOUND:
+        return "a rule's mode is not 1, 2 or 3, a bound is beyond 1,000,000,000 either way, "
+               "or an absent bound is not written 0";
     case PLANNER_BYTES_AFTER_END: return "the file goes on after its end";
     case PLANNER_CUT_NUMBER: return "the list of numbers ends in the middle of a number";
-    case PLANNER_FILE_TOO_LARGE: return "a file has more than 65,536 bytes";
+    case PLANNER_FILE_TOO_LARGE: return "the file has more than 65,536 bytes";
     case PLANNER_WRONG_NOISE: return "the noise is not from 0 to 1,000";
     case PLANNER_WRONG_TRIES: return "the number of tries is not from 1 to 1,000";
     case PLANNER_WRONG_FLIPS: return "the number of flips is not from 1 to 1,000,000";
@@ -136,9 +129,50 @@ static inline const char *planner_refusal_text(uint32_t refusal) {
     case PLANNER_WRONG_VARIABLE: return "the plan has no such variable";
     case PLANNER_NOT_BITS: return "the assignment has a byte other than 0 and 1";
     case PLANNER_STALE_TALLIES: return "the tallies are not those of this assignment";
-    default: return "no refusal of the planner";
+    default: return "no refusal has this number";
     }
 }
+
+/* ---- answers: the first field is the refusal, 0 for none */
+
+typedef struct {
+    uint32_t refusal;
+    size_t offset; /* in the file: of the first byte of the field at fault; with 7 of the first byte after the end
+                      field; else 0 */
+} planner_loaded;
+
+typedef struct {
+    uint32_t refusal;
+} planner_opened;
+
+typedef struct {
+    uint32_t refusal;
+} planner_flipped;
+
+typedef struct {
+    uint32_t refusal;
+    uint32_t break_count; /* 4,294,967,295 stands for that number and for every greater one */
+    uint32_t make_count;
+} planner_counted;
+
+/* How a search ended. */
+enum planner_ending {
+    PLANNER_NOT_SEARCHED = 0, /* refused */
+    PLANNER_FLOOR = 1,        /* found, and its cost is the sum of the negative coefficients: nothing costs less */
+    PLANNER_ENDED = 2,        /* found, and the walk for a lesser cost failed; a cheaper one may exist all the same */
+    PLANNER_NONE = 3,         /* the walk for the plan alone failed; an assignment may exist all the same */
+    PLANNER_SHORT_FOUND = 4,  /* found, then fewer numbers were left than the next need: a longer list may help */
+    PLANNER_SHORT_NONE = 5    /* nothing found, and fewer numbers were left than the next need */
+};
+
+typedef struct {
+    uint32_t refusal;
+    uint32_t ending; /* enum planner_ending */
+    int64_t cost;    /* of the last find; 0 with none */
+    size_t finds;    /* how many assignments were found, each cheaper than the one before */
+    size_t flips;    /* made, over all tries */
+    size_t used;     /* how many of the numbers */
+} planner_searched;
 
 /* An ending by its name and in plain words, for a screen. */
 static inline const char *planner_ending_text(uint32_t ending) {
@@ -149,9 +183,204 @@ static inline const char *planner_ending_text(uint32_t ending) {
     case PLANNER_NONE: return "none: nothing was found";
     case PLANNER_SHORT_FOUND: return "short-found: found, then the numbers ran out";
     case PLANNER_SHORT_NONE: return "short-none: the numbers ran out before anything was found";
-    default: return "no ending of a search";
+    default: return "no ending has this number";
     }
 }
+
+/* ---- the five calls; the refusals of each stand in the order in which they are tried */
+
+/* Loads a plan file of any length and content into the two tables.
+ * PLANNER_BUFFER_TOO_SMALL, then the file's own: PLANNER_CUT_SHORT to PLANNER_BYTES_AFTER_END with its offset.
+ * Accepted: the tables are those of the plan, unused entries 0. */
+planner_loaded planner_load(const uint8_t *file, size_t file_length, uint8_t *tables, size_t tables_length,
+                            uint8_t *terms, size_t terms_length);
+
+/* Counts the tallies of an assignment afresh and writes them, 0 in unused entries. Writes nothing else. The first n
+ * bytes of an assignment are its values, variable 1 first, n being the plan's number of variables.
+ * PLANNER_BUFFER_TOO_SMALL, PLANNER_NOT_LOADED, PLANNER_NOT_BITS. */
+uint32_t planner_open(const uint8_t *tables, size_t tables_length, const uint8_t *terms, size_t terms_length,
+                      const uint8_t *assignment, size_t assignment_length, uint8_t *tallies, size_t tallies_length);
+
+/* Turns one variable over: its assignment byte, and the tallies that concern it. The same flip twice restores every
+ * byte.
+ * PLANNER_BUFFER_TOO_SMALL, PLANNER_NOT_LOADED, PLANNER_NOT_BITS, PLANNER_STALE_TALLIES, PLANNER_WRONG_VARIABLE. */
+uint32_t planner_flip(const uint8_t *tables, size_t tables_length, const uint8_t *terms, size_t terms_length,
+                      uint8_t *assignment, size_t assignment_length, uint8_t *tallies, size_t tallies_length,
+                      uint32_t variable);
+
+/* The break count and the make count of a variable: how many clauses of the plan's full propositional expansion its
+ * flip would spoil and mend, or 4,294,967,295 if there are more. Writes nothing.
+ * As for planner_flip; the counts are 0 with a refusal. */
+planner_counted planner_counts(const uint8_t *tables, size_t tables_length, const uint8_t *terms, size_t terms_length,
+                               const uint8_t *assignment, size_t assignment_length, const uint8_t *tallies,
+                               size_t tallies_length, uint32_t variable);
+
+/* Searches for an assignment that meets every clause, then for cheaper ones, by the walk of Liu and Truszczynski with
+ * the SKC choice. noise is how many of 1,000 choices take the least break count where every one spoils something; the
+ * others take any. Each call of the walk has so many tries of so many flips. numbers is a list of any length, each
+ * number of 4 bytes, little-endian: the same plan, settings and list give the same answer. A last number of fewer
+ * than 4 bytes is not read.
+ * PLANNER_BUFFER_TOO_SMALL (a buffer other than numbers), PLANNER_NOT_LOADED, PLANNER_WRONG_NOISE, PLANNER_WRONG_TRIES,
+ * PLANNER_WRONG_FLIPS, PLANNER_WRONG_MODE; with a refusal every other field of the answer is 0.
+ * Accepted: the answer is that of the walk. With a find (finds is not 0: ending 1, 2 or 4) the first n bytes of
+ * assignment are the last one found: it meets every clause, and cost is its cost. With none they are as they were;
+ * those beyond n always are. What the five work buffers hold at first does not matter; they end filled with 0 up to
+ * the sizes above. Writes nothing else, so that tallies opened before are stale after a find. */
+planner_searched planner_search(const uint8_t *tables, size_t tables_length, const uint8_t *terms, size_t terms_length,
+                                const uint8_t *numbers, size_t numbers_length, uint32_t noise, uint32_t tries,
+                                uint32_t flips, uint32_t mode, uint8_t *assignment, size_t assignment_length,
+                                uint8_t *work_tables, size_t work_tables_length, uint8_t *work_terms,
+                                size_t work_terms_length, uint8_t *work_assignment, size_t work_assignment_length,
+                                uint8_t *work_tallies, size_t work_tallies_length, uint8_t *work_marks,
+                                size_t work_marks_length);
+
+/* ---- plan, state and work */
+
+/* A plan as loading leaves it: two buffers, each below 64 KiB; 78,764 bytes in all. To be written by
+ * planner_plan_load alone. */
+typedef struct {
+    uint8_t tables[PLANNER_TABLES_SIZE];
+    uint8_t terms[PLANNER_TERMS_SIZE];
+} planner_plan;
+
+/* An assignment, a byte 0 or 1 for each variable of the plan, variable 1 first, which the program may write; and its
+ * tallies, which it may not. All bytes 0 is an assignment of every plan. */
+typedef struct {
+    uint8_t assignment[PLANNER_ASSIGNMENT_SIZE];
+    uint8_t tallies[PLANNER_TALLIES_SIZE];
+} planner_state;
+
+/* What a search works in: five buffers, each below 64 KiB; 85,944 bytes in all. Nothing of it is of use after. */
+typedef struct {
+    uint8_t tables[PLANNER_TABLES_SIZE];
+    uint8_t terms[PLANNER_TERMS_SIZE];
+    uint8_t assignment[PLANNER_ASSIGNMENT_SIZE];
+    uint8_t tallies[PLANNER_TALLIES_SIZE];
+    uint8_t marks[PLANNER_MARKS_SIZE];
+} planner_work;
+
+/* Make it by planner_settings_of, so that fields to come have their plain values. */
+typedef struct {
+    uint32_t noise; /* 0 to 1,000 */
+    uint32_t tries; /* 1 to 1,000 */
+    uint32_t flips; /* 1 to 1,000,000 */
+    uint32_t mode;  /* enum planner_mode */
+} planner_settings;
+
+/* How far below a find's cost the next search asks. PLANNER_LINEAR: by one. PLANNER_LBS: by a third of the way down to
+ * the sum of the negative coefficients, until that fails; then by one. */
+enum planner_mode { PLANNER_LINEAR = 0, PLANNER_LBS = 1 };
+
+static inline planner_settings planner_settings_of(uint32_t noise, uint32_t tries, uint32_t flips, uint32_t mode) {
+    planner_settings settings = {noise, tries, flips, mode};
+    return settings;
+}
+
+/* ---- the calls on them */
+
+/* planner_load: the plan of a file. A refused file leaves the plan that was there. */
+static inline planner_loaded planner_plan_load(planner_plan *plan, const uint8_t *file, size_t file_length) {
+    return planner_load(file, file_length, PLANNER_LEND(plan->tables), PLANNER_LEND(plan->terms));
+}
+
+/* planner_search: the state's assignment is the last one found, if there is one. Its tallies are not written: open
+ * the state before it is flipped or counted. */
+static inline planner_searched planner_plan_search(const planner_plan *plan, planner_settings settings,
+                                                   const uint8_t *numbers, size_t numbers_length, planner_state *state,
+                                                   planner_work *work) {
+    return planner_search(PLANNER_LEND(plan->tables), PLANNER_LEND(plan->terms), numbers, numbers_length,
+                          settings.noise, settings.tries, settings.flips, settings.mode,
+                          PLANNER_LEND(state->assignment), PLANNER_LEND(work->tables), PLANNER_LEND(work->terms),
+                          PLANNER_LEND(work->assignment), PLANNER_LEND(work->tallies), PLANNER_LEND(work->marks));
+}
+
+/* planner_open: the tallies of the state's assignment. */
+static inline planner_opened planner_state_open(planner_state *state, const planner_plan *plan) {
+    planner_opened opened = {planner_open(PLANNER_LEND(plan->tables), PLANNER_LEND(plan->terms),
+                                          PLANNER_LEND(state->assignment), PLANNER_LEND(state->tallies))};
+    return opened;
+}
+
+/* planner_flip: one variable of an opened state turned over. */
+static inline planner_flipped planner_state_flip(planner_state *state, const planner_plan *plan, uint32_t variable) {
+    planner_flipped flipped = {planner_flip(PLANNER_LEND(plan->tables), PLANNER_LEND(plan->terms),
+                                            PLANNER_LEND(state->assignment), PLANNER_LEND(state->tallies), variable)};
+    return flipped;
+}
+
+/* planner_counts: what that flip would spoil and mend. */
+static inline planner_counted planner_state_counts(const planner_state *state, const planner_plan *plan,
+                                                   uint32_t variable) {
+    return planner_counts(PLANNER_LEND(plan->tables), PLANNER_LEND(plan->terms), PLANNER_LEND(state->assignment),
+                          PLANNER_LEND(state->tallies), variable);
+}
+
+/* ---- readers of a loaded plan and of an opened state; of any other they give some number and read nothing outside */
+
+/* The number that stands in the 4 bytes at a place. */
+static inline uint32_t planner_word(const uint8_t *bytes) {
+    return (uint32_t)bytes[0] | (uint32_t)bytes[1] << 8 | (uint32_t)bytes[2] << 16 | (uint32_t)bytes[3] << 24;
+}
+
+/* How many variables the plan has; they are numbered from 1. */
+static inline uint32_t planner_plan_variables(const planner_plan *plan) { return planner_word(plan->tables); }
+
+/* How many clauses the plan has; they are numbered from 1, in the order of the file. */
+static inline uint32_t planner_plan_clauses(const planner_plan *plan) { return planner_word(plan->tables + 4); }
+
+/* What a variable adds to the cost where its byte is 1; 0 for one that is not in the plan. */
+static inline int64_t planner_plan_coefficient(const planner_plan *plan, uint32_t variable) {
+    if (variable < 1 || variable > PLANNER_MOST_VARIABLES) return 0;
+    uint32_t word = planner_word(plan->tables + 16 + 4 * ((size_t)variable - 1));
+    return (int64_t)(word ^ 0x80000000u) - INT64_C(0x80000000);
+}
+
+/* The cost of the state's assignment. */
+static inline int64_t planner_state_cost(const planner_state *state, const planner_plan *plan) {
+    uint32_t variables = planner_plan_variables(plan);
+    int64_t cost = 0;
+    for (uint32_t variable = 1; variable <= variables && variable <= PLANNER_MOST_VARIABLES; variable++) {
+        if (state->assignment[variable - 1]) cost += planner_plan_coefficient(plan, variable);
+    }
+    return cost;
+}
+
+/* How many clauses the state's assignment does not meet. */
+static inline uint32_t planner_state_unmet(const planner_state *state) {
+    return planner_word(state->tallies + PLANNER_TALLIES_SIZE - 4);
+}
+
+/* Whether it meets a clause; 0 for one that is not in the plan. */
+static inline int planner_state_meets(const planner_state *state, uint32_t clause) {
+    if (clause < 1 || clause > PLANNER_MOST_CLAUSES) return 0;
+    return planner_word(state->tallies + 4 * (PLANNER_MOST_RULES + 1) + 4 * ((size_t)clause - 1)) != 0;
+}
+
+/* ---- guards: the layout that the archive has */
+
+#if defined(__cplusplus) && __cplusplus >= 201103L
+#define PLANNER_GUARD(condition) static_assert(condition, #condition)
+#elif !defined(__cplusplus) && defined(__STDC_VERSION__) && __STDC_VERSION__ >= 201112L
+#define PLANNER_GUARD(condition) _Static_assert(condition, #condition)
+#else
+#define PLANNER_GUARD(condition) struct planner_guard
+#endif
+
+PLANNER_GUARD(sizeof(void *) == 8 && sizeof(size_t) == 8);
+PLANNER_GUARD(sizeof(planner_loaded) == 16 && offsetof(planner_loaded, offset) == 8);
+PLANNER_GUARD(sizeof(planner_counted) == 12 && offsetof(planner_counted, make_count) == 8);
+PLANNER_GUARD(sizeof(planner_searched) == 40 && offsetof(planner_searched, cost) == 8);
+PLANNER_GUARD(offsetof(planner_searched, finds) == 16 && offsetof(planner_searched, used) == 32);
+PLANNER_GUARD(sizeof(planner_plan) == PLANNER_TABLES_SIZE + PLANNER_TERMS_SIZE);
+PLANNER_GUARD(sizeof(planner_state) == PLANNER_ASSIGNMENT_SIZE + PLANNER_TALLIES_SIZE);
+PLANNER_GUARD(sizeof(planner_work) == sizeof(planner_plan) + sizeof(planner_state) + PLANNER_MARKS_SIZE);
+PLANNER_GUARD(PLANNER_TABLES_SIZE ==
+              4 * (4 + PLANNER_MOST_VARIABLES + 2 * (PLANNER_MOST_CLAUSES + 1) + 5 * (PLANNER_MOST_RULES + 1)));
+PLANNER_GUARD(PLANNER_TERMS_SIZE == 8 * (PLANNER_MOST_TERMS + PLANNER_MOST_VARIABLES));
+PLANNER_GUARD(PLANNER_TALLIES_SIZE == 4 * (PLANNER_MOST_RULES + 1 + PLANNER_MOST_CLAUSES + 1 + 1));
+PLANNER_GUARD(PLANNER_TABLES_SIZE <= 65536 && PLANNER_TERMS_SIZE <= 65536 && PLANNER_TALLIES_SIZE <= 65536);
+
+#undef PLANNER_GUARD
 
 #ifdef __cplusplus
 }

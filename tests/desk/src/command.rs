@@ -1,5 +1,6 @@
 //! The commands. Each gives what is to be printed and the exit code, and prints nothing itself.
 
+use crate::print::clause;
 use crate::read::{read_bytes, Text};
 use crate::report::{counted, show};
 use crate::tokens::Fault;
@@ -14,7 +15,8 @@ desk: plans for the box in the start tent, as text (see docs/DESK.md)
 
   desk write PLAN.txt FOLDER SEED COUNT
       writes plan.bin, walk.bin and numbers.bin into the folder;
-      COUNT numbers, 16384 at most, are drawn from SEED
+      COUNT numbers, 16384 at most, are drawn from SEED;
+      and for the screen names.txt and clauses.txt
   desk show FOLDER | plan.bin [PLAN.txt]
       prints a plan as text, then its sizes, or why it is refused;
       with PLAN.txt variables are called by the names it gives
@@ -78,6 +80,14 @@ fn number(what: &str, word: &str, most: u64) -> Result<u64, Stop> {
     }
 }
 
+/// What the screen calls variables and clauses: one line for each.
+fn names_and_clauses(text: &Text) -> [String; 2] {
+    let names = (1..=text.plan.variables).map(|variable| text.names.called(variable) + "\n");
+    let clauses = text.plan.clauses.iter();
+    let clauses = clauses.map(|each| clause(each, &text.names) + "\n");
+    [names.collect(), clauses.collect()]
+}
+
 fn write_files(path: &str, folder: &str, seed: &str, count: &str) -> Done {
     let seed = number("SEED", seed, u64::MAX)?;
     let count = number("COUNT", count, MOST_NUMBERS as u64)? as usize;
@@ -88,6 +98,7 @@ fn write_files(path: &str, folder: &str, seed: &str, count: &str) -> Done {
             text.last_line
         ));
     };
+    let [names, clauses] = names_and_clauses(&text);
     let files = [
         ("plan.bin", write(&text.plan), String::new()),
         ("walk.bin", write_settings(&settings), String::new()),
@@ -96,6 +107,8 @@ fn write_files(path: &str, folder: &str, seed: &str, count: &str) -> Done {
             write_numbers(&Random::new(seed).numbers(count)),
             format!(", {} from seed {seed}", counted(count, "number")),
         ),
+        ("names.txt", names.into_bytes(), String::new()),
+        ("clauses.txt", clauses.into_bytes(), String::new()),
     ];
     let mut out = String::new();
     for (name, bytes, more) in files {

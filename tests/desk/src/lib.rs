@@ -8,4 +8,5 @@ pub mod names;
 pub mod print;
 pub mod read;
 pub mod report;
+pub mod screen;
 pub mod tokens;

@@ -1,7 +1,7 @@
 //! A plan in the text form. Reading it again gives the same plan, names and settings.
 
 use crate::names::Names;
-use reference::plan::{Plan, Rule, Term};
+use reference::plan::{Clause, Plan, Rule, Term};
 use reference::walk::{Settings, LINEAR};
 
 /// A sum's lines are broken before this column; the word before a sum is short.
@@ -57,6 +57,16 @@ fn rule(rule: &Rule, names: &Names) -> Vec<String> {
         (None, None) => panic!("a rule has a bound"),
     };
     before.into_iter().chain(sum).chain(behind).collect()
+}
+
+/// A clause on one line, without the word that begins it.
+pub fn clause(clause: &Clause, names: &Names) -> String {
+    let rules: Vec<String> = clause
+        .rules
+        .iter()
+        .map(|one| rule(one, names).join(" "))
+        .collect();
+    rules.join(" or ")
 }
 
 /// `variable 7 ford` for each name, `variables 7` for a row of variables without one.

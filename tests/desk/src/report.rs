@@ -38,33 +38,45 @@ pub fn counted(count: usize, what: &str) -> String {
     format!("{} {what}{ending}", grouped(count as i64))
 }
 
-/// What a refusal by a file means.
+/// Every refusal in plain words, by its number: those of the files, of the settings, and of what a
+/// program lends. include/planner.h and docs/REFUSALS.md have the same words.
+pub const REFUSALS: [(u32, &str); 18] = [
+    (1, "the file ends in the middle of a field"),
+    (2, "a field of this kind may not stand here"),
+    (3, "no field of this kind has this length"),
+    (
+        4,
+        "the number of variables is not from 1 to 512, or this is one clause, rule or term too \
+         many",
+    ),
+    (
+        5,
+        "a term's variable is not in the plan or not above the one before it, or its coefficient \
+         is 0 or beyond 1,000,000 either way",
+    ),
+    (
+        6,
+        "a rule's mode is not 1, 2 or 3, a bound is beyond 1,000,000,000 either way, or an \
+         absent bound is not written 0",
+    ),
+    (7, "the file goes on after its end"),
+    (8, "the list of numbers ends in the middle of a number"),
+    (9, "the file has more than 65,536 bytes"),
+    (11, "the noise is not from 0 to 1,000"),
+    (12, "the number of tries is not from 1 to 1,000"),
+    (13, "the number of flips is not from 1 to 1,000,000"),
+    (14, "the mode is neither 0 (linear) nor 1 (LBS)"),
+    (21, "a buffer is too small"),
+    (22, "the tables hold no plan as loading leaves it"),
+    (23, "the plan has no such variable"),
+    (24, "the assignment has a byte other than 0 and 1"),
+    (25, "the tallies are not those of this assignment"),
+];
+
+/// What a refusal means.
 pub fn plain(number: u32) -> &'static str {
-    match number {
-        1 => "the file ends before this field does",
-        2 => "a field of this kind may not stand here",
-        3 => "no field of this kind has this length",
-        4 => {
-            "the number of variables is not from 1 to 512, or this is one clause, rule or term \
-             too many"
-        }
-        5 => {
-            "a term's variable is not in the plan or not above the one before it, or its \
-             coefficient is 0 or beyond 1,000,000 either way"
-        }
-        6 => {
-            "a rule's mode is not 1, 2 or 3, a bound is beyond 1,000,000,000 either way, or an \
-             absent bound is not written 0"
-        }
-        7 => "bytes stand behind the end",
-        8 => "its length is not a multiple of 4",
-        9 => "it has more than 65,536 bytes",
-        11 => "the noise is not from 0 to 1,000",
-        12 => "the number of tries is not from 1 to 1,000",
-        13 => "the number of flips is not from 1 to 1,000,000",
-        14 => "the mode is neither 0 (linear) nor 1 (LBS)",
-        _ => "this number is no refusal of a file",
-    }
+    let refusal = REFUSALS.iter().find(|(each, _)| *each == number);
+    refusal.map_or("no refusal has this number", |(_, words)| words)
 }
 
 /// Where in a plan an offset lies: the fields before it are in order.
@@ -82,7 +94,7 @@ fn place(bytes: &[u8], offset: usize) -> String {
     match (clauses, rules) {
         (0, _) => String::from(", before the first clause"),
         (_, 0) => format!(", at the start of clause {clauses}"),
-        _ => format!(", behind rule {rules} of clause {clauses}"),
+        _ => format!(", after rule {rules} of clause {clauses}"),
     }
 }
 

@@ -46,11 +46,12 @@ fn printed(code: i32, words: &str) -> (i32, String, String) {
 }
 
 #[test]
-fn three_files_are_written_and_accepted() {
+fn the_files_are_written_and_accepted() {
     let folder = folder("write");
     fs::write(folder.join("plan.txt"), TEXT).unwrap();
     let out = "wrote ./plan.bin: 83 bytes\nwrote ./walk.bin: 12 bytes\n\
-               wrote ./numbers.bin: 400 bytes, 100 numbers from seed 7\n";
+               wrote ./numbers.bin: 400 bytes, 100 numbers from seed 7\n\
+               wrote ./names.txt: 18 bytes\nwrote ./clauses.txt: 38 bytes\n";
     let arguments = ["write", "plan.txt", ".", "7", "100"];
     assert_eq!(desk(&folder, &arguments), printed(0, out));
     let file = |name| fs::read(folder.join(name)).unwrap();
@@ -58,6 +59,9 @@ fn three_files_are_written_and_accepted() {
     assert_eq!((plan.variables, plan.clauses.len()), (3, 2));
     assert_eq!(parse_settings(&file("walk.bin")).unwrap().tries, 2);
     assert_eq!(parse_numbers(&file("numbers.bin")).unwrap().len(), 100);
+    assert_eq!(file("names.txt"), b"start\nford\nbridge\n");
+    let clauses = b"start >= 1\nstart + ford + bridge >= 2\n";
+    assert_eq!(file("clauses.txt"), clauses);
 }
 
 #[test]
@@ -115,11 +119,12 @@ fn a_refused_file_is_explained() {
     }
     fs::write(folder.join("numbers.bin"), [0; 5]).unwrap();
     let plan = "# plan.bin is refused: number 1, offset 0, before the first clause: \
-                the file ends before this field does\n";
+                the file ends in the middle of a field\n";
     assert_eq!(desk(&folder, &["show", "plan.bin"]), printed(1, plan));
-    let walk = "# walk.bin is refused: number 1, offset 0: the file ends before this field does\n";
+    let walk =
+        "# walk.bin is refused: number 1, offset 0: the file ends in the middle of a field\n";
     let numbers = "# numbers.bin is refused: number 8, offset 0: \
-                   its length is not a multiple of 4\n";
+                   the list of numbers ends in the middle of a number\n";
     let out = format!("{plan}{walk}{numbers}");
     assert_eq!(desk(&folder, &["show", "."]), printed(1, &out));
 }

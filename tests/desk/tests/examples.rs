@@ -3,7 +3,7 @@
 
 use desk::command::run;
 use desk::read::read_bytes;
-use reference::file::{parse, parse_numbers, parse_settings};
+use reference::file::{parse, parse_numbers, parse_settings, write, write_settings};
 use reference::program::lines;
 use reference::walk::{search, Ending};
 use std::fs;
@@ -72,22 +72,26 @@ fn every_example_prints_what_it_expects() {
 
 #[test]
 fn the_race_day_s_files_come_from_its_text() {
-    let folder = empty_folder("race-day");
-    fs::copy(
-        example("race-day").join("plan.txt"),
-        folder.join("plan.txt"),
-    )
-    .unwrap();
+    let (folder, bundled) = (empty_folder("race-day"), example("race-day"));
+    fs::copy(bundled.join("plan.txt"), folder.join("plan.txt")).unwrap();
     desk(&folder, &RACE_DAY);
-    for (name, (made, bundled)) in FILES.iter().zip(
-        three_files(&folder)
-            .iter()
-            .zip(&three_files(&example("race-day"))),
-    ) {
-        assert!(made == bundled, "{name} is not what plan.txt gives");
+    for name in FILES.iter().chain(&["names.txt", "clauses.txt"]) {
+        let [made, kept] = [&folder, &bundled].map(|place| fs::read(place.join(name)).unwrap());
+        assert!(made == kept, "{name} is not what plan.txt gives");
     }
     let command = format!("desk {}", RACE_DAY.join(" "));
-    assert!(text(&example("race-day").join("README.md")).contains(&command));
+    assert!(text(&bundled.join("README.md")).contains(&command));
+}
+
+/// The list of numbers is document 01's; plan and settings are those of the text.
+#[test]
+fn the_two_sites_come_from_their_text() {
+    let folder = example("two-sites");
+    let text = read_bytes(&fs::read(folder.join("plan.txt")).unwrap());
+    let text = text.ok().unwrap();
+    let [plan, walk, _] = three_files(&folder);
+    assert_eq!(write(&text.plan), plan);
+    assert_eq!(write_settings(&text.settings.unwrap()), walk);
 }
 
 #[test]

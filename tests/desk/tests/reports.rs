@@ -1,6 +1,6 @@
 //! What is said about the three files: sizes and refusals.
 
-use desk::report::{plain, show, MOST_PLAN, TABLES, TALLIES, TERMS};
+use desk::report::{plain, show, MOST_PLAN, REFUSALS, TABLES, TALLIES, TERMS};
 use reference::file::{write, write_field, write_settings, CLAUSE};
 use reference::plan::{Clause, Plan, Rule, Term};
 use reference::random::{full_plan, Random};
@@ -71,30 +71,30 @@ fn a_refused_plan() {
         (cut(0), 1, 0, first),
         (cut(FIELDS[1]), 1, 5, first),
         (cut(FIELDS[3] + 4), 1, 11, "at the start of clause 1"),
-        (cut(FIELDS[4]), 1, 35, "behind rule 1 of clause 1"),
+        (cut(FIELDS[4]), 1, 35, "after rule 1 of clause 1"),
         (with(FIELDS[0], 5), 2, 0, first),
         (with(FIELDS[5], 3), 2, 38, "at the start of clause 2"),
-        (with(FIELDS[7], 2), 2, 74, "behind rule 2 of clause 2"),
-        (with(FIELDS[7] + 1, 6), 3, 74, "behind rule 2 of clause 2"),
+        (with(FIELDS[7], 2), 2, 74, "after rule 2 of clause 2"),
+        (with(FIELDS[7] + 1, 6), 3, 74, "after rule 2 of clause 2"),
         (with(FIELDS[0] + 3, 0), 4, 0, first),
         (with(FIELDS[3] + 12, 7), 5, 11, "at the start of clause 1"),
-        (with(FIELDS[6] + 3, 4), 6, 56, "behind rule 1 of clause 2"),
+        (with(FIELDS[6] + 3, 4), 6, 56, "after rule 1 of clause 2"),
     ] {
         let words = plain(number);
         let line = format!("number {number}, offset {offset}, {place}: {words}");
         assert_eq!(text, format!("# plan.bin is refused: {line}\n"));
     }
     let longer = [&file[..], &[0]].concat();
-    let line = "# plan.bin is refused: number 7, offset 77: bytes stand behind the end\n";
+    let line = "# plan.bin is refused: number 7, offset 77: the file goes on after its end\n";
     assert_eq!(shown(&longer), line);
-    let line = "# plan.bin is refused: number 9, offset 0: it has more than 65,536 bytes\n";
+    let line = "# plan.bin is refused: number 9, offset 0: the file has more than 65,536 bytes\n";
     assert_eq!(shown(&[0; 65_537]), line);
     // One clause too many.
     let mut clauses = file[..FIELDS[2]].to_vec();
     let clause = [&write_field(CLAUSE, &[])[..], &file[FIELDS[5]..FIELDS[6]]].concat();
     clauses.extend(clause.repeat(513));
     let line = format!(
-        "offset {}, behind rule 1 of clause 512",
+        "offset {}, after rule 1 of clause 512",
         8 + 512 * clause.len()
     );
     assert!(shown(&clauses).contains(&line));
@@ -134,11 +134,12 @@ fn the_other_two_files() {
         (vec![], "# numbers.bin: 0 numbers\n"),
         (
             vec![0; 41],
-            "# numbers.bin is refused: number 8, offset 0: its length is not a multiple of 4\n",
+            "# numbers.bin is refused: number 8, offset 0: \
+             the list of numbers ends in the middle of a number\n",
         ),
         (
             vec![0; 65_540],
-            "# numbers.bin is refused: number 9, offset 0: it has more than 65,536 bytes\n",
+            "# numbers.bin is refused: number 9, offset 0: the file has more than 65,536 bytes\n",
         ),
     ] {
         let shown = show(&file, Some(&walk(1, 2, 3, 1)), Some(&numbers), None);
@@ -151,10 +152,10 @@ fn the_other_two_files() {
 }
 
 #[test]
-fn every_refusal_of_a_file_has_words_of_its_own() {
-    let mut words: Vec<&str> = (1..=14).filter(|&number| number != 10).map(plain).collect();
+fn every_refusal_has_words_of_its_own() {
+    let mut words: Vec<&str> = REFUSALS.iter().map(|&(number, _)| plain(number)).collect();
     words.sort_unstable();
     words.dedup();
-    assert_eq!(words.len(), 13);
+    assert_eq!(words.len(), REFUSALS.len());
     assert!(!words.contains(&plain(10)) && plain(10) == plain(99));
 }

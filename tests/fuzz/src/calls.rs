@@ -11,7 +11,8 @@ use reference::tallies::Tallies;
 
 const SIZES: [usize; 4] = [TABLES, TERM_TABLE, ASSIGNMENT, TALLIES];
 
-/// The plan and its bits where opening accepts them; else the first condition met in the order 21, 22, 24.
+/// The plan and its bits where opening accepts them; else the first condition met in the order 21,
+/// 22, 24.
 fn opened(lent: &[Guarded; 4]) -> Result<(Plan, Vec<bool>), u32> {
     let [tables, terms, assignment, _] = lent;
     if lent

@@ -1,5 +1,6 @@
-//! Calls of the library with anything at all: files, tables, assignments, tallies, settings and lists, lawful, damaged and random, in buffers of any
-//! length with guard bytes around them. Each answer and each byte left is compared with the reference.
+//! Calls of the library with anything at all: files, tables, assignments, tallies, settings and
+//! lists, lawful, damaged and random, in buffers of any length with guard bytes around them. Each
+//! answer and each byte left is compared with the reference.
 //!
 //! A case is made from its number and the seed alone, so that one that fails can be made again.
 
@@ -34,7 +35,8 @@ pub fn run(seed: u64, mut more: impl FnMut(u64) -> bool) -> Figures {
     let mut figures = Figures::new();
     let mut number = 0;
     while more(number) {
-        // The number stands above the bits of any seed likely to be given, so that two seeds have no case in common.
+        // The number stands above the bits of any seed likely to be given, so that two seeds have
+        // no case in common.
         let mut random = Random::new(seed ^ number.rotate_right(24));
         let told = Telling { seed, number };
         case(&mut random, &mut figures);

@@ -1,5 +1,6 @@
-//! fuzz SECONDS SEED [COUNT]: the cases of a seed for so many seconds, or so many cases if that comes first; then how often each call gave each
-//! refusal. It stops at the first case in which the library and the reference differ, and says which it was.
+//! fuzz SECONDS SEED [COUNT]: the cases of a seed for so many seconds, or so many cases if that
+//! comes first; then how often each call gave each refusal. It stops at the first case in which the
+//! library and the reference differ, and says which it was.
 
 use std::process::exit;
 use std::time::{Duration, Instant};

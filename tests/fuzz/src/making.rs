@@ -51,8 +51,8 @@ pub fn word(random: &mut Random) -> u32 {
     }
 }
 
-/// Changes a bit, a byte or a word, or writes one word over another; most likely among the words in use, which come first in each of the
-/// `sections` (their first bytes).
+/// Changes a bit, a byte or a word, or writes one word over another; most likely among the words in
+/// use, which come first in each of the `sections` (their first bytes).
 pub fn spoil(random: &mut Random, bytes: &mut [u8], sections: &[usize]) {
     let section = sections[random.below(sections.len())];
     let place = |random: &mut Random| match random.below(4) {
@@ -78,7 +78,8 @@ pub fn spoil(random: &mut Random, bytes: &mut [u8], sections: &[usize]) {
 /// Where the sections of the tables begin: counts, clauses, rules (docs/FORMAT.md).
 const TABLE_SECTIONS: [usize; 3] = [0, 2_064, 6_168];
 
-/// Two tables: those of a plan, most often; else spoiled in a place or some, or the two of different plans.
+/// Two tables: those of a plan, most often; else spoiled in a place or some, or the two of
+/// different plans.
 pub fn tables(random: &mut Random, plan: &Plan) -> (Vec<u8>, Vec<u8>) {
     let (mut tables, mut terms) = layout::tables(plan);
     match random.below(10) {

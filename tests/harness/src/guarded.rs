@@ -23,7 +23,8 @@ impl Guarded {
         }
     }
 
-    /// A buffer that begins with these bytes and goes on with noise up to a length, which may be less than theirs.
+    /// A buffer that begins with these bytes and goes on with noise up to a length, which may be
+    /// less than theirs.
     pub fn sized(random: &mut Random, bytes: &[u8], length: usize) -> Guarded {
         let mut held = bytes[..bytes.len().min(length)].to_vec();
         let mut noise = random.draw();

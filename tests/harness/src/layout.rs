@@ -106,7 +106,8 @@ fn word(bytes: &[u8], index: usize) -> Option<u32> {
     Some(u32::from_le_bytes(bytes.try_into().unwrap()))
 }
 
-/// The plan that two tables seem to hold, where every place they point at is inside and every mode is one.
+/// The plan that two tables seem to hold, where every place they point at is inside and every mode
+/// is one.
 pub fn plan(tables: &[u8], terms: &[u8]) -> Option<Plan> {
     let signed = |word: u32| word as i32 as i64;
     let variables = word(tables, 0)? as usize;
@@ -156,7 +157,8 @@ pub fn plan(tables: &[u8], terms: &[u8]) -> Option<Plan> {
     })
 }
 
-/// The plan whose loading leaves these tables, if there is one: the condition of refusal 22. Places past the full limits do not matter.
+/// The plan whose loading leaves these tables, if there is one: the condition of refusal 22. Places
+/// past the full limits do not matter.
 pub fn loaded(tables: &[u8], terms: &[u8]) -> Option<Plan> {
     let (tables_now, terms_now) = (&tables[..TABLES], &terms[..TERM_TABLE]);
     let plan = file::parse(&file::write(&plan(tables_now, terms_now)?)).ok()?;

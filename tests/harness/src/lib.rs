@@ -4,5 +4,6 @@ pub mod guarded;
 pub mod layout;
 pub mod planner;
 pub mod probe;
+pub mod program;
 pub mod replay;
 pub mod searching;

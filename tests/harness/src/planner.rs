@@ -31,7 +31,8 @@ pub struct Searched {
     pub used: usize,
 }
 
-mod raw {
+/// The functions as they are exported.
+pub mod raw {
     use super::{Counted, Loaded, Searched};
 
     extern "C" {

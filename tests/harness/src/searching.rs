@@ -12,15 +12,18 @@ pub const SIZES: [usize; 8] = [
     TABLES, TERM_TABLE, ASSIGNMENT, TABLES, TERM_TABLE, ASSIGNMENT, TALLIES, MARKS,
 ];
 
+/// The endings in the order of their numbers in the C interface, from 1.
+pub const ENDINGS: [Ending; 5] = [
+    Ending::Floor,
+    Ending::Ended,
+    Ending::None,
+    Ending::ShortFound,
+    Ending::ShortNone,
+];
+
 /// An ending's number in the C interface.
 pub fn ending(ending: Ending) -> u32 {
-    match ending {
-        Ending::Floor => 1,
-        Ending::Ended => 2,
-        Ending::None => 3,
-        Ending::ShortFound => 4,
-        Ending::ShortNone => 5,
-    }
+    1 + ENDINGS.iter().position(|&each| each == ending).unwrap() as u32
 }
 
 /// The answer that carries this refusal.
@@ -88,7 +91,8 @@ impl Lent {
         [x, y, z, a, b, c, d, e]
     }
 
-    /// The plan of the tables, where no condition is met; else the first in the order 21, 22, 11, 12, 13, 14.
+    /// The plan of the tables, where no condition is met; else the first in the order 21, 22, 11,
+    /// 12, 13, 14.
     fn judged(&self, settings: &Settings) -> Result<Plan, u32> {
         if self
             .lengths()

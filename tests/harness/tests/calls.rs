@@ -1,4 +1,5 @@
-//! Opening, flip and counts against the reference's book: answers, every byte, refusals in their order.
+//! Opening, flip and counts against the reference's book: answers, every byte, refusals in their
+//! order.
 
 use harness::guarded::Guarded;
 use harness::layout::{self, ASSIGNMENT, TABLES, TALLIES, TERM_TABLE};
@@ -9,7 +10,8 @@ use reference::plan::Plan;
 use reference::random::{self, Random};
 use reference::tallies::Tallies;
 
-/// What is lent to a call: the two tables, the assignment and the tallies, each with noise past its full limit.
+/// What is lent to a call: the two tables, the assignment and the tallies, each with noise past its
+/// full limit.
 #[derive(Clone, PartialEq)]
 struct Lent {
     tables: Guarded,
@@ -112,8 +114,34 @@ impl Lent {
     }
 }
 
+/// What came up in lists of calls.
+#[derive(Default, Debug)]
+struct Met {
+    flips: u32,
+    counts: u32,
+    /// Counts calls with a count at the cap.
+    capped: u32,
+    refused: u32,
+}
+
+impl Met {
+    fn count(&mut self, answer: Answer) {
+        match answer {
+            Answer::Flipped => self.flips += 1,
+            Answer::Refused(_) => self.refused += 1,
+            Answer::Counts {
+                break_count,
+                make_count,
+            } => {
+                self.counts += 1;
+                self.capped += (break_count.max(make_count) == u32::MAX) as u32;
+            }
+        }
+    }
+}
+
 /// A list of calls after an opening, each handed what the last one left.
-fn check_list(random: &mut Random, plan: &Plan, length: usize) {
+fn check_list(random: &mut Random, plan: &Plan, length: usize, met: &mut Met) {
     let bits = random.assignment(plan.variables);
     let mut lent = Lent::new(random, plan, &bits);
     let opened = lent.holding(plan, &bits);
@@ -124,6 +152,7 @@ fn check_list(random: &mut Random, plan: &Plan, length: usize) {
         let call = random::call(random, plan.variables);
         let wanted = book.call(call);
         assert_eq!(lent.call(call), wanted, "{call:?}");
+        met.count(wanted);
         assert!(
             lent == opened.holding(plan, book.bits()),
             "{call:?} left other bytes"
@@ -134,23 +163,41 @@ fn check_list(random: &mut Random, plan: &Plan, length: usize) {
 #[test]
 fn lists_of_calls_on_small_plans() {
     let mut random = Random::new(21);
+    let mut met = Met::default();
     for _ in 0..1_500 {
         let plan = random::small_plan(&mut random);
-        check_list(&mut random, &plan, 12);
+        check_list(&mut random, &plan, 12, &mut met);
     }
+    let least = met.flips.min(met.counts).min(met.refused);
+    assert!(least > 500, "{met:?}");
 }
 
 #[test]
 fn lists_of_calls_on_large_plans() {
     let mut random = Random::new(22);
+    let (mut met, mut heavy) = (Met::default(), Met::default());
     for round in 0..60 {
-        let plan = match round % 3 {
-            0 => random::full_plan(&mut random),
-            1 => random::heavy_plan(&mut random),
-            _ => random::race_plan(&mut random),
+        match round % 3 {
+            0 => {
+                let plan = random::full_plan(&mut random);
+                check_list(&mut random, &plan, 40, &mut met);
+            }
+            1 => {
+                let plan = random::heavy_plan(&mut random);
+                check_list(&mut random, &plan, 40, &mut heavy);
+            }
+            _ => {
+                let plan = random::race_plan(&mut random);
+                check_list(&mut random, &plan, 40, &mut met);
+            }
         };
-        check_list(&mut random, &plan, 40);
     }
+    assert!(met.flips.min(met.counts) > 100, "{met:?}");
+    // On both sides of the cap.
+    assert!(
+        heavy.capped > 30 && heavy.counts - heavy.capped > 30,
+        "{heavy:?}"
+    );
 }
 
 /// Counts against the expansion written out.
@@ -165,7 +212,7 @@ fn counts_by_brute_expansion() {
         };
         let bits = random.assignment(plan.variables);
         let mut lent = Lent::new(&mut random, &plan, &bits);
-        lent.open();
+        assert_eq!(lent.open(), 0);
         for variable in 1..=plan.variables {
             let wanted = Counted {
                 refusal: 0,
@@ -179,70 +226,125 @@ fn counts_by_brute_expansion() {
     assert!(counted > 3_000);
 }
 
-/// Each of the five conditions, alone and two at once: the first in the order 21, 22, 24, 25, 23 is answered, and no byte changes.
-#[test]
-fn refusals_in_their_order() {
-    let mut random = Random::new(24);
-    for round in 0..600 {
-        let plan = random::race_plan(&mut random);
-        let bits = random.assignment(plan.variables);
-        let mut lent = Lent::new(&mut random, &plan, &bits);
-        lent.open();
-        let mut wanted = 0;
-        let mut variable = 1 + random.below(plan.variables) as u32;
-        for condition in [23, 25, 24, 22, 21] {
-            if !random.percent(35) {
-                continue;
-            }
-            match condition {
-                23 => variable = [0, plan.variables as u32 + 1, u32::MAX][random.below(3)],
-                25 => lent.tallies.lend()[random.below(TALLIES)] ^= 1 << random.below(8),
-                24 => {
-                    lent.assignment.lend()[random.below(plan.variables)] =
-                        2 + random.below(254) as u8
-                }
-                22 => lent.tables.lend()[4 + random.below(12)] ^= 0x80,
-                _ => {
-                    let short = &lent.tallies.bytes()[..TALLIES - 1].to_vec();
-                    lent.tallies = Guarded::holding(short, 9);
-                }
-            }
-            wanted = condition;
+/// A buffer cut to a length.
+fn shorten(buffer: &mut Guarded, length: usize) {
+    *buffer = Guarded::holding(&buffer.bytes()[..length], 9);
+}
+
+/// Ways to spoil tables so that no accepted loading leaves them.
+fn spoil_tables(lent: &mut Lent, way: usize) {
+    let rules = 4 * (4 + 512 + 2 * 513);
+    match way {
+        // The counts of variables, clauses, rules and terms.
+        0 => lent.tables.lend()[3] ^= 0x80,
+        1 => lent.tables.lend()[7] ^= 0x80,
+        2 => lent.tables.lend()[11] ^= 0x80,
+        3 => lent.tables.lend()[15] ^= 0x80,
+        // The first clause's first rule, the first rule's mode, the first term's variable.
+        4 => lent.tables.lend()[4 * 516] ^= 1,
+        5 => lent.tables.lend()[rules + 8] = 0,
+        6 => lent.terms.lend()[1] ^= 0x80,
+        // The last entry of each section, which no plan uses.
+        7 => lent.tables.lend()[rules - 1] ^= 1,
+        8 => lent.tables.lend()[TABLES - 1] ^= 1,
+        _ => lent.terms.lend()[TERM_TABLE - 1] ^= 1,
+    }
+    let spoiled = layout::loaded(lent.tables.bytes(), lent.terms.bytes());
+    assert!(spoiled.is_none(), "way {way}");
+}
+
+const CONDITIONS: [u32; 5] = [21, 22, 24, 25, 23];
+
+/// How many ways there are to meet each condition.
+const WAYS: [usize; 5] = [8, 10, 3, 3, 3];
+
+/// Brings one condition about, in one of its ways; 21 is to be the last of several.
+fn bring_about(
+    random: &mut Random,
+    lent: &mut Lent,
+    variable: &mut u32,
+    n: usize,
+    condition: u32,
+    way: usize,
+) {
+    match (condition, way) {
+        (21, way) => {
+            let (buffer, size) = match way / 2 {
+                0 => (&mut lent.tables, TABLES),
+                1 => (&mut lent.terms, TERM_TABLE),
+                2 => (&mut lent.assignment, ASSIGNMENT),
+                _ => (&mut lent.tallies, TALLIES),
+            };
+            shorten(buffer, if way % 2 == 0 { size - 1 } else { 0 });
         }
-        let before = lent.clone();
-        let opening = if [21, 22, 24].contains(&wanted) {
-            wanted
-        } else {
-            0
-        };
-        let refusal = if round % 2 == 0 {
-            lent.flip(variable)
-        } else {
-            lent.counts(variable).refusal
-        };
-        assert_eq!(refusal, wanted);
-        if wanted != 0 {
-            assert!(lent == before, "a refused call ({wanted}) changed a byte");
-            assert_eq!(lent.open(), opening);
-            assert!(
-                opening == 0 || lent == before,
-                "a refused opening ({opening}) changed a byte"
-            );
+        (22, way) => spoil_tables(lent, way),
+        (24, way) => {
+            let place = [0, n - 1, random.below(n)][way];
+            lent.assignment.lend()[place] = 2 + random.below(254) as u8;
         }
+        (25, way) => {
+            let place = [0, TALLIES - 1, random.below(TALLIES)][way];
+            lent.tallies.lend()[place] ^= 1 << random.below(8);
+        }
+        (_, way) => *variable = [0, n as u32 + 1, u32::MAX][way],
     }
 }
 
-/// Each buffer alone one byte short, or empty: 21 from each call, whatever else is wrong, and no byte changes.
+/// Every set of the five conditions: the first in the order 21, 22, 24, 25, 23 is answered, and no
+/// byte changes.
+#[test]
+fn refusals_in_their_order() {
+    let mut random = Random::new(24);
+    let mut decided = [0; CONDITIONS.len()];
+    // In each set the ways are gone through side by side.
+    for (set, round) in (0..32_u32).flat_map(|set| (0..10).map(move |round| (set, round))) {
+        let plan = random::race_plan(&mut random);
+        let bits = random.assignment(plan.variables);
+        let mut lent = Lent::new(&mut random, &plan, &bits);
+        assert_eq!(lent.open(), 0);
+        let mut variable = 1 + random.below(plan.variables) as u32;
+        let met: Vec<usize> = (0..5).filter(|place| set >> place & 1 == 1).collect();
+        for &place in met.iter().rev() {
+            let (condition, way) = (CONDITIONS[place], round % WAYS[place]);
+            let n = plan.variables;
+            bring_about(&mut random, &mut lent, &mut variable, n, condition, way);
+        }
+        let wanted = met.first().map_or(0, |&place| CONDITIONS[place]);
+        let before = lent.clone();
+        let refused = Counted {
+            refusal: wanted,
+            break_count: 0,
+            make_count: 0,
+        };
+        let counted = lent.counts(variable);
+        if wanted == 0 {
+            assert_eq!(counted.refusal, 0);
+            assert_eq!(lent.flip(variable), 0);
+            continue;
+        }
+        assert_eq!(counted, refused, "{met:?}, round {round}");
+        assert_eq!(lent.flip(variable), wanted, "{met:?}, round {round}");
+        assert!(lent == before, "a refused call ({wanted}) changed a byte");
+        // Opening knows the first three.
+        let opening = met.iter().map(|&place| CONDITIONS[place]);
+        let opening = opening.clone().find(|number| [21, 22, 24].contains(number));
+        assert_eq!(lent.open(), opening.unwrap_or(0), "{met:?}, round {round}");
+        assert!(opening.is_none() || lent == before, "opening, {met:?}");
+        decided[met[0]] += 1;
+    }
+    // Each condition decided half of the sets that the ones before it left.
+    assert_eq!(decided, [160, 80, 40, 20, 10]);
+}
+
+/// Each buffer alone one byte short, or empty: 21 from each call, whatever else is wrong, and no
+/// byte changes.
 #[test]
 fn each_buffer_one_byte_short() {
     let mut random = Random::new(26);
     let plan = random::race_plan(&mut random);
     let bits = random.assignment(plan.variables);
     let mut good = Lent::new(&mut random, &plan, &bits);
-    good.open();
-    let shorten = |buffer: &mut Guarded, length: usize| {
-        *buffer = Guarded::holding(&buffer.bytes()[..length], 9);
-    };
+    assert_eq!(good.open(), 0);
     for place in 0..4 {
         for (empty, spoiled) in [(false, false), (true, false), (false, true)] {
             let mut lent = good.clone();
@@ -274,16 +376,22 @@ fn each_buffer_one_byte_short() {
     }
 }
 
-/// A single changed byte of good tables: 22, or tables that another file leaves.
+/// A single changed bit of good tables: 22, or tables that another file leaves.
 #[test]
 fn changed_tables() {
     let mut random = Random::new(25);
-    let mut refused = 0;
+    let mut met = [0; 2];
     for _ in 0..3_000 {
         let plan = random::race_plan(&mut random);
         let bits = vec![false; ASSIGNMENT];
         let (mut tables, mut terms) = layout::tables(&plan);
-        let place = random.below(TABLES + TERM_TABLE);
+        // Half of the changes are made among the words in use.
+        let (in_tables, in_terms) = (16 + 4 * plan.variables, 8 * plan.clauses.len());
+        let place = match random.below(4) {
+            0 => random.below(in_tables),
+            1 => TABLES + random.below(in_terms),
+            _ => random.below(TABLES + TERM_TABLE),
+        };
         let change = 1 << random.below(8);
         match place.checked_sub(TABLES) {
             None => tables[place] ^= change,
@@ -292,7 +400,7 @@ fn changed_tables() {
         let loaded = layout::loaded(&tables, &terms).is_some();
         let refusal = open(&tables, &terms, &layout::bits(&bits), &mut vec![0; TALLIES]);
         assert_eq!(refusal, if loaded { 0 } else { 22 });
-        refused += (refusal != 0) as u32;
+        met[(refusal == 22) as usize] += 1;
     }
-    assert!(refused > 1_000, "{refused}");
+    assert!(met.iter().all(|&count| count > 300), "{met:?}");
 }

@@ -26,7 +26,8 @@ fn pascals_triangle_and_beyond() {
     }
 }
 
-/// For each k the m at which m over k passes the cap, and its neighbours, from both ends of the row.
+/// For each k the m at which m over k passes the cap, and its neighbours, from both ends of the
+/// row.
 #[test]
 fn around_the_cap() {
     for k in 1..=40_i64 {

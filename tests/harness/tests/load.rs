@@ -1,4 +1,5 @@
-//! Loading against the reference: the answer, every byte of the tables, and nothing outside of them.
+//! Loading against the reference: the answer, every byte of the tables, and nothing outside of
+//! them.
 
 use harness::guarded::Guarded;
 use harness::layout::{self, TABLES, TERM_TABLE};
@@ -6,7 +7,8 @@ use harness::planner::{load, Loaded};
 use reference::file;
 use reference::random::{self, Random};
 
-/// What the reference says of a file, and the tables that loading must leave in buffers that held `before`.
+/// What the reference says of a file, and the tables that loading must leave in buffers that held
+/// `before`.
 fn expected(bytes: &[u8], before: &[u8], terms_before: &[u8]) -> (Loaded, Vec<u8>, Vec<u8>) {
     let kept = |answer| (answer, before.to_vec(), terms_before.to_vec());
     if before.len() < TABLES || terms_before.len() < TERM_TABLE {

@@ -1,17 +1,14 @@
-//! The program target/bin/tent, run in folders of its own: all that it prints, byte for byte, against the reference on the same three files.
+//! The program target/bin/tent: all that it prints, byte for byte, against the reference on the
+//! same three files.
 
+use harness::program::{check_files, printed, root, Folder, NAMES};
 use reference::file::{write, write_field, write_numbers, write_settings, WALK};
 use reference::plan::Plan;
-use reference::program::lines;
 use reference::random::{self, Random};
 use reference::walk::Settings;
 use std::collections::BTreeMap;
 use std::fs;
-use std::path::{Path, PathBuf};
-use std::process::{Command, Stdio};
-use std::sync::atomic::{AtomicUsize, Ordering};
-
-const NAMES: [&str; 3] = ["plan.bin", "walk.bin", "numbers.bin"];
+use std::os::unix::fs::{symlink, PermissionsExt};
 
 /// Document 01's example: n = 2, objective 1·x1 + 2·x2, one clause x1 + x2 ≥ 1.
 const EXAMPLE_PLAN: [u8; 50] = [
@@ -39,75 +36,6 @@ const EXAMPLE_LINES: &str = "ended 1 2 2 10\n10\n";
 
 /// What is printed with an empty list of numbers.
 const SHORT_NONE: &str = "short-none 0 0 0 0\n-\n";
-
-fn root() -> PathBuf {
-    Path::new(env!("CARGO_MANIFEST_DIR")).join("../..")
-}
-
-/// A temporary folder, removed when it is dropped.
-struct Folder(PathBuf);
-
-impl Folder {
-    /// A folder with these files; None is a file that is not there.
-    fn new(files: &[Option<Vec<u8>>; 3]) -> Folder {
-        static MADE: AtomicUsize = AtomicUsize::new(0);
-        let made = MADE.fetch_add(1, Ordering::Relaxed);
-        let name = format!("tent-{}-{made}", std::process::id());
-        let folder = Folder(std::env::temp_dir().join(name));
-        fs::create_dir(&folder.0).unwrap();
-        for (name, bytes) in NAMES.iter().zip(files) {
-            if let Some(bytes) = bytes {
-                fs::write(folder.0.join(name), bytes).unwrap();
-            }
-        }
-        folder
-    }
-}
-
-impl Drop for Folder {
-    fn drop(&mut self) {
-        let _ = fs::remove_dir_all(&self.0);
-    }
-}
-
-/// All that the program prints in a folder.
-fn printed(folder: &Path) -> String {
-    let program = root().join("target/bin/tent");
-    assert!(
-        program.exists(),
-        "no target/bin/tent: run `rt check tent` in the repository's root"
-    );
-    let output = Command::new(program)
-        .current_dir(folder)
-        .stdin(Stdio::null())
-        .output()
-        .unwrap();
-    assert!(output.status.success(), "{}", output.status);
-    assert_eq!(String::from_utf8_lossy(&output.stderr), "");
-    String::from_utf8(output.stdout).unwrap()
-}
-
-/// A file's start, for the message of a failure.
-fn start(file: &Option<Vec<u8>>) -> String {
-    match file {
-        Some(bytes) => format!("{} bytes {:?}", bytes.len(), &bytes[..bytes.len().min(400)]),
-        None => "missing".to_string(),
-    }
-}
-
-/// Runs the program on these files and compares what it prints with the reference.
-#[track_caller]
-fn check_files(files: &[Option<Vec<u8>>; 3]) -> String {
-    let [plan, walk, numbers] = files.each_ref().map(Option::as_deref);
-    let wanted = lines(plan, walk, numbers);
-    let printed = printed(&Folder::new(files).0);
-    assert!(
-        printed == wanted,
-        "printed {printed:?}, wanted {wanted:?}\n{}",
-        files.each_ref().map(start).join("\n")
-    );
-    printed
-}
 
 #[track_caller]
 fn check(plan: &[u8], walk: &[u8], numbers: &[u8]) -> String {
@@ -194,7 +122,8 @@ fn the_bundled_examples() {
     assert!(folders >= 2);
 }
 
-/// Each file good, missing, empty, at the limit of 65,536 bytes and one byte above, in all combinations.
+/// Each file good, missing, empty, at the limit of 65,536 bytes and one byte above, in all
+/// combinations.
 #[test]
 fn missing_empty_and_long_files() {
     let good = [
@@ -240,9 +169,10 @@ fn missing_empty_and_long_files() {
     }
 }
 
-/// What stands under a file's name cannot be read: a folder, or a link to nothing.
+/// What stands under a file's name cannot be read: a folder, a link to nothing, or a file whose
+/// reading fails. It counts as empty.
 #[test]
-fn folders_and_links_in_place_of_files() {
+fn what_cannot_be_read_is_empty() {
     let good = [
         EXAMPLE_PLAN.to_vec(),
         EXAMPLE_WALK.to_vec(),
@@ -257,7 +187,18 @@ fn folders_and_links_in_place_of_files() {
         fs::create_dir(&path).unwrap();
         assert_eq!(printed(&folder.0), wanted);
         fs::remove_dir(&path).unwrap();
-        std::os::unix::fs::symlink("nothing", &path).unwrap();
+        for target in ["nothing", "/proc/self/mem"] {
+            symlink(target, &path).unwrap();
+            assert_eq!(printed(&folder.0), wanted);
+            fs::remove_file(&path).unwrap();
+        }
+        // A file that may not be read; it may be by whoever may read everything.
+        fs::write(&path, &good[file]).unwrap();
+        fs::set_permissions(&path, fs::Permissions::from_mode(0o000)).unwrap();
+        let wanted = match fs::File::open(&path) {
+            Ok(_) => EXAMPLE_LINES.to_string(),
+            Err(_) => wanted,
+        };
         assert_eq!(printed(&folder.0), wanted);
     }
 }

@@ -2,15 +2,33 @@
 
 use harness::layout::{self, TABLES, TERM_TABLE};
 use harness::planner::Searched;
-use harness::searching::{refused, Lent, SIZES};
+use harness::searching::{refused, Lent, ENDINGS, SIZES};
 use reference::file::{parse, parse_settings, write_numbers};
 use reference::plan::Plan;
 use reference::random::{self, Random};
-use reference::walk::{Settings, LBS, LINEAR};
+use reference::walk::{search_seen, Settings, LBS, LINEAR};
+use reference::worked::walks;
 
 /// Searches on noisy buffers and compares all with the reference.
 fn check(random: &mut Random, plan: &Plan, settings: &Settings, numbers: &[u8]) -> Searched {
     Lent::new(random, plan, numbers).check(settings)
+}
+
+/// An answer as the table of worked walks has it.
+fn line(answer: &Searched, assignment: &[u8]) -> String {
+    let ending = ENDINGS[answer.ending as usize - 1].name();
+    let digits: String = match answer.finds {
+        0 => "-".to_string(),
+        _ => assignment.iter().map(|bit| bit.to_string()).collect(),
+    };
+    let Searched {
+        cost,
+        finds,
+        flips,
+        used,
+        ..
+    } = answer;
+    format!("{ending} {cost} {finds} {flips} {used} {digits}")
 }
 
 /// Settings under which a search often ends within a hundred numbers.
@@ -25,8 +43,8 @@ fn list(random: &mut Random, count: usize) -> Vec<u8> {
     write_numbers(&random.numbers(count))
 }
 
-/// "n = 2, objective 1·x1 + 2·x2, one clause x1 + x2 ≥ 1; noise 500, tries 1, flips 1, mode 1; numbers 2 1 0 5 900 3 0 5 100 0": `ended 1 2 2 10`
-/// and `10`.
+/// "n = 2, objective 1·x1 + 2·x2, one clause x1 + x2 ≥ 1; noise 500, tries 1, flips 1, mode 1;
+/// numbers 2 1 0 5 900 3 0 5 100 0": `ended 1 2 2 10` and `10`.
 #[test]
 fn the_example_of_document_01() {
     let mut random = Random::new(41);
@@ -53,6 +71,21 @@ fn the_example_of_document_01() {
     // Each cut of the list, within a number too.
     for length in 0..=numbers.len() {
         check(&mut random, &plan, &settings, &numbers[..length]);
+    }
+}
+
+/// The walks worked out by hand, through the library: the answer is the table's, and every byte is
+/// as the reference has it.
+#[test]
+fn walks_worked_out_by_hand() {
+    let mut random = Random::new(52);
+    for row in walks() {
+        let numbers = write_numbers(&row.numbers);
+        let mut lent = Lent::new(&mut random, &row.plan, &numbers);
+        lent.clone().check(&row.settings);
+        let answer = lent.search(&row.settings);
+        let found = &lent.assignment.bytes()[..row.plan.variables];
+        assert_eq!(line(&answer, found), row.answer, "{}", row.why);
     }
 }
 
@@ -129,16 +162,30 @@ fn random_small_plans() {
     assert!(met[1..].iter().all(|&count| count > 100), "{met:?}");
 }
 
-/// Counts on both sides of the cap.
+/// Counts on both sides of the cap, and ties at it.
 #[test]
 fn heavy_plans() {
     let mut random = Random::new(45);
+    let (mut met, mut least, mut capped, mut ties) = ([0; 6], 0, 0, 0);
     for _ in 0..1_000 {
         let plan = random::heavy_plan(&mut random);
-        let settings = random::settings(&mut random);
-        let numbers = list(&mut random, 100);
-        check(&mut random, &plan, &settings, &numbers);
+        let mut settings = random::settings(&mut random);
+        if random.percent(50) {
+            settings.noise = 1_000;
+        }
+        let numbers = random.numbers(100);
+        let answer = check(&mut random, &plan, &settings, &write_numbers(&numbers));
+        met[answer.ending as usize] += 1;
+        let seen = search_seen(&plan, &settings, &numbers).unwrap().1;
+        least += seen.least;
+        capped += seen.capped;
+        ties += seen.ties_at_the_cap;
     }
+    assert!(met[1..].iter().all(|&count| count > 20), "{met:?}");
+    assert!(
+        ties > 100 && least - capped > 100,
+        "{least} {capped} {ties}"
+    );
 }
 
 #[test]
@@ -177,7 +224,8 @@ fn the_full_limits() {
     assert!(finds > 0);
 }
 
-/// One buffer one byte short, or empty: 21, whatever else is wrong. The list of numbers may have any length.
+/// One buffer one byte short, or empty: 21, whatever else is wrong. The list of numbers may have
+/// any length.
 #[test]
 fn each_buffer_one_byte_short() {
     let mut random = Random::new(48);
@@ -284,7 +332,8 @@ fn settings_at_their_edges() {
     }
 }
 
-/// Every set of conditions at once: the first in the order 21, 22, 11, 12, 13, 14 is answered, and no byte changes.
+/// Every set of conditions at once: the first in the order 21, 22, 11, 12, 13, 14 is answered, and
+/// no byte changes.
 #[test]
 fn refusals_in_their_order() {
     let mut random = Random::new(51);

@@ -146,10 +146,10 @@ pub struct Counts {
     pub make_count: Number,
 }
 
-/// Equations (6) and (7) without their subtraction. A joined clause is changed by the flip when each
-/// of its parts is changed (spoiled, or mended) or left unsatisfied, and one at least is changed.
-/// Rule by rule: one that is changed so far stays so by a part changed or left; one whose parts are
-/// all left so far is changed by a part that is.
+/// Equations (6) and (7) without their subtraction. A joined clause is changed by the flip when
+/// each of its parts is changed (spoiled, or mended) or left unsatisfied, and one at least is
+/// changed. Rule by rule: one that is changed so far stays so by a part changed or left; one whose
+/// parts are all left so far is changed by a part that is.
 pub fn clause_counts(rules: &[Parts]) -> Counts {
     let changed = |change: fn(&Parts) -> Number| {
         let (mut changed, mut left) = (Number::ZERO, Number::ONE);

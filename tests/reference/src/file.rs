@@ -180,8 +180,8 @@ pub fn parse(bytes: &[u8]) -> Result<Plan, Refusal> {
     }
 }
 
-/// The settings of walk.bin: "one field, tag 16, length 9: noise 2 bytes, tries 2, flips 4, mode 1";
-/// it "meets 1, 2, 3 and 7 with offsets as a plan does, then 11 to 14".
+/// The settings of walk.bin: "one field, tag 16, length 9: noise 2 bytes, tries 2, flips 4, mode
+/// 1"; it "meets 1, 2, 3 and 7 with offsets as a plan does, then 11 to 14".
 pub fn parse_settings(bytes: &[u8]) -> Result<Settings, Refusal> {
     let Field { body, next, .. } = field(bytes, 0, &[WALK])?;
     if next < bytes.len() {

@@ -2,9 +2,22 @@
 
 use crate::file::{parse, parse_numbers, parse_settings, Refusal};
 use crate::walk::{search, Answer};
+use std::fs::File;
+use std::io::Read;
+use std::path::Path;
 
 /// The largest input in bytes.
 pub const MOST_BYTES: usize = 65_536;
+
+/// A file's bytes, one more than the limit at most; None where it cannot be opened or read.
+pub fn contents(path: &Path) -> Option<Vec<u8>> {
+    let file = File::open(path).ok()?;
+    let mut bytes = Vec::new();
+    file.take(MOST_BYTES as u64 + 1)
+        .read_to_end(&mut bytes)
+        .ok()?;
+    Some(bytes)
+}
 
 /// "Any of them above 65,536 bytes gives 9, before all else", then "each judged before the next".
 pub fn run(plan: &[u8], walk: &[u8], numbers: &[u8]) -> Result<Answer, Refusal> {

@@ -111,8 +111,8 @@ impl<'a> Numbers<'a> {
     }
 }
 
-/// A try's start: "take ⌈n/32⌉ numbers; variable i gets bit (i−1) mod 32, bit 0 being the lowest, of
-/// number ⌊(i−1)/32⌋, counted from 0".
+/// A try's start: "take ⌈n/32⌉ numbers; variable i gets bit (i−1) mod 32, bit 0 being the lowest,
+/// of number ⌊(i−1)/32⌋, counted from 0".
 pub fn start(plan: &Plan, numbers: &mut Numbers) -> Result<Vec<bool>, Short> {
     let taken = numbers.take(plan.variables.div_ceil(32))?;
     Ok((1..=plan.variables)
@@ -125,29 +125,84 @@ pub fn choosable(clause: &Clause) -> Vec<usize> {
     clause.variables()
 }
 
+/// How a variable was chosen.
+#[derive(Clone, Copy, Debug, PartialEq, Eq)]
+pub enum How {
+    /// Among those with break count 0.
+    Free,
+    /// Among the least break counts, as many as tie.
+    Least { count: u32, tied: usize },
+    /// Among all.
+    Any,
+}
+
+/// A variable, and how it was chosen.
+#[derive(Clone, Copy, Debug, PartialEq, Eq)]
+pub struct Chosen {
+    pub variable: usize,
+    pub how: How,
+}
+
 /// "Choice (Algorithm 2, SKC) among the clause's variables, each once: if any has break count 0,
 /// pick among those. Otherwise a number r with r mod 1000 < noise leads to a pick among the least
-/// break counts, else to a pick among all." Least is least of the counts given out, the capped ones.
+/// break counts, else to a pick among all." Least is least of the counts given out, the capped
+/// ones.
 pub fn choose(
     variables: &[usize],
     break_count: impl Fn(usize) -> u32,
     noise: u32,
     numbers: &mut Numbers,
-) -> Result<usize, Short> {
+) -> Result<Chosen, Short> {
     let breaks: Vec<u32> = variables.iter().map(|&v| break_count(v)).collect();
     let least = *breaks.iter().min().expect("a clause names a variable");
     let with_least: Vec<usize> = (0..variables.len())
         .filter(|&place| breaks[place] == least)
         .map(|place| variables[place])
         .collect();
-    if least == 0 {
-        return Ok(with_least[numbers.pick(with_least.len())?]);
-    }
-    if numbers.pick(1000)? < noise as usize {
-        Ok(with_least[numbers.pick(with_least.len())?])
+    let (among, how) = if least == 0 {
+        (&with_least[..], How::Free)
+    } else if numbers.pick(1000)? < noise as usize {
+        let (count, tied) = (least, with_least.len());
+        (&with_least[..], How::Least { count, tied })
     } else {
-        Ok(variables[numbers.pick(variables.len())?])
+        (variables, How::Any)
+    };
+    let variable = among[numbers.pick(among.len())?];
+    Ok(Chosen { variable, how })
+}
+
+/// What came up in a search, so that a test can tell whether it tried what it is for.
+#[derive(Clone, Copy, Debug, Default, PartialEq, Eq)]
+pub struct Seen {
+    pub free: u64,
+    pub least: u64,
+    pub any: u64,
+    /// Choices of the least count where that count is at the cap.
+    pub capped: u64,
+    /// Of these, those with more than one variable.
+    pub ties_at_the_cap: u64,
+}
+
+impl Seen {
+    fn count(&mut self, how: How) {
+        match how {
+            How::Free => self.free += 1,
+            How::Any => self.any += 1,
+            How::Least { count, tied } => {
+                self.least += 1;
+                self.capped += (count == u32::MAX) as u64;
+                self.ties_at_the_cap += (count == u32::MAX && tied > 1) as u64;
+            }
+        }
     }
+}
+
+/// What a search has done so far.
+struct Progress<'a> {
+    numbers: Numbers<'a>,
+    flips: u64,
+    finds: Vec<Vec<bool>>,
+    seen: Seen,
 }
 
 /// One call (paper 004, Algorithm 1): a satisfying assignment, or None where all tries failed.
@@ -155,27 +210,28 @@ pub fn choose(
 fn call(
     plan: &Plan,
     settings: &Settings,
-    numbers: &mut Numbers,
-    flips: &mut u64,
+    progress: &mut Progress,
 ) -> Result<Option<Vec<bool>>, Short> {
     let counter = Counter::new(plan);
     for _ in 0..settings.tries {
-        let mut assignment = start(plan, numbers)?;
+        let mut assignment = start(plan, &mut progress.numbers)?;
         for _ in 0..settings.flips {
             let tallies = Tallies::fresh(plan, &assignment);
             let unsatisfied = tallies.unsatisfied_clauses();
             if unsatisfied.is_empty() {
                 return Ok(Some(assignment));
             }
-            let clause = unsatisfied[numbers.pick(unsatisfied.len())?];
+            let clause = unsatisfied[progress.numbers.pick(unsatisfied.len())?];
             let variables = choosable(&plan.clauses[clause]);
             let break_count = |variable| {
                 let counts = counter.counts(&tallies, &assignment, variable);
                 counts.break_count.capped()
             };
-            let variable = choose(&variables, break_count, settings.noise, numbers)?;
-            assignment = flipped(&assignment, variable);
-            *flips += 1;
+            let numbers = &mut progress.numbers;
+            let chosen = choose(&variables, break_count, settings.noise, numbers)?;
+            progress.seen.count(chosen.how);
+            assignment = flipped(&assignment, chosen.variable);
+            progress.flips += 1;
         }
     }
     Ok(None)
@@ -191,21 +247,15 @@ pub fn linear_bound(v: i64) -> i64 {
     v - 1
 }
 
-/// Tightening (paper 000, as document 01 settles it). The finds are added to the list; the answer
-/// is the ending, or Short where the numbers ran out.
-fn tighten(
-    plan: &Plan,
-    settings: &Settings,
-    numbers: &mut Numbers,
-    flips: &mut u64,
-    finds: &mut Vec<Vec<bool>>,
-) -> Result<Ending, Short> {
+/// Tightening (paper 000, as document 01 settles it): the ending, or Short where the numbers ran
+/// out. The finds are added to the list.
+fn tighten(plan: &Plan, settings: &Settings, progress: &mut Progress) -> Result<Ending, Short> {
     // "The first call has the plan alone."
-    let Some(found) = call(plan, settings, numbers, flips)? else {
+    let Some(found) = call(plan, settings, progress)? else {
         return Ok(Ending::None);
     };
     let mut v = plan.cost(&found);
-    finds.push(found);
+    progress.finds.push(found);
     let mut lbs = settings.mode == LBS;
     loop {
         // "A found assignment of cost v with v = l(O) ends the search."
@@ -218,10 +268,10 @@ fn tighten(
             linear_bound(v)
         };
         // "Each added clause replaces the one before."
-        match call(&plan.tightened(bound), settings, numbers, flips)? {
+        match call(&plan.tightened(bound), settings, progress)? {
             Some(found) => {
                 v = plan.cost(&found);
-                finds.push(found);
+                progress.finds.push(found);
             }
             // "At the first failure goes over to linear."
             None if lbs => lbs = false,
@@ -231,23 +281,37 @@ fn tighten(
     }
 }
 
-/// The whole search; refused for its settings alone.
-pub fn search(plan: &Plan, settings: &Settings, list: &[u32]) -> Result<Answer, Refusal> {
+/// The whole search, and what came up in it; refused for its settings alone.
+pub fn search_seen(
+    plan: &Plan,
+    settings: &Settings,
+    list: &[u32],
+) -> Result<(Answer, Seen), Refusal> {
     if let Some(number) = settings.refusal() {
         return Err(Refusal { number, offset: 0 });
     }
-    let mut numbers = Numbers::new(list);
-    let (mut flips, mut finds) = (0, Vec::new());
-    let ending = match tighten(plan, settings, &mut numbers, &mut flips, &mut finds) {
+    let mut progress = Progress {
+        numbers: Numbers::new(list),
+        flips: 0,
+        finds: Vec::new(),
+        seen: Seen::default(),
+    };
+    let ending = match tighten(plan, settings, &mut progress) {
         Ok(ending) => ending,
-        Err(Short) if finds.is_empty() => Ending::ShortNone,
+        Err(Short) if progress.finds.is_empty() => Ending::ShortNone,
         Err(Short) => Ending::ShortFound,
     };
-    Ok(Answer {
+    let answer = Answer {
         ending,
-        cost: finds.last().map_or(0, |found| plan.cost(found)),
-        finds,
-        flips,
-        used: numbers.used(),
-    })
+        cost: progress.finds.last().map_or(0, |found| plan.cost(found)),
+        finds: progress.finds,
+        flips: progress.flips,
+        used: progress.numbers.used(),
+    };
+    Ok((answer, progress.seen))
+}
+
+/// The whole search.
+pub fn search(plan: &Plan, settings: &Settings, list: &[u32]) -> Result<Answer, Refusal> {
+    search_seen(plan, settings, list).map(|(answer, _)| answer)
 }

@@ -1,0 +1,93 @@
+/* Every call of the archive with each buffer a block of its own of exactly the size named, so that valgrind sees a read
+ * or a write past its end; then with one buffer a byte short, and with NULL for it and 0.
+ *
+ *     blocks PLAN NUMBERS COUNT     the search takes the first COUNT numbers
+ */
+#include "planner.h"
+
+#include <stdio.h>
+#include <stdlib.h>
+#include <string.h>
+
+enum { BUFFERS = 5, CUTS = 2 };
+static const size_t sizes[BUFFERS] = {PLANNER_TABLES_SIZE, PLANNER_TERMS_SIZE, PLANNER_ASSIGNMENT_SIZE,
+                                      PLANNER_TALLIES_SIZE, PLANNER_MARKS_SIZE};
+
+/* A block that holds nothing yet; NULL for one of no bytes. */
+static uint8_t *block(size_t size) {
+    if (size == 0) return NULL;
+    uint8_t *bytes = malloc(size);
+    if (!bytes) exit(2);
+    return bytes;
+}
+
+static uint8_t *contents(const char *name, size_t most, size_t *length) {
+    static uint8_t bytes[PLANNER_INPUT_SIZE];
+    FILE *f = fopen(name, "rb");
+    *length = f ? fread(bytes, 1, most < sizeof bytes ? most : sizeof bytes, f) : 0;
+    if (f) fclose(f);
+    uint8_t *exact = block(*length);
+    if (exact) memcpy(exact, bytes, *length);
+    return exact;
+}
+
+static void expect(const char *what, uint32_t refusal, uint32_t wanted) {
+    if (refusal == wanted) return;
+    printf("%s gave %u, not %u\n", what, (unsigned)refusal, (unsigned)wanted);
+    exit(1);
+}
+
+/* All calls on buffers of these sizes; the first three arguments are the refusals that load, the calls and the search
+ * must give. */
+static void run(uint32_t load, uint32_t call, uint32_t search, const size_t *size, const uint8_t *file, size_t length,
+                const uint8_t *numbers, size_t listed) {
+    uint8_t *lent[BUFFERS], *work[BUFFERS];
+    for (int i = 0; i < BUFFERS; i++) {
+        lent[i] = block(size[i]);
+        work[i] = block(size[i]);
+    }
+    /* What a refused file leaves must hold something before it is judged. */
+    if (load == PLANNER_CUT_SHORT) {
+        memset(lent[0], 0, size[0]);
+        memset(lent[1], 0, size[1]);
+    }
+    expect("load", planner_load(file, length, lent[0], size[0], lent[1], size[1]).refusal, load);
+    planner_searched found =
+        planner_search(lent[0], size[0], lent[1], size[1], numbers, listed, 500, 10, 1000, 1, lent[2], size[2], work[0],
+                       size[0], work[1], size[1], work[2], size[2], work[3], size[3], work[4], size[4]);
+    expect("search", found.refusal, search);
+    uint32_t variables = call ? 1 : planner_word(lent[0]);
+    if (!call && !found.finds) memset(lent[2], 0, variables);
+    expect("open", planner_open(lent[0], size[0], lent[1], size[1], lent[2], size[2], lent[3], size[3]), call);
+    for (uint32_t x = 1; x <= variables; x++) {
+        expect("counts",
+               planner_counts(lent[0], size[0], lent[1], size[1], lent[2], size[2], lent[3], size[3], x).refusal, call);
+        expect("flip", planner_flip(lent[0], size[0], lent[1], size[1], lent[2], size[2], lent[3], size[3], x), call);
+    }
+    for (int i = 0; i < BUFFERS; i++) {
+        free(lent[i]);
+        free(work[i]);
+    }
+}
+
+int main(int count, char **arguments) {
+    if (count != 4) return 2;
+    size_t length, listed, size[BUFFERS];
+    uint8_t *file = contents(arguments[1], PLANNER_INPUT_SIZE, &length);
+    uint8_t *numbers = contents(arguments[2], 4 * strtoul(arguments[3], NULL, 10), &listed);
+    uint32_t small = PLANNER_BUFFER_TOO_SMALL;
+    run(0, 0, 0, sizes, file, length, numbers, listed);
+    run(0, 0, 0, sizes, file, length, NULL, 0);
+    run(PLANNER_CUT_SHORT, PLANNER_NOT_LOADED, PLANNER_NOT_LOADED, sizes, NULL, 0, numbers, listed);
+    for (int cut = 0; cut < CUTS; cut++) {
+        for (int shortened = 0; shortened < BUFFERS; shortened++) {
+            memcpy(size, sizes, sizeof size);
+            size[shortened] = cut ? 0 : sizes[shortened] - 1;
+            run(shortened < 2 ? small : 0, shortened < 4 ? small : 0, small, size, file, length, numbers, listed);
+        }
+    }
+    printf("%s: exact and short blocks\n", arguments[1]);
+    free(file);
+    free(numbers);
+    return 0;
+}

@@ -1,0 +1,220 @@
+//! include/planner.h against what this harness declares of the library: every size, offset, limit
+//! and ending, and the five prototypes, word for word.
+
+use harness::layout::{ASSIGNMENT, MARKS, TABLES, TALLIES, TERM_TABLE};
+use harness::planner::{Counted, Loaded, Searched};
+use harness::program::{root, Folder};
+use harness::searching::{ending, ENDINGS};
+use reference::file::{MOST_CLAUSES, MOST_RULES, MOST_TERMS, MOST_VARIABLES};
+use reference::program::MOST_BYTES;
+use reference::walk::{Ending, LBS, LINEAR};
+use std::fs;
+use std::mem::{offset_of, size_of};
+use std::process::Command;
+
+/// What the C compiler makes of each expression of the header.
+fn in_c(expressions: &[&str]) -> Vec<i64> {
+    let mut program = "#include \"planner.h\"\n#include <stdio.h>\nint main(void) {\n".to_string();
+    for expression in expressions {
+        program += &format!("    printf(\"%lld\\n\", (long long)({expression}));\n");
+    }
+    program += "    return 0;\n}\n";
+    printed(&program)
+        .lines()
+        .map(|line| line.parse().unwrap())
+        .collect()
+}
+
+/// What a C program over the header prints.
+fn printed(program: &str) -> String {
+    let folder = Folder::empty();
+    let [source, built] = ["main.c", "main"].map(|name| folder.0.join(name));
+    fs::write(&source, program).unwrap();
+    let compiled = Command::new("gcc")
+        .args(["-std=c11", "-Wall", "-Wextra", "-Werror", "-I"])
+        .arg(root().join("include"))
+        .arg("-o")
+        .args([&built, &source])
+        .status()
+        .expect("gcc");
+    assert!(compiled.success());
+    let output = Command::new(&built).output().unwrap();
+    assert!(output.status.success());
+    String::from_utf8(output.stdout).unwrap()
+}
+
+#[test]
+fn sizes_offsets_and_numbers() {
+    let table: &[(&str, usize)] = &[
+        ("sizeof(planner_loaded)", size_of::<Loaded>()),
+        (
+            "offsetof(planner_loaded, refusal)",
+            offset_of!(Loaded, refusal),
+        ),
+        (
+            "offsetof(planner_loaded, offset)",
+            offset_of!(Loaded, offset),
+        ),
+        ("sizeof(planner_opened)", size_of::<u32>()),
+        ("sizeof(planner_flipped)", size_of::<u32>()),
+        ("sizeof(planner_counted)", size_of::<Counted>()),
+        (
+            "offsetof(planner_counted, refusal)",
+            offset_of!(Counted, refusal),
+        ),
+        (
+            "offsetof(planner_counted, break_count)",
+            offset_of!(Counted, break_count),
+        ),
+        (
+            "offsetof(planner_counted, make_count)",
+            offset_of!(Counted, make_count),
+        ),
+        ("sizeof(planner_searched)", size_of::<Searched>()),
+        (
+            "offsetof(planner_searched, refusal)",
+            offset_of!(Searched, refusal),
+        ),
+        (
+            "offsetof(planner_searched, ending)",
+            offset_of!(Searched, ending),
+        ),
+        (
+            "offsetof(planner_searched, cost)",
+            offset_of!(Searched, cost),
+        ),
+        (
+            "offsetof(planner_searched, finds)",
+            offset_of!(Searched, finds),
+        ),
+        (
+            "offsetof(planner_searched, flips)",
+            offset_of!(Searched, flips),
+        ),
+        (
+            "offsetof(planner_searched, used)",
+            offset_of!(Searched, used),
+        ),
+        ("((planner_searched){.cost = -1}).cost < 0", 1),
+        ("PLANNER_TABLES_SIZE", TABLES),
+        ("PLANNER_TERMS_SIZE", TERM_TABLE),
+        ("PLANNER_ASSIGNMENT_SIZE", ASSIGNMENT),
+        ("PLANNER_TALLIES_SIZE", TALLIES),
+        ("PLANNER_MARKS_SIZE", MARKS),
+        ("sizeof(planner_plan)", TABLES + TERM_TABLE),
+        ("offsetof(planner_plan, terms)", TABLES),
+        ("sizeof(planner_state)", ASSIGNMENT + TALLIES),
+        ("offsetof(planner_state, tallies)", ASSIGNMENT),
+        (
+            "sizeof(planner_work)",
+            TABLES + TERM_TABLE + ASSIGNMENT + TALLIES + MARKS,
+        ),
+        (
+            "offsetof(planner_work, marks)",
+            TABLES + TERM_TABLE + ASSIGNMENT + TALLIES,
+        ),
+        ("PLANNER_MOST_VARIABLES", MOST_VARIABLES),
+        ("PLANNER_MOST_CLAUSES", MOST_CLAUSES),
+        ("PLANNER_MOST_RULES", MOST_RULES),
+        ("PLANNER_MOST_TERMS", MOST_TERMS),
+        ("PLANNER_FILE_SIZE", 52_907),
+        ("PLANNER_INPUT_SIZE", MOST_BYTES),
+        ("PLANNER_LINEAR", LINEAR as usize),
+        ("PLANNER_LBS", LBS as usize),
+        ("PLANNER_NOT_SEARCHED", 0),
+        ("PLANNER_FLOOR", ending(Ending::Floor) as usize),
+        ("PLANNER_ENDED", ending(Ending::Ended) as usize),
+        ("PLANNER_NONE", ending(Ending::None) as usize),
+        ("PLANNER_SHORT_FOUND", ending(Ending::ShortFound) as usize),
+        ("PLANNER_SHORT_NONE", ending(Ending::ShortNone) as usize),
+    ];
+    let expressions: Vec<&str> = table.iter().map(|row| row.0).collect();
+    for (&(expression, wanted), value) in table.iter().zip(in_c(&expressions)) {
+        assert_eq!(value, wanted as i64, "{expression}");
+    }
+}
+
+/// The text of an ending begins with its name.
+#[test]
+fn texts_of_endings() {
+    let program = "#include \"planner.h\"\n#include <stdio.h>\nint main(void) {\n\
+        for (uint32_t i = 1; i <= 5; i++) puts(planner_ending_text(i));\n return 0;\n}\n";
+    let texts = printed(program);
+    assert_eq!(texts.lines().count(), ENDINGS.len());
+    for (text, ending) in texts.lines().zip(ENDINGS) {
+        assert!(text.starts_with(&format!("{}: ", ending.name())), "{text}");
+    }
+}
+
+/// A function's answer and its parameters with their types, as Rust writes them.
+type Prototype = (String, Vec<(String, String)>);
+
+/// What stands from the first of two texts to the second.
+fn between<'a>(text: &'a str, first: &str, second: &str) -> &'a str {
+    let begin = text.find(first).unwrap_or_else(|| panic!("no {first}")) + first.len();
+    let rest = &text[begin..];
+    &rest[..rest.find(second).unwrap()]
+}
+
+fn c_type(words: &str) -> &'static str {
+    match words {
+        "const uint8_t *" => "*const u8",
+        "uint8_t *" => "*mut u8",
+        "size_t" => "usize",
+        "uint32_t" => "u32",
+        "planner_loaded" => "Loaded",
+        "planner_counted" => "Counted",
+        "planner_searched" => "Searched",
+        other => panic!("'{other}' is no type of the interface"),
+    }
+}
+
+fn prototype_in_c(header: &str, name: &str) -> Prototype {
+    let call = format!(" {name}(");
+    let line = header.lines().find(|line| {
+        let declared = line.find(&call);
+        declared.is_some_and(|place| place > 0 && !line[..place].contains(' '))
+    });
+    let answer = line.unwrap().split(' ').next().unwrap();
+    let parameters = between(header, &format!("\n{answer}{call}"), ");")
+        .split(',')
+        .map(|parameter| {
+            let parameter = parameter.split_whitespace().collect::<Vec<_>>().join(" ");
+            let place = parameter.rfind([' ', '*']).unwrap() + 1;
+            let (words, name) = parameter.split_at(place);
+            (name.to_string(), c_type(words.trim_end()).to_string())
+        })
+        .collect();
+    (c_type(answer).to_string(), parameters)
+}
+
+fn prototype_in_rust(source: &str, name: &str) -> Prototype {
+    let function = between(source, &format!("pub fn {name}("), ";");
+    let (parameters, answer) = function.split_once(") -> ").unwrap();
+    let parameters = parameters
+        .split(',')
+        .filter(|parameter| !parameter.trim().is_empty())
+        .map(|parameter| {
+            let (name, words) = parameter.trim().split_once(": ").unwrap();
+            (name.to_string(), words.to_string())
+        })
+        .collect();
+    (answer.to_string(), parameters)
+}
+
+#[test]
+fn prototypes() {
+    let header = fs::read_to_string(root().join("include/planner.h")).unwrap();
+    let source = include_str!("../src/planner.rs");
+    for (name, parameters) in [
+        ("planner_load", 6),
+        ("planner_open", 8),
+        ("planner_flip", 9),
+        ("planner_counts", 9),
+        ("planner_search", 22),
+    ] {
+        let declared = prototype_in_c(&header, name);
+        assert_eq!(declared.1.len(), parameters, "{name}");
+        assert_eq!(declared, prototype_in_rust(source, name), "{name}");
+    }
+}

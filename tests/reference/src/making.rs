@@ -1,0 +1,70 @@
+//! Short ways to write plans, assignments and settings.
+
+use crate::plan::{Clause, Plan, Rule, Term};
+use crate::walk::Settings;
+
+pub fn terms(list: &[(usize, i64)]) -> Vec<Term> {
+    list.iter()
+        .map(|&(variable, weight)| Term { variable, weight })
+        .collect()
+}
+
+pub fn at_least(lower: i64, list: &[(usize, i64)]) -> Rule {
+    Rule {
+        lower: Some(lower),
+        upper: None,
+        terms: terms(list),
+    }
+}
+
+pub fn at_most(upper: i64, list: &[(usize, i64)]) -> Rule {
+    Rule {
+        lower: None,
+        upper: Some(upper),
+        terms: terms(list),
+    }
+}
+
+pub fn between(lower: i64, list: &[(usize, i64)], upper: i64) -> Rule {
+    Rule {
+        lower: Some(lower),
+        upper: Some(upper),
+        terms: terms(list),
+    }
+}
+
+/// A plan of n variables; each inner list of rules is a clause.
+pub fn plan(n: usize, objective: &[(usize, i64)], clauses: &[&[Rule]]) -> Plan {
+    Plan {
+        variables: n,
+        objective: terms(objective),
+        clauses: clauses
+            .iter()
+            .map(|rules| Clause {
+                rules: rules.to_vec(),
+            })
+            .collect(),
+    }
+}
+
+/// An assignment from digits, variable 1 first.
+pub fn bits(digits: &str) -> Vec<bool> {
+    digits.chars().map(|digit| digit == '1').collect()
+}
+
+pub fn settings(noise: u32, tries: u32, flips: u32, mode: u32) -> Settings {
+    Settings {
+        noise,
+        tries,
+        flips,
+        mode,
+    }
+}
+
+/// The numbers of document 01's example.
+pub const EXAMPLE_NUMBERS: [u32; 10] = [2, 1, 0, 5, 900, 3, 0, 5, 100, 0];
+
+/// Its plan: n = 2, objective 1·x1 + 2·x2, one clause x1 + x2 ≥ 1.
+pub fn example_plan() -> Plan {
+    plan(2, &[(1, 1), (2, 2)], &[&[at_least(1, &[(1, 1), (2, 1)])]])
+}

@@ -1,0 +1,305 @@
+//! Walks worked out by hand from document 01, as one table. The reference is held to it, and so is
+//! the library (tests/harness).
+
+use crate::making::*;
+use crate::plan::{Plan, Rule};
+use crate::walk::{Settings, LBS, LINEAR};
+
+/// A search and its answer: ending, cost, finds, flips, numbers used, and the last find's digits,
+/// or `-` for none.
+pub struct Worked {
+    pub why: &'static str,
+    pub plan: Plan,
+    pub settings: Settings,
+    pub numbers: Vec<u32>,
+    pub answer: String,
+}
+
+/// Rows that share a reason, a plan and settings.
+fn rows(
+    why: &'static str,
+    plan: Plan,
+    settings: Settings,
+    answers: &[(&[u32], &str)],
+) -> Vec<Worked> {
+    let row = |&(numbers, answer): &(&[u32], &str)| Worked {
+        why,
+        plan: plan.clone(),
+        settings,
+        numbers: numbers.to_vec(),
+        answer: answer.to_string(),
+    };
+    answers.iter().map(row).collect()
+}
+
+/// Document 01's example, whole and cut at every number.
+fn example() -> Vec<Worked> {
+    let n = EXAMPLE_NUMBERS;
+    let more = [&n[..], &[7, 7, 7]].concat();
+    let mut table = rows(
+        "Needs: start, start, start, clause, noise, variable, (over to linear) start, clause, \
+         noise, variable. Finds at numbers 1 and 2, flips with numbers 6 and 10; numbers past the \
+         last need are not used.",
+        example_plan(),
+        settings(500, 1, 1, LBS),
+        &[
+            (&n[..0], "short-none 0 0 0 0 -"),
+            (&n[..1], "short-found 2 1 0 1 01"),
+            (&n[..2], "short-found 1 2 0 2 10"),
+            (&n[..3], "short-found 1 2 0 3 10"),
+            (&n[..4], "short-found 1 2 0 4 10"),
+            (&n[..5], "short-found 1 2 0 5 10"),
+            (&n[..6], "short-found 1 2 1 6 10"),
+            (&n[..7], "short-found 1 2 1 7 10"),
+            (&n[..8], "short-found 1 2 1 8 10"),
+            (&n[..9], "short-found 1 2 1 9 10"),
+            (&n, "ended 1 2 2 10 10"),
+            (&more, "ended 1 2 2 10 10"),
+        ],
+    );
+    table.extend(rows(
+        "Find 01 of cost 2; O ≤ 1 from 10, cost 1; O ≤ 0 from 00: clause 5, noise 900 to a pick \
+         among all, 3 takes x2; the flip is the last, so the call fails.",
+        example_plan(),
+        settings(500, 1, 1, LINEAR),
+        &[(&n, "ended 1 2 1 6 10")],
+    ));
+    table.extend(rows(
+        "Counts are those of plan and added clause. Find 01 of cost 2; O ≤ 1 from 00. x2 would \
+         spoil the added clause once and x1 would not, so the pick is among x1 alone. By the plan \
+         alone 7 would pick x2 of the two.",
+        example_plan(),
+        settings(1_000, 1, 2, LINEAR),
+        &[(&[2, 0, 0, 7], "short-found 1 2 1 4 10")],
+    ));
+    table
+}
+
+/// The endings floor and none.
+fn endings() -> Vec<Worked> {
+    let free = plan(2, &[(1, 2), (2, -3)], &[]);
+    let never = plan(2, &[], &[&[at_least(5, &[(1, 1), (2, 1)])]]);
+    let mut table = rows(
+        "No clause, no objective: the first start is a find of cost 0 = l(O).",
+        plan(2, &[], &[]),
+        settings(0, 1, 1, LBS),
+        &[(&[2], "floor 0 1 0 1 01")],
+    );
+    table.extend(rows(
+        "l(O) = −3 is reached with x1 = 0, x2 = 1, and no later number is needed; or cost −1 \
+         first, then O ≤ −2 from the start 01.",
+        free.clone(),
+        settings(0, 1, 1, LINEAR),
+        &[(&[2], "floor -3 1 0 1 01"), (&[3, 2], "floor -3 2 0 2 01")],
+    ));
+    table.extend(rows(
+        "m = (−3 − 2)/3 = −2 when rounded down.",
+        free,
+        settings(0, 1, 1, LBS),
+        &[(&[3, 2], "floor -3 2 0 2 01")],
+    ));
+    table.extend(rows(
+        "One empty clause: both break counts are 0, and the pick among them takes x2. None is \
+         said even where the list ends with the last flip.",
+        never.clone(),
+        settings(0, 1, 1, LINEAR),
+        &[
+            (&[0, 0, 1], "none 0 0 1 3 -"),
+            (&[0, 0], "short-none 0 0 0 2 -"),
+            (&[0], "short-none 0 0 0 1 -"),
+        ],
+    ));
+    table.extend(rows(
+        "Two tries of two flips: 5 numbers each.",
+        never,
+        settings(0, 2, 2, LINEAR),
+        &[
+            (&[9; 10], "none 0 0 4 10 -"),
+            (&[9; 5], "short-none 0 0 2 5 -"),
+        ],
+    ));
+    table
+}
+
+/// What the last flip reaches is not looked at.
+fn last_flip() -> Vec<Worked> {
+    let up = || plan(1, &[], &[&[at_least(1, &[(1, 1)])]]);
+    let mut table = rows(
+        "One flip: what it reaches is not looked at.",
+        up(),
+        settings(0, 1, 1, LINEAR),
+        &[(&[0, 0, 0], "none 0 0 1 3 -")],
+    );
+    table.extend(rows(
+        "Two flips: the look before the second finds it.",
+        up(),
+        settings(0, 1, 2, LINEAR),
+        &[(&[0, 0, 0], "floor 0 1 1 3 1")],
+    ));
+    table.extend(rows(
+        "Two tries: the second one's start is looked at.",
+        up(),
+        settings(0, 2, 1, LINEAR),
+        &[(&[0, 0, 0, 1], "floor 0 1 1 4 1")],
+    ));
+    table
+}
+
+/// n digits 0, with 1 at these variables.
+fn digits(n: usize, ones: &[usize]) -> String {
+    (1..=n)
+        .map(|variable| if ones.contains(&variable) { '1' } else { '0' })
+        .collect()
+}
+
+/// A start takes all its numbers or none.
+fn starts() -> Vec<Worked> {
+    let settings = settings(0, 1, 1, LINEAR);
+    let found = |n, ones: &[usize], used: usize| format!("floor 0 1 0 {used} {}", digits(n, ones));
+    let mut table = rows(
+        "33 variables need two numbers; bit 0 is the lowest.",
+        plan(33, &[], &[]),
+        settings,
+        &[
+            (&[], "short-none 0 0 0 0 -"),
+            (&[1], "short-none 0 0 0 0 -"),
+            (&[1, 1], &found(33, &[1, 33], 2)),
+            (&[1 << 31 | 2, !1], &found(33, &[2, 32], 2)),
+        ],
+    );
+    table.extend(rows(
+        "32 variables need one number.",
+        plan(32, &[], &[]),
+        settings,
+        &[(&[1 << 31, 0], &found(32, &[32], 1))],
+    ));
+    let all: Vec<usize> = (1..=512).collect();
+    table.extend(rows(
+        "512 variables need 16.",
+        plan(512, &[], &[]),
+        settings,
+        &[
+            (&[0; 15], "short-none 0 0 0 0 -"),
+            (&[u32::MAX; 16], &found(512, &all, 16)),
+        ],
+    ));
+    table.extend(rows(
+        "The second call's start is short: one number is left, two are needed.",
+        plan(33, &[(1, 1)], &[]),
+        settings,
+        &[(
+            &[1, 0, 0],
+            &format!("short-found 1 1 0 2 {}", digits(33, &[1])),
+        )],
+    ));
+    table
+}
+
+/// Which clause is picked, and among which of its variables.
+fn picks() -> Vec<Worked> {
+    let clauses = [
+        [at_least(1, &[(1, 1)])],
+        [at_least(1, &[(2, 1)])],
+        [at_least(1, &[(2, 1), (3, 1)])],
+    ];
+    let mut table = rows(
+        "At 100 the first clause holds; place 0 is x2 ≥ 1, place 1 is x2 + x3 ≥ 1. The former \
+         leads to x2 and a find at once; the latter, with pick 1, to x3 and then to x2.",
+        plan(3, &[], &[&clauses[0], &clauses[1], &clauses[2]]),
+        settings(0, 1, 3, LINEAR),
+        &[
+            (&[1, 0, 1, 0, 0], "floor 0 1 1 3 110"),
+            (&[1, 1, 1, 0, 0], "floor 0 1 2 5 111"),
+            (&[1, 2, 1, 0, 0], "floor 0 1 1 3 110"),
+            (&[1, 3, 1, 0, 0], "floor 0 1 2 5 111"),
+        ],
+    );
+    table.extend(rows(
+        "The added clause is the last and is picked like any other. Find 111 of cost 2. O ≤ 1 \
+         from 011: unsatisfied are x1 ≥ 1 and O ≤ 1, pick 1 is the latter; its variables x2, x3 \
+         have break 0 and pick 1 flips x3. Then x1 is flipped and 110 found.",
+        plan(3, &[(2, 1), (3, 1)], &[&[at_least(1, &[(1, 1)])]]),
+        settings(0, 1, 3, LINEAR),
+        &[(&[7, 6, 1, 1, 0, 0], "short-found 1 2 2 6 110")],
+    ));
+    let twice = [at_least(3, &[(1, 1), (2, 1)]), at_least(1, &[(1, 1)])];
+    table.extend(rows(
+        "Unsatisfied at 00 with break 0 everywhere. Offered are x1, x2: number 2 takes x1, which \
+         meets the second rule. Offered twice, x1 would stand at 0 and 1, and 2 would take x2.",
+        plan(2, &[], &[&twice]),
+        settings(0, 1, 2, LINEAR),
+        &[(&[0, 0, 2], "floor 0 1 1 3 10")],
+    ));
+    table
+}
+
+/// Counts at the cap tie.
+fn ties() -> Vec<Worked> {
+    let both = |w: i64| {
+        let first: [Rule; 1] = [at_least(1, &[(1, 1), (2, 1)])];
+        let second = [at_most(2, &[(1, w), (2, 2 * w)]), at_least(1, &[(3, 1)])];
+        plan(3, &[], &[&first, &second])
+    };
+    let row = |w, answer| {
+        rows(
+            "At 000 only x1 + x2 ≥ 1 is unsatisfied. Of the clause (w·x1 + 2w·x2 ≤ 2) or \
+             (x3 ≥ 1) x1 would spoil w over 3 and x2 2w over 3. Noise 1,000 leads to the least: \
+             where both are above the cap they tie, and number 1 takes x2; else x1 is alone. Then \
+             x3 alone has break 0.",
+            both(w),
+            settings(1_000, 1, 3, LINEAR),
+            &[(&[0, 0, 0, 1, 0, 0], answer)],
+        )
+    };
+    let mut table = row(10, "floor 0 1 2 6 101");
+    table.extend(row(100_000, "floor 0 1 2 6 011"));
+    table
+}
+
+/// LBS: its bound, and over to linear for good.
+fn lbs() -> Vec<Worked> {
+    let numbers = [7, 6, 6, 0, 0, 2, 2, 0, 0];
+    let mut table = rows(
+        "O = 9·x1 + x2 + x3 with no clause. Starts: 111 (cost 11), O ≤ 7 (22/3): 011 (cost 2), \
+         O ≤ 1 (4/3): start 011 fails with one flip made. Linear from there: O ≤ 1 again, 010 \
+         (cost 1), then O ≤ 0, which fails, and the search has ended. Where LBS fails with the \
+         list used up, linear's start is the next need.",
+        plan(3, &[(1, 9), (2, 1), (3, 1)], &[]),
+        settings(0, 1, 1, LBS),
+        &[
+            (&numbers, "ended 1 3 2 9 010"),
+            (&numbers[..5], "short-found 2 2 1 5 011"),
+        ],
+    );
+    let free = || plan(2, &[(1, 3), (2, 1)], &[]);
+    table.extend(rows(
+        "O = 3·x1 + x2 with no clause, v = 4 from 11: LBS asks for 8/3, O ≤ 2; the start 10 of \
+         cost 3 is no find then.",
+        free(),
+        settings(0, 1, 1, LBS),
+        &[(&[3, 1], "short-found 4 1 0 2 11")],
+    ));
+    table.extend(rows(
+        "O ≤ 3 of linear mode takes it.",
+        free(),
+        settings(0, 1, 1, LINEAR),
+        &[(&[3, 1], "short-found 3 2 0 2 10")],
+    ));
+    table
+}
+
+/// The whole table.
+pub fn walks() -> Vec<Worked> {
+    [
+        example(),
+        endings(),
+        last_flip(),
+        starts(),
+        picks(),
+        ties(),
+        lbs(),
+    ]
+    .into_iter()
+    .flatten()
+    .collect()
+}
