@@ -15,10 +15,10 @@ use Rattle.format.specs.Tables.{sameBytes}
 use Rattle.format.proofs.IsLoaded.{isLoaded-tables, same-equal}
 use Rattle.tallies.specs.Layout.{tallySize, bitsOf}
 use Rattle.tallies.specs.Calls.{Lent, plan, freshBytes, openRefusal, openTallies, callRefusal, turned, flipAssignment, flipTallies, countsBreak, countsMake}
-use Rattle.tallies.specs.Core.{Flippable, recounted}
+use Rattle.recount.specs.Core.{Flippable, recounted}
 use Rattle.calls.proofs.Opening.{first-words}
 use Rattle.tallies.proofs.Refusals.{Opens, opens, takes, only-variable}
-use Rattle.tallies.proofs.Callers.{takes-flippable}
+use Rattle.recount.proofs.Callers.{takes-flippable}
 use Rattle.format.specs.Layout.{tableSize}
 
 module _ (l : Lent) where

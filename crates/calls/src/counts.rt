@@ -2,7 +2,7 @@
 ghost use mathlib.Core.Path.{_≡_};
 ghost use Rattle.tallies.specs.Calls.{callRefusal, countsBreak, countsMake, lent};
 use crate::tests::call_refusal;
-use tallies::counts::counts_core;
+use exact::counts_core;
 
 pub struct Counted {
     pub refusal: u32,

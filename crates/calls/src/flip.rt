@@ -2,7 +2,7 @@
 ghost use mathlib.Core.Path.{_≡_};
 ghost use Rattle.tallies.specs.Calls.{callRefusal, flipAssignment, flipTallies, lent};
 use crate::tests::call_refusal;
-use tallies::flip::flip_core;
+use recount::flip::flip_core;
 
 pub fn flip(tables: &[u8], terms: &[u8], assignment: &mut [u8], tallies: &mut [u8], x: u32) -> u32
     ensures { λ r. ⌜ r ≡ callRefusal (lent (now (tables .entry)) (now (terms .entry)) (now (assignment .entry)) (now (tallies .entry))) x ⌝ }

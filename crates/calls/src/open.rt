@@ -2,7 +2,7 @@
 ghost use mathlib.Core.Path.{_≡_};
 ghost use Rattle.tallies.specs.Calls.{openRefusal, openTallies, lent};
 use crate::tests::open_refusal;
-use tallies::open::open_core;
+use recount::open::open_core;
 
 pub fn open(tables: &[u8], terms: &[u8], assignment: &[u8], tallies: &mut [u8]) -> u32
     ensures { λ r. ⌜ r ≡ openRefusal (lent (now (tables .entry)) (now (terms .entry)) (now (assignment .entry)) (now (tallies .entry))) ⌝ }

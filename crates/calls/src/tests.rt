@@ -4,8 +4,8 @@ ghost use Prim.Native.Nat.{_≤_};
 ghost use lib.ListN.{length};
 ghost use Rattle.tallies.specs.Layout.{areBits};
 ghost use Rattle.tallies.specs.Calls.{tooSmall, openRefusal, callRefusal, lent};
+use fresh::fresh;
 use loaded::good;
-use tallies::fresh::fresh;
 use words::index;
 use words::word;
 

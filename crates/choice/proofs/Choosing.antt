@@ -20,8 +20,8 @@ use Rattle.plpb.specs.Try.{Try}
 use Rattle.plpb.specs.Choice.{choosable, pickFrom, leastBreak, withBreak, noisyChoice, choice}
 use Rattle.words.specs.Words.{wordAt}
 use Rattle.format.specs.Tables.{planOfTables}
-use Rattle.tallies.specs.Core.{Laid}
-use Rattle.tallies.proofs.Laid.{variables-word}
+use Rattle.recount.specs.Core.{Laid}
+use Rattle.recount.proofs.Laid.{variables-word}
 use Rattle.numbers.specs.declared.Picked.{Picked}
 use Rattle.numbers.specs.declared.Picked.the-variants as picked
 use Rattle.numbers.specs.Numbers.{numbersOf}
@@ -33,9 +33,9 @@ use Rattle.numbers.proofs.Finding.{marked-by}
 use Rattle.numbers.proofs.Runs.{pickFrom-taken, pickFrom-short, empty-by-length, noisy-least, noisy-any, noisy-short, choice-free, choice-noisy}
 use Rattle.choice.specs.declared.choose.Chosen.{Chosen}
 use Rattle.choice.specs.declared.choose.Chosen.the-variants as chosen
-use Rattle.choice.specs.Marks.{clauseMarks, hasBreak, Parted}
+use Rattle.free.specs.Marks.{clauseMarks, hasBreak, Parted}
 use Rattle.choice.specs.Outcome.{outcomeOf, usedBy, Among, Chooses, PickMarked, MarksChoosable, ToChoose}
-use Rattle.choice.proofs.Marking.{length-marks, mark-at}
+use Rattle.free.proofs.Marking.{length-marks, mark-at}
 use Rattle.choice.proofs.Least.{count-small}
 
 -- ---- a pick among marked variables

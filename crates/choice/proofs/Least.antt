@@ -18,8 +18,8 @@ use Rattle.plpb.specs.Expansion.{breakCount}
 use Rattle.plpb.proofs.Capped.{capped-le-cap}
 use Rattle.numbers.specs.Finding.{marked}
 use Rattle.numbers.proofs.Keep.{row-more, row-end}
-use Rattle.choice.specs.Marks.{Written, hasBreak, parting, lowering, LeastSoFar}
-use Rattle.choice.proofs.Parting.{none-written, more-written, same-written, not-to-choose, passes, stays}
+use Rattle.free.specs.Marks.{Written, hasBreak, parting, lowering, LeastSoFar}
+use Rattle.free.proofs.Parting.{none-written, more-written, same-written, not-to-choose, passes, stays}
 
 -- ---- a lowered mark
 

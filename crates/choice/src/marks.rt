@@ -9,16 +9,17 @@ ghost use Rattle.plpb.specs.Choice.{leastBreak};
 ghost use Rattle.words.specs.Words.{wordAt};
 ghost use Rattle.format.specs.Tables.{ruleOf, planOfTables};
 ghost use Rattle.rules.specs.Terms.{termsAt, Readable};
-ghost use Rattle.tallies.specs.Core.{Ready};
+ghost use Rattle.recount.specs.Core.{Ready};
 ghost use Rattle.numbers.specs.Finding.{marked};
-ghost use Rattle.choice.specs.Breaks.{lentBits};
+ghost use Rattle.breaks.specs.Breaks.{lentBits};
 ghost use Rattle.choice.specs.Outcome.{MarksChoosable};
-ghost use Rattle.choice.specs.Marks.{markTerms, markRules, clauseMarks, hasBreak, parting, lowering, Written, Parted, LeastSoFar};
-use crate::free::free_marks;
+ghost use Rattle.free.specs.Marks.{markTerms, markRules, clauseMarks, hasBreak, parting, lowering, Written, Parted, LeastSoFar};
 use counting::count::Count;
+use exact::counts_core;
+use free::free_marks;
+use free::variable_at;
 use numbers::count_marked;
-use tallies::clause::rules_of;
-use tallies::counts::counts_core;
+use recount::clause::rules_of;
 use words::clear;
 use words::index;
 
@@ -80,14 +81,6 @@ pub fn mark_choosable(tables: &[u8], terms: &[u8], c: usize, marks: &mut [u8]) -
 {
     mark_clause(tables, terms, c, marks);
     count_marked(marks, index(tables, 0), 1)
-}
-
-// The number of the variable whose mark stands at a place.
-pub fn variable_at(place: usize) -> u32
-    requires { ⌜ place < 512 ⌝ }
-    ensures { λ r. ⌜ r ≡ place + 1 ⌝ }
-{
-    (place + 1) as u32
 }
 
 // Among the variables marked 1, those with break count 0 become marked 2; how many they are.

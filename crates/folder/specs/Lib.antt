@@ -1,3 +1,2 @@
 -- What the program reads from its folder, and what it prints.
 pub mod Files
-pub mod Text

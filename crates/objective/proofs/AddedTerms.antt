@@ -19,7 +19,7 @@ use Rattle.format.proofs.Objective.{sparse-skip, sparse-hold}
 use Rattle.format.proofs.Sections.{length-termEntries}
 use Rattle.words.specs.Writes.{putWords}
 use Rattle.objective.specs.Added.{termsAbove}
-use Rattle.objective.proofs.Coefficients.{place}
+use Rattle.costs.proofs.Coefficients.{place}
 use Rattle.words.proofs.Writes.{no-words, words-next, length-putWords}
 
 pub termEntries-append : (ts us : List Term) → termEntries (ts ++ us) ≡ termEntries ts ++ termEntries us

@@ -1,6 +1,4 @@
 -- What holds of the objective in the tables and of the clause added to them, in reading order.
-pub mod Coefficients
-pub mod Costs
 pub mod WordWrites
 pub mod AddedTerms
 pub mod Parts

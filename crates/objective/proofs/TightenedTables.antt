@@ -23,7 +23,7 @@ use Rattle.format.proofs.ReadBack.{read-back}
 use Rattle.format.proofs.Sections.{length-tableWords, length-termWords, length-termEntries}
 use Rattle.format.proofs.WordBounds.{table-below}
 use Rattle.objective.specs.Added.{addedEntries, rebound, Boundable}
-use Rattle.objective.proofs.Costs.{table-room, term-room, variables-in, objective-in, objective-short}
+use Rattle.costs.proofs.Costs.{table-room, term-room, variables-in, objective-in, objective-short}
 use Rattle.objective.proofs.Parts.{put-table}
 use Rattle.objective.proofs.Tightened.{room-tightened, clauseWords, ruleWords, countWords, new-table, new-terms, rule-count, other-table, same-terms}
 use Rattle.format.specs.Layout.{clausesAt, lastUpperAt, ruleRoom, ruleUpperAt, rulesAt, tableWordCount, termWordCount}

@@ -1,3 +1,2 @@
 -- The objective in the tables, and the clause added to them.
-pub mod Sums
 pub mod Added

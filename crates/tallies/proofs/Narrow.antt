@@ -22,11 +22,10 @@ use Rattle.words.specs.Words.{bytesOf, wordBytes}
 use Rattle.words.proofs.Words.{length-bytesOf}
 use Rattle.format.specs.Layout.{clauseRoom, holdingAt, ruleRoom, tallyWordCount, unsatisfiedAt}
 use Rattle.format.proofs.Bools.{and-left, and-right}
-use Rattle.tallies.specs.Layout.{tallySize, tallyWords, tallyBytes}
+use Rattle.tallies.specs.Layout.{tallySize, tallyWords, tallyBytes, tallyWord}
 use Rattle.tallies.specs.Calls.{Lent, plan, bits, told, callRefusal, turned, flipAssignment, answer, leftBy}
 use Rattle.tallies.specs.Narrow.{rulesNaming, clausesNaming, concerns, isRefused, isFlipOf, Narrow, Step, EveryCall}
 use Rattle.tallies.specs.Demand.{EachStep}
-use Rattle.tallies.specs.Core.{tallyWord}
 use Rattle.tallies.proofs.Order.{order-rule, order-clause, order-whole}
 use Rattle.tallies.proofs.TallyBytes.{Fits, length-fresh-words, length-fresh}
 use Rattle.tallies.proofs.Tallied.{weights-at, holding-at}

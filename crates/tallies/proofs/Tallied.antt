@@ -13,8 +13,7 @@ use Rattle.plpb.specs.Tallies.{rulesOf, unsatisfied, freshCount}
 use Rattle.words.specs.Words.{wordAt}
 use Rattle.words.proofs.Words.{Below, words-determine, words-read}
 use Rattle.format.specs.Limits.{roomy}
-use Rattle.tallies.specs.Layout.{tallySize, tallyWords, tallyBytes}
-use Rattle.tallies.specs.Core.{tallyWord}
+use Rattle.tallies.specs.Layout.{tallySize, tallyWords, tallyBytes, tallyWord}
 use Rattle.tallies.proofs.TallyBytes.{Fits, roomy-fits, fresh-rules, fresh-clauses, length-fresh-words}
 use Rattle.tallies.proofs.Order.{order-rule, order-clause, order-whole}
 use Rattle.tallies.proofs.Exact.{fresh-below}

@@ -2,7 +2,7 @@
 -- Assumes nothing.
 use Prim.Native.Nat.{ℕ}
 use mathlib.Core.List.{List, [], _∷_, _++_}
-use lib.ListN.{drop}
+use lib.ListN.{getD, drop}
 use Rattle.plpb.specs.Plan.{Plan, Assignment}
 use Rattle.plpb.specs.Tallies.{Tallies, freshCount}
 use Rattle.words.specs.Words.{wordBytes}
@@ -26,3 +26,7 @@ tallyBytes t = wordBytes (tallyWords t)
 -- The fresh count of some bits in what is lent as tallies. What stands past the full limits is as it was.
 abbrev pub withTallies : Plan → Assignment → List ℕ → List ℕ
 withTallies p b bytes = tallyBytes (freshCount p b) ++ drop tallySize bytes
+
+-- The words that a fresh count gives.
+unfoldable pub tallyWord : Plan → Assignment → ℕ → ℕ
+tallyWord p a i = getD (tallyWords (freshCount p a)) i 0

@@ -4,4 +4,3 @@ pub mod Calls
 pub mod Narrow
 pub mod Demand
 pub mod Within
-pub mod Core

@@ -1,7 +1,1 @@
-// Opening, flip and counts on tables, assignment and tallies that are known to fit: what is lent is tested by the callers.
-pub mod clause;
-pub mod counts;
-pub mod flip;
-pub mod fresh;
-pub mod open;
-pub mod recount;
+// What opening, flip and counts answer and leave, and demand 3 over them: definitions in specs/, theorems in proofs/, no code.

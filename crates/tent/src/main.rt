@@ -1,9 +1,6 @@
 // The program of the tent: it reads plan.bin, walk.bin and numbers.bin of the folder that it is run in, and prints what `respond` makes of them.
 ghost use Prim.Native.Nat.{_≤_};
 ghost use Rattle.io.specs.Counts.{Counts};
-
-mod respond;
-
 use libc::STDOUT_FILENO;
 use respond::respond;
 

@@ -26,13 +26,13 @@ use Rattle.format.proofs.ReadBack.{read-back}
 use Rattle.format.proofs.Sections.{length-tableWords}
 use Rattle.counting.proofs.Signed.{small-fits}
 use Rattle.objective.specs.Added.{rebound}
-use Rattle.objective.specs.Sums.{Summable, costIn}
-use Rattle.objective.proofs.Costs.{table-room, variables-in, summable, cost-in, cost-size}
+use Rattle.costs.specs.Sums.{Summable, costIn}
+use Rattle.costs.proofs.Costs.{table-room, variables-in, summable, cost-in, cost-size}
 use Rattle.objective.proofs.TightenedTables.{roomy-tightened, rebound-rules, rebound-bytes, rebound-holds, rebound-back}
 use Rattle.format.specs.Assignment.{bitsIn}
 use Rattle.tallies.specs.Layout.{bitsOf, areBits}
-use Rattle.tallies.specs.Core.{Laid}
-use Rattle.tallies.proofs.Callers.{held-laid}
+use Rattle.recount.specs.Core.{Laid}
+use Rattle.recount.proofs.Callers.{held-laid}
 use Rattle.numbers.specs.Numbers.{numbersOf}
 use Rattle.tries.specs.declared.Tried.{Tried}
 use Rattle.tries.specs.declared.Tried.the-variants as tried

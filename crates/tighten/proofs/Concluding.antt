@@ -26,7 +26,7 @@ use Rattle.plpb.proofs.Costs.{floor-below, gap-zero, above-floor, bound-falls, 
 use Rattle.format.proofs.Bools.{T-true}
 use Rattle.format.proofs.Lawful.{lawful-roomy}
 use Rattle.counting.proofs.Signed.{small-fits}
-use Rattle.objective.proofs.Costs.{floor-size, linear-within, lbs-within}
+use Rattle.costs.proofs.Costs.{floor-size, linear-within, lbs-within}
 use Rattle.tallies.specs.Layout.{bitsOf}
 use Rattle.numbers.specs.Numbers.{numbersOf}
 use Rattle.numbers.proofs.Runs.{descending-none, descending-floor, descending-failed, descending-found, descending-short}

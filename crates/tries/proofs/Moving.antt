@@ -20,12 +20,12 @@ use Rattle.words.specs.Words.{wordAt}
 use Rattle.format.specs.Tables.{planOfTables}
 use Rattle.tallies.specs.Layout.{tallySize, bitsOf}
 use Rattle.tallies.specs.Calls.{turned}
-use Rattle.tallies.specs.Core.{Flippable, recounted}
+use Rattle.recount.specs.Core.{Flippable, recounted}
 use Rattle.tallies.proofs.Bits.{length-turned, turned-bits, turned-areBits, turned-beyond}
 use Rattle.tallies.proofs.TallyBytes.{roomy-fits, length-fresh, take-fresh, drop-fresh}
 use Rattle.tallies.proofs.Tallied.{fresh-words, clause-word, total-word}
-use Rattle.tallies.proofs.Laid.{parts, clauses-word}
-use Rattle.objective.proofs.Costs.{room-of}
+use Rattle.recount.proofs.Laid.{parts, clauses-word}
+use Rattle.costs.proofs.Costs.{room-of}
 use Rattle.numbers.specs.declared.Picked.{Picked}
 use Rattle.numbers.specs.declared.Picked.the-variants as picked
 use Rattle.numbers.specs.Numbers.{numbersOf}

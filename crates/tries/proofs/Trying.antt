@@ -20,9 +20,9 @@ use Rattle.plpb.specs.Search.{flipping, try, trying, call}
 use Rattle.words.specs.Words.{wordAt}
 use Rattle.format.specs.Tables.{planOfTables}
 use Rattle.tallies.specs.Layout.{tallySize, bitsOf, bitBytes}
-use Rattle.tallies.specs.Core.{Ready, recounted}
+use Rattle.recount.specs.Core.{Ready, recounted}
 use Rattle.tallies.proofs.Bits.{length-bitBytes, drop-bytes, bitsOf-bytes, areBits-bytes}
-use Rattle.tallies.proofs.Laid.{parts, variables-word}
+use Rattle.recount.proofs.Laid.{parts, variables-word}
 use Rattle.tallies.proofs.TallyBytes.{roomy-fits, take-fresh, drop-fresh}
 use Rattle.numbers.specs.declared.Started.{Started}
 use Rattle.numbers.specs.declared.Started.the-variants as started

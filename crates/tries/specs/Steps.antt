@@ -14,7 +14,7 @@ use Rattle.plpb.specs.Choice.{choosable}
 use Rattle.plpb.specs.Search.{Reached, failed, reached, Turn, stuck, turned, turning, move}
 use Rattle.format.specs.Tables.{planOfTables}
 use Rattle.tallies.specs.Layout.{tallySize, bitsOf, areBits, tallyBytes}
-use Rattle.tallies.specs.Core.{Ready}
+use Rattle.recount.specs.Core.{Ready}
 use Rattle.numbers.specs.Numbers.{numbersOf}
 use Rattle.tries.specs.declared.moves.Moved.{Moved}
 use Rattle.tries.specs.declared.moves.Moved.the-variants as moved

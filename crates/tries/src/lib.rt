@@ -13,8 +13,8 @@ use crate::moves::Moved;
 use crate::moves::make_move;
 use numbers::Started;
 use numbers::start;
+use recount::open::open_core;
 use settings::Settings;
-use tallies::open::open_core;
 use words::index;
 use words::word;
 

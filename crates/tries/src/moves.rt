@@ -11,8 +11,8 @@ use choice::marks::mark_choosable;
 use numbers::Picked;
 use numbers::nth_zero;
 use numbers::pick;
+use recount::flip::flip_core;
 use settings::Settings;
-use tallies::flip::flip_core;
 use words::index;
 
 // A flip was made, or the clause has no variable to choose, or too few numbers were left; and how many are used after it.

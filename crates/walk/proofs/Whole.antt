@@ -29,13 +29,13 @@ use Rattle.format.proofs.Lawful.{plan-parts, roomy-parts, lawful-roomy}
 use Rattle.format.proofs.IsLoaded.{isLoaded-lawful, isLoaded-holds}
 use Rattle.format.proofs.ReadBack.{read-back}
 use Rattle.format.proofs.Sections.{length-tableWords, length-termWords}
-use Rattle.objective.specs.Sums.{Summable, costIn, floorIn}
-use Rattle.objective.proofs.Costs.{summable, variables-in, cost-in, floor-in, some-objective}
+use Rattle.costs.specs.Sums.{Summable, costIn, floorIn}
+use Rattle.costs.proofs.Costs.{summable, variables-in, cost-in, floor-in, some-objective}
 use Rattle.objective.proofs.TightenedTables.{copied-hold, roomy-tightened, bound-holds}
 use Rattle.tallies.specs.Layout.{bitsOf, bitBytes, areBits}
-use Rattle.tallies.specs.Core.{Laid}
+use Rattle.recount.specs.Core.{Laid}
 use Rattle.tallies.proofs.Bits.{whole-bytes}
-use Rattle.tallies.proofs.Callers.{held-laid}
+use Rattle.recount.proofs.Callers.{held-laid}
 use Rattle.numbers.specs.Numbers.{numbersOf}
 use Rattle.numbers.proofs.Runs.{descending-none, descending-floor, search-none, search-found, search-short}
 use Rattle.tries.specs.declared.Tried.{Tried}

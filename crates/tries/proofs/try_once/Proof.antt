@@ -3,7 +3,7 @@
 use borrow.Author.Needs.{needs}
 use native.Mathlib.Omega.{arith}
 use mathlib.Core.Path.{refl}
-use Rattle.tallies.proofs.Laid.{tables-long, variables-word}
+use Rattle.recount.proofs.Laid.{tables-long, variables-word}
 use Rattle.tries.proofs.Trying.{started-uses, started-ready, started-walking, tried-once, no-start}
 use Rattle.tries.proofs.try_once.Statement.{statement}
 use Rattle.tries.proofs.try_once.Tie as tie

@@ -2,7 +2,7 @@
 use borrow.Author.Needs.{needs}
 use mathlib.Core.Path.{sym, _∙_}
 use Rattle.tallies.proofs.Refusals.{opens, tallies-room}
-use Rattle.tallies.proofs.Callers.{opens-ready}
+use Rattle.recount.proofs.Callers.{opens-ready}
 use Rattle.calls.proofs.Accepting.{open-refused, open-accepted}
 use Rattle.calls.proofs.open.open.Statement.{statement}
 use Rattle.calls.proofs.open.open.Tie as tie

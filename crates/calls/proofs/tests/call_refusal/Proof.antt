@@ -5,7 +5,7 @@ use borrow.Author.Needs.{needs}
 use borrow.Author.Tests.{not-true, not-false}
 use Rattle.tallies.specs.Calls.{freshBytes, plan}
 use Rattle.tallies.proofs.Refusals.{opens, tallies-room}
-use Rattle.tallies.proofs.Callers.{opens-ready}
+use Rattle.recount.proofs.Callers.{opens-ready}
 use Rattle.calls.proofs.Accepting.{loaded-tables, call-first, call-25, call-zero, call-high, call-none}
 use Rattle.calls.proofs.tests.call_refusal.Statement.{statement}
 use Rattle.calls.proofs.tests.call_refusal.Tie as tie

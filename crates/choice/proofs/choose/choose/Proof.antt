@@ -3,7 +3,7 @@
 use borrow.Author.Needs.{needs}
 use native.Mathlib.Omega.{arith}
 use mathlib.Core.Path.{_≡_, sym, _∙_}
-use Rattle.tallies.proofs.Laid.{tables-long, variables-word}
+use Rattle.recount.proofs.Laid.{tables-long, variables-word}
 use Rattle.choice.proofs.Choosing.{free-pickable, free-chosen, noisy-ready, noisy-chosen}
 use Rattle.choice.proofs.choose.choose.Statement.{statement}
 use Rattle.choice.proofs.choose.choose.Tie as tie

@@ -3,7 +3,7 @@
 use native.Mathlib.Omega.{arith}
 use mathlib.Core.Path.{_∙_, ap}
 use Rattle.plpb.specs.Count.{cappedBreak}
-use Rattle.tallies.proofs.Laid.{parts}
+use Rattle.recount.proofs.Laid.{parts}
 use Rattle.choice.proofs.marks.break_count.Statement.{statement}
 use Rattle.choice.proofs.marks.break_count.Tie as tie
 

@@ -4,8 +4,8 @@ use Prim.Native.Nat.{_-_, _≤_}
 use native.Mathlib.Omega.{arith}
 use Rattle.plpb.specs.Count.{cap}
 use Rattle.format.specs.Tables.{planOfTables}
-use Rattle.choice.specs.Breaks.{lentBits}
-use Rattle.choice.specs.Marks.{LeastSoFar}
+use Rattle.breaks.specs.Breaks.{lentBits}
+use Rattle.free.specs.Marks.{LeastSoFar}
 use Rattle.choice.proofs.Least.{least-start, least-end}
 use Rattle.choice.proofs.marks.least_marks.Statement.{statement}
 use Rattle.choice.proofs.marks.least_marks.Tie as tie

@@ -3,8 +3,8 @@
 use borrow.Author.Needs.{needs}
 use Prim.Native.Nat.{_-_, _≤_}
 use native.Mathlib.Omega.{arith}
-use Rattle.choice.specs.Marks.{lowering, Written}
-use Rattle.choice.proofs.Parting.{none-written, more-written, all-written}
+use Rattle.free.specs.Marks.{lowering, Written}
+use Rattle.free.proofs.Parting.{none-written, more-written, all-written}
 use Rattle.choice.proofs.marks.lower_marks.Statement.{statement}
 use Rattle.choice.proofs.marks.lower_marks.Tie as tie
 

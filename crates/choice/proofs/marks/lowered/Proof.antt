@@ -2,7 +2,7 @@
 -- Assumes nothing.
 use borrow.Author.Tests.{eq-eqb, ne-eqb}
 use mathlib.Core.Path.{refl}
-use Rattle.choice.specs.Marks.{lowering}
+use Rattle.free.specs.Marks.{lowering}
 use Rattle.choice.proofs.marks.lowered.Statement.{statement}
 use Rattle.choice.proofs.marks.lowered.Tie as tie
 

@@ -3,7 +3,7 @@
 use borrow.Author.Needs.{needs}
 use native.Mathlib.Omega.{arith}
 use mathlib.Core.Path.{_≡_, sym, _∙_}
-use Rattle.tallies.proofs.Laid.{tables-long, variables-word}
+use Rattle.recount.proofs.Laid.{tables-long, variables-word}
 use Rattle.choice.proofs.Choosing.{choosable-marked}
 use Rattle.choice.proofs.marks.mark_choosable.Statement.{statement}
 use Rattle.choice.proofs.marks.mark_choosable.Tie as tie

@@ -3,8 +3,8 @@
 use borrow.Author.Needs.{needs}
 use native.Mathlib.Omega.{arith}
 use mathlib.Core.Path.{sym, _∙_}
-use Rattle.tallies.proofs.Laid.{tables-long, variables-word}
-use Rattle.choice.proofs.Parting.{parted-here}
+use Rattle.recount.proofs.Laid.{tables-long, variables-word}
+use Rattle.free.proofs.Parting.{parted-here}
 use Rattle.choice.proofs.marks.mark_free.Statement.{statement}
 use Rattle.choice.proofs.marks.mark_free.Tie as tie
 

@@ -2,8 +2,8 @@
 -- Assumes nothing.
 use borrow.Author.Needs.{needs}
 use native.Mathlib.Omega.{arith}
-use Rattle.tallies.proofs.Laid.{rules-few, entry-inside}
-use Rattle.choice.proofs.Marking.{rule-body, rule-marked}
+use Rattle.recount.proofs.Laid.{rules-few, entry-inside}
+use Rattle.free.proofs.Marking.{rule-body, rule-marked}
 use Rattle.choice.proofs.marks.mark_rule.Statement.{statement}
 use Rattle.choice.proofs.marks.mark_rule.Tie as tie
 

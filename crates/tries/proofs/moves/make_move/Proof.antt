@@ -4,7 +4,7 @@ use borrow.Author.Needs.{needs}
 use Prim.Native.Nat.{_<_}
 use native.Mathlib.Omega.{arith}
 use mathlib.Core.Path.{refl}
-use Rattle.tallies.proofs.Laid.{tables-long, clauses-few}
+use Rattle.recount.proofs.Laid.{tables-long, clauses-few}
 use Rattle.tries.proofs.Moving.{tally-room, picked-within, picked-uses, picked-moves, gone-moves}
 use Rattle.tries.proofs.moves.make_move.Statement.{statement}
 use Rattle.tries.proofs.moves.make_move.Tie as tie

@@ -1,0 +1,2 @@
+-- What the test for a break says.
+pub mod Breaks

@@ -1,0 +1,2 @@
+-- The laws of the sum over clauses.
+pub mod Summing

@@ -1,0 +1,2 @@
+-- What the counts of the code say.
+pub mod Counted

@@ -1,0 +1,4 @@
+-- The laws of marks, in reading order.
+pub mod Marking
+pub mod Parting
+pub mod Lowering

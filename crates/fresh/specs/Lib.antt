@@ -1,0 +1,2 @@
+-- What is found at a place of the tallies.
+pub mod Found

@@ -1,0 +1,2 @@
+-- How the program's lines are spelled.
+pub mod Text

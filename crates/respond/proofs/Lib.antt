@@ -1,0 +1,3 @@
+-- The laws of the answer to three files.
+pub mod Answering
+pub mod Responding

@@ -1,0 +1,2 @@
+-- What the program prints for any three files.
+pub mod Program

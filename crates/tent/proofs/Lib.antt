@@ -1,3 +1,0 @@
--- Laws of the program's output.
-pub mod Answering
-pub mod Responding
