@@ -16,19 +16,23 @@ use Rattle.counting.specs.Shares.{cappedShares, startShares, joinedShare
 pub same-shares : {e f g e′ f′ g′ : ℕ} → e ≡ e′ → f ≡ f′ → g ≡ g′ → _≡_ {A = SharesOf} (record { e = e; f = f; g = g }) (record { e = e′; f = f′; g = g′ })
 same-shares p q r = λ i. record { e = p i; f = q i; g = r i }
 
--- The three cases of a rule.
-module _ (n p : ℕ) (A B : Bound ℕ) (g x y : ℕ) where
-  pub shares-out : x ≡ capped (over n A) → y ≡ capped (over p B) → g ≡ capped (x + y) → _≡_ {A = SharesOf} (record { e = 0; f = 0; g = g }) (cappedShares (shares out n p A B))
+-- The three cases of a rule: what each promises of e, f and g is what the paper's table has in that case.
+module _ (n p : ℕ) (A B : Bound ℕ) {e f g : ℕ} where
+  pub case-absent : (e ≡ capped 0) × ((f ≡ capped 0) × (g ≡ capped (over n A + over p B))) → _≡_ {A = SharesOf} (record { e = e; f = f; g = g }) (cappedShares (shares out n p A B))
   unfolding cappedShares shares
-  shares-out hx hy hg = same-shares (sym capped-zero) (sym capped-zero) (hg ∙ sum-of (over n A) (over p B) hx hy)
+  case-absent h = same-shares (h .0) (h .1 .0) (h .1 .1)
 
-  pub shares-on : (w e f : ℕ) → w ≤ p → e ≡ capped (over (n + w) A - over n A) → f ≡ capped (over (p - w + w) B - over (p - w) B) → x ≡ capped (over n A) → y ≡ capped (over (p - w) B) → g ≡ capped (x + y) → _≡_ {A = SharesOf} (record { e = e; f = f; g = g }) (cappedShares (shares (on w) n p A B))
+  pub case-true : (w : ℕ) → (e ≡ capped (over (n + w) A - over n A)) × ((f ≡ capped (over p B - over (p - w) B)) × (g ≡ capped (over n A + over (p - w) B))) → _≡_ {A = SharesOf} (record { e = e; f = f; g = g }) (cappedShares (shares (on w) n p A B))
   unfolding cappedShares shares
-  shares-on w e f h he hf hx hy hg = same-shares he (rw (sub-add-cancel h) at hf) (hg ∙ sum-of (over n A) (over (p - w) B) hx hy)
+  case-true w h = same-shares (h .0) (h .1 .0) (h .1 .1)
 
-  pub shares-off : (w e f : ℕ) → w ≤ n → e ≡ capped (over (p + w) B - over p B) → f ≡ capped (over (n - w + w) A - over (n - w) A) → x ≡ capped (over p B) → y ≡ capped (over (n - w) A) → g ≡ capped (x + y) → _≡_ {A = SharesOf} (record { e = e; f = f; g = g }) (cappedShares (shares (off w) n p A B))
+  pub case-false : (w : ℕ) → (e ≡ capped (over (p + w) B - over p B)) × ((f ≡ capped (over n A - over (n - w) A)) × (g ≡ capped (over p B + over (n - w) A))) → _≡_ {A = SharesOf} (record { e = e; f = f; g = g }) (cappedShares (shares (off w) n p A B))
   unfolding cappedShares shares
-  shares-off w e f h he hf hx hy hg = same-shares he (rw (sub-add-cancel h) at hf) (hg ∙ sum-of (over p B) (over (n - w) A) hx hy)
+  case-false w h = same-shares (h .0) (h .1 .0) (h .1 .1)
+
+-- A difference that the code works out from the smaller upper number and what is added to it.
+pub from-smaller : (m w : ℕ) (A : Bound ℕ) {d : ℕ} → w ≤ m → d ≡ capped (over (m - w + w) A - over (m - w) A) → d ≡ capped (over m A - over (m - w) A)
+from-smaller m w A h e = rw (sub-add-cancel h) at e
 
 -- One number of a joined pair, as the code makes it: spoil · capped (false) + keep · spoil′, with each step capped.
 pub joined-one : (s k t u false first second r : ℕ) → false ≡ capped (t + u) → first ≡ capped (s * false) → second ≡ capped (k * t) → r ≡ capped (first + second) → r ≡ capped (s * (t + u) + k * t)

@@ -1,8 +1,12 @@
 // e, f and g: how many parts of a rule, or of a clause, a flip spoils, mends or leaves unsatisfied, each as a capped count.
+// The first three functions are the three cases of paper 004's equations (10) to (12), in its order and "read with 'its literal is
+// true' for 'x is true'". C(m, k) is m over k; w is the weight of the variable's literal, N and P are the weights of the rule's false and
+// of its true literals. K − l + 1 is the size a, and u + 1 the size b: an absent bound has no parts, and a size raised to 0 one, which is
+// empty.
 ghost use mathlib.Core.Path.{_≡_};
-ghost use Prim.Native.Nat.{_+_, _≤_, _<_};
+ghost use Prim.Native.Nat.{_+_, _-_, _≤_, _<_};
 ghost use Rattle.plpb.specs.Count.{capped};
-ghost use Rattle.plpb.specs.Equations.{out, on, off, shares};
+ghost use Rattle.plpb.specs.Equations.{over as overSize};
 ghost use Rattle.counting.specs.Bound.{boundOf};
 ghost use Rattle.counting.specs.Count.{number};
 ghost use Rattle.counting.specs.Shares.{sharesIn, cappedShares, joinedShares};
@@ -17,41 +21,52 @@ pub struct Shares {
     pub g: Count,
 }
 
-// Case 1 of (10) to (12): the variable does not occur in the rule. N and P are the weights of its false and of its true literals,
-// a and b the sizes A and B.
+// Case 1: the variable does not occur in the rule.
 pub fn literal_absent(n: u64, p: u64, a: Bound, b: Bound) -> Shares
     requires { ⌜ n + p < 4294967296 ⌝ }
-    ensures { λ r. ⌜ sharesIn r ≡ cappedShares (shares out n p (boundOf a) (boundOf b)) ⌝ }
+    ensures e { λ r. ⌜ number (r .e) ≡ capped 0 ⌝ }
+    ensures f { λ r. ⌜ number (r .f) ≡ capped 0 ⌝ }
+    ensures g { λ r. ⌜ number (r .g) ≡ capped (overSize n (boundOf a) + overSize p (boundOf b)) ⌝ }
 {
-    Shares {
-        e: Count::ZERO,
-        f: Count::ZERO,
-        g: over(n, a).plus(over(p, b)),
-    }
+    // (10), case 1: e = 0
+    let e = Count::ZERO;
+    // (11), case 1: f = 0
+    let f = Count::ZERO;
+    // (12), case 1: g = C(N, K − l + 1) + C(P, u + 1)
+    let g = over(n, a).plus(over(p, b));
+    Shares { e, f, g }
 }
 
-// Case 2 of (10) to (12): the variable's literal is true, and its weight is w.
+// Case 2: its literal is true.
 pub fn literal_true(w: u64, n: u64, p: u64, a: Bound, b: Bound) -> Shares
     requires { ⌜ (n + p < 4294967296) × (w ≤ p) ⌝ }
-    ensures { λ r. ⌜ sharesIn r ≡ cappedShares (shares (on w) n p (boundOf a) (boundOf b)) ⌝ }
+    ensures e { λ r. ⌜ number (r .e) ≡ capped (overSize (n + w) (boundOf a) - overSize n (boundOf a)) ⌝ }
+    ensures f { λ r. ⌜ number (r .f) ≡ capped (overSize p (boundOf b) - overSize (p - w) (boundOf b)) ⌝ }
+    ensures g { λ r. ⌜ number (r .g) ≡ capped (overSize n (boundOf a) + overSize (p - w) (boundOf b)) ⌝ }
 {
-    Shares {
-        e: over_difference(n, w, a),
-        f: over_difference(p - w, w, b),
-        g: over(n, a).plus(over(p - w, b)),
-    }
+    // (10), case 2: e = C(N + w, K − l + 1) − C(N, K − l + 1)
+    let e = over_difference(n, w, a);
+    // (11), case 2: f = C(P, u + 1) − C(P − w, u + 1)
+    let f = over_difference(p - w, w, b);
+    // (12), case 2: g = C(N, K − l + 1) + C(P − w, u + 1)
+    let g = over(n, a).plus(over(p - w, b));
+    Shares { e, f, g }
 }
 
-// Otherwise: the variable's literal is false, and its weight is w.
+// Otherwise: its literal is false.
 pub fn literal_false(w: u64, n: u64, p: u64, a: Bound, b: Bound) -> Shares
     requires { ⌜ (n + p < 4294967296) × (w ≤ n) ⌝ }
-    ensures { λ r. ⌜ sharesIn r ≡ cappedShares (shares (off w) n p (boundOf a) (boundOf b)) ⌝ }
+    ensures e { λ r. ⌜ number (r .e) ≡ capped (overSize (p + w) (boundOf b) - overSize p (boundOf b)) ⌝ }
+    ensures f { λ r. ⌜ number (r .f) ≡ capped (overSize n (boundOf a) - overSize (n - w) (boundOf a)) ⌝ }
+    ensures g { λ r. ⌜ number (r .g) ≡ capped (overSize p (boundOf b) + overSize (n - w) (boundOf a)) ⌝ }
 {
-    Shares {
-        e: over_difference(p, w, b),
-        f: over_difference(n - w, w, a),
-        g: over(p, b).plus(over(n - w, a)),
-    }
+    // (10), otherwise: e = C(P + w, u + 1) − C(P, u + 1)
+    let e = over_difference(p, w, b);
+    // (11), otherwise: f = C(N, K − l + 1) − C(N − w, K − l + 1)
+    let f = over_difference(n - w, w, a);
+    // (12), otherwise: g = C(P, u + 1) + C(N − w, K − l + 1)
+    let g = over(p, b).plus(over(n - w, a));
+    Shares { e, f, g }
 }
 
 impl Shares {

@@ -2,6 +2,7 @@
 -- Assumes nothing.
 use borrow.Author.Needs.{needs}
 use mathlib.Core.Path.{_∙_}
+use Rattle.counting.proofs.Joining.{case-absent, case-true, case-false}
 use Rattle.probe.proofs.Answering.{answer-out, answer-on, none-on, answer-off, none-off}
 use Rattle.probe.proofs.shares.Statement.{statement}
 use Rattle.probe.proofs.shares.Tie as tie
@@ -9,7 +10,7 @@ use Rattle.probe.proofs.shares.Tie as tie
 returns : tie.Need-returns
 returns c =
     c .flat .ensures
-    ∙ c .before .literal-absent .ensures
+    ∙ case-absent _ _ _ _ (c .before .literal-absent .ensures)
     ∙ answer-out _ _ _ _ _ _ (c .before .before .before .pre) (c .before .before .if1 .taken)
 
 returns-2 : tie.Need-returns-2
@@ -19,7 +20,7 @@ returns-3 : tie.Need-returns-3
 returns-3 c =
     let start = c .before .before .before .before .before in
     c .flat2 .ensures
-    ∙ c .before .literal-true .ensures
+    ∙ case-true _ _ _ _ _ (c .before .literal-true .ensures)
     ∙ answer-on _ _ _ _ _ _ (start .pre) (c .before .before .before .if2 .taken) (c .before .before .if3 .left)
 
 returns-4 : tie.Need-returns-4
@@ -29,7 +30,7 @@ returns-5 : tie.Need-returns-5
 returns-5 c =
     let start = c .before .before .before .before .before in
     c .flat3 .ensures
-    ∙ c .before .literal-false .ensures
+    ∙ case-false _ _ _ _ _ (c .before .literal-false .ensures)
     ∙ answer-off _ _ _ _ _ _ (start .pre) (c .before .before .before .before .if1 .left) (c .before .before .before .if2 .left) (c .before .before .if4 .left)
 
 pub shares-spec : {M : Type 1} → statement M

@@ -1,19 +1,21 @@
--- `literal_true` meets its contract: equation (11), from capped differences and binomials.
+-- `literal_true` meets its contract: case 2 of (10) to (12), from capped differences and binomials.
 -- Assumes nothing.
 use borrow.Author.Needs.{needs}
-use Rattle.counting.proofs.Joining.{shares-on}
+use mathlib.Core.Path.{_∙_}
+use Rattle.plpb.proofs.Capped.{sum-of}
+use Rattle.counting.proofs.Joining.{from-smaller}
 use Rattle.counting.proofs.shares.literal_true.Statement.{statement}
 use Rattle.counting.proofs.shares.literal_true.Tie as tie
 
 returns : tie.Need-returns
 returns c =
-    shares-on _ _ _ _ _ _ _ _ _ _
-    (c .before .before .before .before .before .pre .1)
-    (c .before .before .before .before .over-difference .ensures)
-    (c .before .before .before .over-difference2 .ensures)
-    (c .before .before .over .ensures)
-    (c .before .over2 .ensures)
-    (c .plus .ensures)
+    let start = c .before .before .before .before .before in (
+      c .before .before .before .before .over-difference .ensures,
+      (
+        from-smaller _ _ _ (start .pre .1) (c .before .before .before .over-difference2 .ensures),
+        c .plus .ensures ∙ sum-of _ _ (c .before .before .over .ensures) (c .before .over2 .ensures),
+      ),
+    )
 
 pub literal-true-spec : {M : Type 1} → statement M
 literal-true-spec =

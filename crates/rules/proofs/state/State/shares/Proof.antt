@@ -3,6 +3,7 @@
 use borrow.Author.Needs.{needs}
 use Rattle.rules.proofs.state.State.shares.Statement.{statement}
 use Rattle.rules.proofs.state.State.shares.Tie as tie
+use Rattle.counting.proofs.Joining.{case-absent, case-true, case-false}
 use Rattle.rules.specs.State.{sharesFrom}
 use Rattle.rules.proofs.States.{on-in-P, off-in-N}
 
@@ -18,15 +19,15 @@ requires-off c κs =
 
 returns : tie.Need-returns
 unfolding sharesFrom
-returns c = rw (c .before .enum-told .given .1) (c .literal-absent .ensures)
+returns c = rw (c .before .enum-told .given .1) (case-absent _ _ _ _ (c .literal-absent .ensures))
 
 returns-2 : tie.Need-returns-2
 unfolding sharesFrom
-returns-2 c = rw (c .before .before .stands .given .1) (c .literal-true .ensures)
+returns-2 c = rw (c .before .before .stands .given .1) (case-true _ _ _ _ _ (c .literal-true .ensures))
 
 returns-3 : tie.Need-returns-3
 unfolding sharesFrom
-returns-3 c = rw (c .before .before .stands2 .given .1) (c .literal-false .ensures)
+returns-3 c = rw (c .before .before .stands2 .given .1) (case-false _ _ _ _ _ (c .literal-false .ensures))
 
 pub shares-spec : {M : Type 1} → statement M
 shares-spec =
