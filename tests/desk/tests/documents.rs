@@ -17,6 +17,7 @@ fn pages() -> Vec<PathBuf> {
     let folders = [
         "",
         "docs",
+        "docs/requests",
         "examples/race-day",
         "examples/two-sites",
         "tests/vectors",
