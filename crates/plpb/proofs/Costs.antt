@@ -1,4 +1,5 @@
--- Costs and bounds: a cost is l(O) plus a natural number, its gap, and each bound of the tightening is a smaller gap.
+-- Costs and bounds: a cost is the sum of the negative coefficients and a natural number, its gap; l(O) is a floor of what obeys the locks; each bound of the
+-- tightening is a smaller gap.
 use Prim.Native.Nat.{ℕ, zero, suc, _+_, _*_, _-_, _/_, _≤_, _<_, zero-le}
 use mathlib.Core.Bool.{Bool, true, false, cond}
 use mathlib.Core.List.{List, [], _∷_}
@@ -10,13 +11,14 @@ use lib.Dec.{T, ltb, ltb→lt, le→leb, lt→ltb}
 use lib.IntN.{ℤ, pos, negsuc, natAbs, predℤ, subℕ, suc-pred, _+ℤ_, _-ℤ_, _*ℤ_, sucℤ-*ℤ, zero-*ℤ, -ℤ-one, +ℤ-idl, +ℤ-idr, +ℤ-assoc, +ℤ-comm}
 use lib.Signed.{leZ, ltZ}
 use Rattle.plpb.specs.Lists.{_and_, _or_, any, all}
-use Rattle.plpb.specs.Plan.{Term, Plan, Assignment, value, total, atLeast, atMost, ruleHolds, clauseHolds, satisfies, cost, negativePart, leastTotal, floorCost}
+use Rattle.plpb.specs.Plan.{Bound, absent, present, Term, Plan, Assignment, value, isVariable, lockOf, agrees, obeys, total, atLeast, atMost, ruleHolds, clauseHolds, satisfies, cost, negativePart, leastTotal, leastOf, leastCost, floorCost}
 use Rattle.plpb.specs.Settings.{Mode, linear, lbs}
 use Rattle.plpb.specs.Search.{tightened, third, lbsBound, linearBound, boundIn, atFloor, gap}
 use Rattle.plpb.proofs.Integers.{ltZ-suc, ltZ-shift, leZ-difference, leZ-refl, leZ-antisym, leZ-add, leZ-ltZ-trans}
+use Rattle.plpb.proofs.Locks.{obeyed}
 use Rattle.plpb.proofs.Lists.{T-true, false-T, is-true, and-left, and-right, and-both, and-true, or-false, all-append}
 
--- No assignment costs less than l(O): each term gives its weight or nothing.
+-- No assignment costs less than the sum of the negative coefficients: each term gives its weight or nothing.
 negative-part : (b : Bool) (w : ℤ) → T (leZ (negativePart w) (cond b w (pos 0)))
 unfolding negativePart
 negative-part true (pos n) = le→leb 0 n zero-le
@@ -31,35 +33,68 @@ least-total a (t ∷ ts) =
     leZ-add (negativePart (t .weight)) (cond (value a (t .variable)) (t .weight) (pos 0)) (leastTotal ts) (total a ts)
     (negative-part (value a (t .variable)) (t .weight)) (least-total a ts)
 
-pub floor-below : (p : Plan) (a : Assignment) → T (leZ (floorCost p) (cost p a))
+-- What a coefficient counts in l(O) is at least its negative part, and at most what a value that agrees with the lock gives.
+least-part : (k : Bound Bool) (w : ℤ) → T (leZ (negativePart w) (leastOf k w))
+unfolding leastOf
+least-part absent w = leZ-refl (negativePart w)
+least-part (present v) w = negative-part v w
+
+agreed-part : (k : Bound Bool) (b : Bool) (w : ℤ) → T (agrees k b) → T (leZ (leastOf k w) (cond b w (pos 0)))
+unfolding leastOf agrees
+agreed-part absent b w h = negative-part b w
+agreed-part (present true) true w h = leZ-refl w
+agreed-part (present true) false w h = absurd h
+agreed-part (present false) true w h = absurd h
+agreed-part (present false) false w h = tt
+
+plain-below : (p : Plan) (ts : List Term) → T (leZ (leastTotal ts) (leastCost p ts))
+unfolding leastTotal leastCost
+plain-below p [] = tt
+plain-below p (t ∷ ts) =
+    leZ-add (negativePart (t .weight)) (leastOf (lockOf p (t .variable)) (t .weight)) (leastTotal ts) (leastCost p ts)
+    (least-part (lockOf p (t .variable)) (t .weight)) (plain-below p ts)
+
+least-below : (p : Plan) (a : Assignment) (ts : List Term) → T (obeys a p) → T (leZ (leastCost p ts) (total a ts))
+unfolding total leastCost
+least-below p a [] h = tt
+least-below p a (t ∷ ts) h =
+    leZ-add (leastOf (lockOf p (t .variable)) (t .weight)) (cond (value a (t .variable)) (t .weight) (pos 0)) (leastCost p ts) (total a ts)
+    (agreed-part (lockOf p (t .variable)) (value a (t .variable)) (t .weight) (obeyed p a (t .variable) h)) (least-below p a ts h)
+
+-- l(O) is a true floor: no assignment that obeys the locks costs less.
+pub floor-below : (p : Plan) (a : Assignment) → T (obeys a p) → T (leZ (floorCost p) (cost p a))
 unfolding floorCost cost
-floor-below p a = least-total a (p .objective)
+floor-below p a h = least-below p a (p .objective) h
 
--- A cost is l(O) and its gap.
-pub gap-cost : (p : Plan) (a : Assignment) → floorCost p +ℤ pos (gap p a) ≡ cost p a
-unfolding gap
-gap-cost p a = leZ-difference (floorCost p) (cost p a) (floor-below p a)
+-- A cost is the sum of the negative coefficients and its gap.
+pub gap-cost : (p : Plan) (a : Assignment) → leastTotal (p .objective) +ℤ pos (gap p a) ≡ cost p a
+unfolding gap cost
+gap-cost p a = leZ-difference (leastTotal (p .objective)) (total a (p .objective)) (least-total a (p .objective))
 
-pub gap-zero : (p : Plan) (a : Assignment) → gap p a ≡ 0 → cost p a ≡ floorCost p
-gap-zero p a e = sym (gap-cost p a) ∙ ap (λ n. floorCost p +ℤ pos n) e ∙ +ℤ-idr (floorCost p)
+pub gap-zero : (p : Plan) (a : Assignment) → T (obeys a p) → gap p a ≡ 0 → cost p a ≡ floorCost p
+unfolding floorCost
+gap-zero p a h e =
+    let least : cost p a ≡ leastTotal (p .objective) =
+    sym (gap-cost p a) ∙ ap (λ n. leastTotal (p .objective) +ℤ pos n) e ∙ +ℤ-idr (leastTotal (p .objective)) in
+    leZ-antisym (cost p a) (floorCost p) (subst (λ v. T (leZ v (floorCost p))) (sym least) (plain-below p (p .objective))) (floor-below p a h)
 
 pub at-floor : (p : Plan) (a : Assignment) → atFloor p a ≡ true → cost p a ≡ floorCost p
 unfolding atFloor
-at-floor p a e = leZ-antisym (cost p a) (floorCost p) (and-left _ _ (T-true e)) (floor-below p a)
+at-floor p a e = leZ-antisym (cost p a) (floorCost p) (and-left _ _ (T-true e)) (and-right _ _ (T-true e))
 
 pub floor-at : (p : Plan) (a : Assignment) → cost p a ≡ floorCost p → atFloor p a ≡ true
 unfolding atFloor _and_
 floor-at p a e = rw (e, is-true (leZ (floorCost p) (floorCost p)) (leZ-refl (floorCost p))) refl
 
-pub above-floor : (p : Plan) (a : Assignment) → atFloor p a ≡ false → floorCost p ≢ cost p a
+pub above-floor : (p : Plan) (a : Assignment) → T (obeys a p) → atFloor p a ≡ false → floorCost p ≢ cost p a
 unfolding atFloor
-above-floor p a e c = false-T e (and-both _ _ (rw c (leZ-refl (cost p a))) (floor-below p a))
+above-floor p a h e c = false-T e (and-both _ _ (rw c (leZ-refl (cost p a))) (floor-below p a h))
 
 -- A smaller cost is a smaller gap.
 pub gap-falls : (p : Plan) (a b : Assignment) → T (ltZ (cost p b) (cost p a)) → gap p b < gap p a
 gap-falls p a b h =
     let e : ltZ (cost p b) (cost p a) ≡ ltb (gap p b) (gap p a) =
-    ap₂ ltZ (sym (gap-cost p b)) (sym (gap-cost p a)) ∙ ltZ-shift (floorCost p) (pos (gap p b)) (pos (gap p a)) in
+    ap₂ ltZ (sym (gap-cost p b)) (sym (gap-cost p a)) ∙ ltZ-shift (leastTotal (p .objective)) (pos (gap p b)) (pos (gap p a)) in
     ltb→lt (gap p b) (gap p a) (subst T e h)
 
 pub bound-falls : (p : Plan) (m : ℤ) (a b : Assignment) → T (leZ (cost p b) m) → T (ltZ m (cost p a)) → gap p b < gap p a
@@ -111,10 +146,10 @@ lbs-less l v h d =
     (rw (lbs-gap l g, ltZ-shift l (pos (2 * g / 3)) (pos g)) (lt→ltb (2 * g / 3) g (omega arith)))
 
 -- Above l(O), each mode's bound lies below the cost.
-pub bound-less : (p : Plan) (a : Assignment) (mode : Mode) → atFloor p a ≡ false → T (ltZ (boundIn mode (floorCost p) (cost p a)) (cost p a))
+pub bound-less : (p : Plan) (a : Assignment) (mode : Mode) → T (obeys a p) → atFloor p a ≡ false → T (ltZ (boundIn mode (floorCost p) (cost p a)) (cost p a))
 unfolding boundIn
-bound-less p a linear e = linear-less (cost p a)
-bound-less p a lbs e = lbs-less (floorCost p) (cost p a) (floor-below p a) (above-floor p a e)
+bound-less p a linear h e = linear-less (cost p a)
+bound-less p a lbs h e = lbs-less (floorCost p) (cost p a) (floor-below p a h) (above-floor p a h e)
 
 -- A third rounds down: 3·⌊z/3⌋ ≤ z < 3·⌊z/3⌋ + 3.
 pub third-below : (z : ℤ) → T (leZ (pos 3 *ℤ third z) z)
@@ -142,6 +177,15 @@ unfolding tightened satisfies clauseHolds ruleHolds atLeast atMost cost all any 
 satisfies-tightened p m a =
     all-append (clauseHolds a) (p .clauses) _
     ∙ ap (λ b. satisfies a p and b) (and-true (leZ (cost p a) m or false) ∙ or-false (leZ (cost p a) m))
+
+-- It locks nothing.
+pub tightened-lock : (p : Plan) (m : ℤ) (x : ℕ) → lockOf (tightened p m) x ≡ lockOf p x
+unfolding tightened lockOf isVariable
+tightened-lock p m x = refl
+
+pub tightened-obeys : (p : Plan) (m : ℤ) (a : Assignment) → obeys a (tightened p m) ≡ obeys a p
+unfolding tightened obeys lockOf isVariable
+tightened-obeys p m a = refl
 
 -- So what a call finds under a bound below the last cost is a plan, and costs less than the last.
 pub tightened-find : (p : Plan) (m v : ℤ) (b : Assignment) → T (ltZ m v) → T (satisfies b (tightened p m)) → T (satisfies b p) × T (ltZ (cost p b) v)

@@ -5,7 +5,7 @@ use mathlib.Core.List.{List, [], _∷_}
 use mathlib.Core.Path.{_≡_, refl}
 use lib.IntN.{pos}
 use Rattle.plpb.specs.Lists.{_and_, _or_, keep, any, all, sumBy, concat, isEmpty, row}
-use Rattle.plpb.specs.Plan.{absent, present, mapBound, Plan, Term, value, flip, total, atLeast, atMost, ruleHolds, clauseHolds, satisfies, cost, negativePart, leastTotal, floorCost, namedIn, names}
+use Rattle.plpb.specs.Plan.{absent, present, isPresent, mapBound, Plan, Term, value, flip, isVariable, lockAmong, lockOf, isLocked, under, hold, total, atLeast, atMost, ruleHolds, clauseHolds, satisfies, cost, negativePart, leastTotal, leastOf, leastCost, floorCost, namedIn, names}
 use Rattle.plpb.specs.Normal.{opposite, literalTrue, isNegative, literal, size, rise, K, raised, sizeA, sizeB, copies}
 use Rattle.plpb.specs.Expansion.{choose, choices, parts, joined, expandClause, expansion, isTrue, spoils, breakCount}
 use Rattle.plpb.specs.Count.{cap, capped, cappedBreak}
@@ -25,6 +25,7 @@ unfoldable pub plan : Plan
 plan = record {
   variables = 2;
   objective = term 1 1 ∷ term 2 2 ∷ [];
+  locks = [];
   clauses = (record { lower = present (pos 1); upper = absent; terms = term 1 1 ∷ term 2 1 ∷ [] } ∷ []) ∷ [];
 }
 
@@ -42,7 +43,7 @@ answer = record { ending = ended; cost = pos 1; finds = 2; flips = 2; used = 10;
 pub example : search settings plan numbers ≡ answer
 unfolding term plan settings numbers answer
     _and_ _or_ keep any all sumBy concat isEmpty row
-    mapBound value flip total atLeast atMost ruleHolds clauseHolds satisfies cost negativePart leastTotal floorCost namedIn names
+    isPresent mapBound value flip isVariable lockAmong lockOf isLocked under hold total atLeast atMost ruleHolds clauseHolds satisfies cost negativePart leastTotal leastOf leastCost floorCost namedIn names
     opposite literalTrue isNegative literal size rise K raised sizeA sizeB copies
     choose choices parts joined expandClause expansion isTrue spoils breakCount
     cap capped cappedBreak unsatisfied takeWords takePick startWords bit startOf _>>=_ run

@@ -41,14 +41,14 @@ module _ (ns : List ℕ) where
   blind-looks (flipped w) u b = blind-looks w u b
   blind-looks (found a w) u b = blind-looks w u b
 
-draws-blind : {A : Type 0} (w : Walk A) → Draws w → Blind w
+draws-blind : {A : Type 0} (P : A → Type 0) (w : Walk A) → Draws P w → Blind w
 unfolding Blind Draws
-draws-blind (done a) d = tt
-draws-blind (words k f) d = λ ws. draws-blind (f ws) (d ws)
-draws-blind (pick k f) d = λ r. draws-blind (f r) (d r)
-draws-blind (look b w) d = absurd d
-draws-blind (flipped w) d = absurd d
-draws-blind (found b w) d = absurd d
+draws-blind P (done a) d = tt
+draws-blind P (words k f) d = λ ws. draws-blind P (f ws) (d ws)
+draws-blind P (pick k f) d = λ r. draws-blind P (f r) (d r)
+draws-blind P (look b w) d = absurd d
+draws-blind P (flipped w) d = absurd d
+draws-blind P (found b w) d = absurd d
 
 bind-blind : {A B : Type 0} (k : A → Walk B) (w : Walk A) → Blind w → ((a : A) → Blind (k a)) → Blind (w >>= k)
 unfolding Blind _>>=_
@@ -66,11 +66,11 @@ module _ (s : Settings) (p : Plan) (t : Try) where
     where
       either : (b : Bool) → Blind (cond b (done stuck) (choice s p t xs >>= (λ x. flipped (done (turned (turnOver t x))))))
       either true = unfold Blind in tt
-      either false = bind-blind _ (choice s p t xs) (draws-blind _ (choice-draws s p t xs)) (λ x. unfold Blind in tt)
+      either false = bind-blind _ (choice s p t xs) (draws-blind _ _ (choice-draws s p t xs (λ x. Unit {0}) tt (λ i. tt))) (λ x. unfold Blind in tt)
 
   move-blind : Blind (move s p t)
   unfolding move
-  move-blind = bind-blind _ _ (draws-blind _ (pick-draws [] _)) (λ c. turning-blind (choosable p c))
+  move-blind = bind-blind _ _ (draws-blind (λ c. Unit {0}) _ (pick-draws _ [] _ (λ i. tt))) (λ c. turning-blind (choosable p c))
 
 -- What is looked at behind a move is what the try holds behind it, but for the last.
 behind : (s : Settings) (p : Plan) (left : ℕ) (ns : List ℕ) (o : Outcome Turn)

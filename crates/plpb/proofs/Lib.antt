@@ -4,6 +4,7 @@ pub mod Integers
 pub mod Binomial
 pub mod Capped
 pub mod Flip
+pub mod Locks
 pub mod Normal
 pub mod Choices
 pub mod Theorem2

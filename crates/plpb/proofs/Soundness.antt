@@ -7,48 +7,76 @@ use mathlib.Core.Path.{_≡_, refl, sym, _∙_, ap, subst}
 use native.Mathlib.Omega.{arith}
 use lib.Arith.{le-zero}
 use borrow.Author.Tests.{eq-eqb}
-use lib.Dec.{T, eqb}
+use lib.Dec.{T, eqb, ltb}
 use lib.IntN.{ℤ}
-use lib.ListN.{length, getD, length-set, length-map}
+use lib.ListN.{length, getD}
 use lib.Signed.{ltZ}
 use Rattle.plpb.specs.Lists.{_and_, _or_, any, all, keep, isEmpty, row}
-use Rattle.plpb.specs.Plan.{Plan, Assignment, flip, satisfies, cost, floorCost}
-use Rattle.plpb.specs.Numbers.{startOf}
-use Rattle.plpb.specs.Walk.{Walk, done, flipped, _>>=_, Mark, at, oneFind, Outcome, ends, short, run}
+use Rattle.plpb.specs.Plan.{Clause, Plan, Assignment, isLocked, hold, obeys, satisfies, cost, floorCost, names}
+use Rattle.plpb.specs.Walk.{Walk, done, flipped, _>>=_, Mark, at, oneFind, Outcome, ends, short, run, looks}
 use Rattle.plpb.specs.Settings.{Mode, linear, lbs, Settings}
 use Rattle.plpb.specs.Try.{Try, begun, turnOver}
-use Rattle.plpb.specs.Choice.{choosable, pickFrom, withBreak, noisyChoice, choice}
+use Rattle.plpb.specs.Choice.{choosable, pickFrom, leastBreak, withBreak, noisyChoice, choice}
 use Rattle.plpb.specs.Tallies.{unsatisfied}
 use Rattle.plpb.specs.Search.{Reached, failed, reached, Turn, stuck, turned, turning, move, goOn, flipping, try, orElse, trying, call, tightened, boundIn, Ending, floor, ended, none, short-found, short-none, atFloor, gap, after, descending, linearSearch, lbsSearch, tighten, searchWalk, lastFind, costOf, answerOf, conclude, begin, search}
 use Rattle.plpb.specs.Sound.{markOf, findsOf, looksOf, costsLess, falling, noPlan, Sound}
-use Rattle.plpb.proofs.Lists.{T-true, and-both, or-true, or-false, any-reverse, length-row}
-use Rattle.plpb.proofs.Costs.{gap-zero, at-floor, floor-at, gap-falls, bound-less, tightened-find}
+use Rattle.plpb.proofs.Lists.{T-true, and-left, and-right, and-both, is-false, or-true, or-false, any-reverse}
+use Rattle.plpb.proofs.Flip.{length-flip}
+use Rattle.plpb.proofs.Locks.{zero-free, length-hold, hold-obeys, flip-obeys}
+use Rattle.plpb.proofs.Costs.{gap-zero, at-floor, floor-at, gap-falls, bound-less, tightened-obeys, tightened-find}
 use Rattle.plpb.proofs.Walks.{Claim, Meets, Holds, meets-run, meets-bind, onward, run-bind, run-keeps, used-within, Draws, draws-meets}
 
--- A choice only draws numbers.
-pub pick-draws : {A : Type 0} (d : A) (xs : List A) → Draws (pickFrom d xs)
+-- A choice only draws numbers, and comes to one of the variables that it is given, or to 0.
+pub pick-draws : {A : Type 0} (P : A → Type 0) (d : A) (xs : List A) → ((i : ℕ) → P (getD xs i d)) → Draws P (pickFrom d xs)
 unfolding pickFrom Draws
-pick-draws d xs r = tt
+pick-draws P d xs h r = h r
 
-module _ (s : Settings) (p : Plan) (t : Try) (xs : List ℕ) where
-  noisy-draws : Draws (noisyChoice s p t xs)
+-- What is so of 0 and of each of some variables that passes a test is so of those kept, at any place.
+module _ (P : ℕ → Type 0) (q : ℕ → Bool) (z : P 0) where
+  behind : (x : ℕ) (xs : List ℕ) → P x → ((i : ℕ) → P (getD xs i 0)) → (i : ℕ) → P (getD (x ∷ xs) i 0)
+  behind x xs h k zero = h
+  behind x xs h k (suc i) = k i
+
+  kept-at : (xs : List ℕ) → ((i : ℕ) → T (q (getD xs i 0)) → P (getD xs i 0)) → (i : ℕ) → P (getD (keep q xs) i 0)
+  unfolding keep
+  kept-at [] h = λ i. z
+  kept-at (x ∷ xs) h = either (q x) refl (kept-at xs (λ i. h (suc i)))
+    where
+      either : (b : Bool) → q x ≡ b → ((i : ℕ) → P (getD (keep q xs) i 0)) → (i : ℕ) → P (getD (cond b (x ∷ keep q xs) (keep q xs)) i 0)
+      either false e k = k
+      either true e k = behind x (keep q xs) (h 0 (T-true e)) k
+
+module _ (s : Settings) (p : Plan) (t : Try) (xs : List ℕ) (P : ℕ → Type 0) (z : P 0) (each : (i : ℕ) → P (getD xs i 0)) where
+  noisy-draws : Draws P (noisyChoice s p t xs)
   unfolding noisyChoice Draws _>>=_
-  noisy-draws r = pick-draws 0 _
+  noisy-draws r = pick-draws P 0 _ (either (ltb r (s .noise)))
+    where
+      either : (b : Bool) (i : ℕ) → P (getD (cond b (withBreak p (t .bits) (leastBreak p (t .bits) xs) xs) xs) i 0)
+      either true = unfold withBreak in kept-at P _ z xs (λ i h. each i)
+      either false = each
 
-  pub choice-draws : Draws (choice s p t xs)
+  pub choice-draws : Draws P (choice s p t xs)
   unfolding choice
   choice-draws = either (isEmpty (withBreak p (t .bits) 0 xs))
     where
-      either : (b : Bool) → Draws (cond b (noisyChoice s p t xs) (pickFrom 0 (withBreak p (t .bits) 0 xs)))
+      either : (b : Bool) → Draws P (cond b (noisyChoice s p t xs) (pickFrom 0 (withBreak p (t .bits) 0 xs)))
       either true = noisy-draws
-      either false = pick-draws 0 (withBreak p (t .bits) 0 xs)
+      either false = pick-draws P 0 (withBreak p (t .bits) 0 xs) (unfold withBreak in kept-at P _ z xs (λ i h. each i))
+
+-- "Only unlocked variables of a clause may be chosen"
+abbrev Free : Plan → ℕ → Type 0
+Free p x = isLocked p x ≡ false
+
+choosable-free : (p : Plan) (c : Clause) (i : ℕ) → Free p (getD (choosable p c) i 0)
+unfolding choosable
+choosable-free p c = kept-at (Free p) _ (zero-free p) (row 1 (p .variables)) (λ i h. is-false (isLocked p _) (and-right (names c _) (not (isLocked p _)) h))
 
 -- A call for a plan q, from finds fs: I holds throughout if J is kept by looks that fail, B holds of every assignment held if it holds of each start
--- and is kept by flips, and a call returns with what satisfies q or with nothing.
+-- and is kept by flips of variables that are not locked, and a call returns with what satisfies q or with nothing.
 module _ (s : Settings) (q : Plan) (fs : List Assignment) (I : Claim) (J : List Assignment → Type 0) (B : Assignment → Type 0) where
   pub record Returns (Q : Reached → Claim) : Type 0 where
     pub starts : (ws : List ℕ) → B (begun q ws .bits)
-    pub turns : (t : Try) (x : ℕ) → B (t .bits) → B (turnOver t x .bits)
+    pub turns : (t : Try) (x : ℕ) → isLocked q x ≡ false → B (t .bits) → B (turnOver t x .bits)
     pub during : (u f : ℕ) (ls : List Assignment) → f ≤ u → J ls → I (at u f fs) ls
     pub miss : (a : Assignment) (ls : List Assignment) → satisfies a q ≡ false → J ls → J (a ∷ ls)
     pub hit : (a : Assignment) (u f : ℕ) (ls : List Assignment) → satisfies a q ≡ true → B a → f ≤ u → J ls → Q (reached a) (at u f fs) (a ∷ ls)
@@ -60,32 +88,33 @@ module _ (s : Settings) (q : Plan) (fs : List Assignment) (I : Claim) (J : List 
   abbrev CalledFrom : (Try → Walk Reached) → Type 1
   CalledFrom w = (t : Try) (Q : Reached → Claim) → Returns Q → B (t .bits) → (u f : ℕ) (ls : List Assignment) → f ≤ u → J ls → Meets I Q (w t) (at u f fs) ls
 
-  turning-meets : (Q : Turn → Claim) (t : Try) (xs : List ℕ) (u f : ℕ) (ls : List Assignment)
+  turning-meets : (Q : Turn → Claim) (t : Try) (c : Clause) (u f : ℕ) (ls : List Assignment)
       → ((v : ℕ) → u ≤ v → I (at v f fs) ls)
       → Q stuck (at u f fs) ls
-      → ((x v : ℕ) → u ≤ v → Q (turned (turnOver t x)) (at v (f + 1) fs) ls)
-      → Meets I Q (turning s q t xs) (at u f fs) ls
+      → ((x v : ℕ) → isLocked q x ≡ false → u ≤ v → Q (turned (turnOver t x)) (at v (f + 1) fs) ls)
+      → Meets I Q (turning s q t (choosable q c)) (at u f fs) ls
   unfolding turning Meets
-  turning-meets Q t xs u f ls i n h = either (isEmpty xs)
+  turning-meets Q t c u f ls i n h = either (isEmpty (choosable q c))
     where
       on : Walk Turn
-      on = choice s q t xs >>= (λ x. flipped (done (turned (turnOver t x))))
+      on = choice s q t (choosable q c) >>= (λ x. flipped (done (turned (turnOver t x))))
 
       either : (b : Bool) → Meets I Q (cond b (done stuck) on) (at u f fs) ls
       either true = n
       either false =
-          meets-bind I Q (λ x. flipped (done (turned (turnOver t x)))) (choice s q t xs) (at u f fs) ls
-          (draws-meets I _ f fs ls (choice s q t xs) u (choice-draws s q t xs) i h)
+          meets-bind I Q (λ x. flipped (done (turned (turnOver t x)))) (choice s q t (choosable q c)) (at u f fs) ls
+          (draws-meets (Free q) I _ f fs ls (choice s q t (choosable q c)) u
+          (choice-draws s q t (choosable q c) (Free q) (zero-free q) (choosable-free q c)) i h)
 
   move-meets : (Q : Turn → Claim) (t : Try) (u f : ℕ) (ls : List Assignment)
       → ((v : ℕ) → u ≤ v → I (at v f fs) ls)
       → ((v : ℕ) → u < v → Q stuck (at v f fs) ls)
-      → ((x v : ℕ) → u < v → Q (turned (turnOver t x)) (at v (f + 1) fs) ls)
+      → ((x v : ℕ) → isLocked q x ≡ false → u < v → Q (turned (turnOver t x)) (at v (f + 1) fs) ls)
       → Meets I Q (move s q t) (at u f fs) ls
   unfolding move pickFrom Meets _>>=_
   move-meets Q t u f ls i n h = (
     i,
-    λ r v l. turning-meets Q t _ v f ls (λ w k. i w (omega arith)) (n v (omega arith)) (λ x w k. h x w (omega arith)),
+    λ r v l. turning-meets Q t _ v f ls (λ w k. i w (omega arith)) (n v (omega arith)) (λ x w o k. h x w o (omega arith)),
   )
 
   flipping-meets : (left : ℕ) → CalledFrom (flipping s q left)
@@ -102,7 +131,7 @@ module _ (s : Settings) (q : Plan) (fs : List Assignment) (I : Claim) (J : List 
           meets-bind I Q (goOn (flipping s q left)) (move s q t) (at u f fs) (t .bits ∷ ls)
           (move-meets _ t u f (t .bits ∷ ls) (λ v l. r .during v f (t .bits ∷ ls) (omega arith) k)
           (λ v l. r .lost v f (t .bits ∷ ls) (omega arith) k)
-          (λ x v l. on (turnOver t x) Q r (r .turns t x b) v (f + 1) (t .bits ∷ ls) (omega arith) k))
+          (λ x v o l. on (turnOver t x) Q r (r .turns t x o b) v (f + 1) (t .bits ∷ ls) (omega arith) k))
 
   try-meets : Called (try s q)
   unfolding try Meets
@@ -128,18 +157,48 @@ seen p ls = any (λ a. satisfies a p) ls
 abbrev pub Complete : Plan → Assignment → Type 0
 Complete p a = length a ≡ p .variables
 
-start-complete : (p : Plan) (ws : List ℕ) → Complete p (begun p ws .bits)
-unfolding begun startOf
-start-complete p ws = length-map (row 0 (p .variables)) _ ∙ length-row 0 (p .variables)
+-- .. and each locked one its own.
+pub record Lawful (p : Plan) (a : Assignment) : Type 0 where
+  pub complete : Complete p a
+  pub obeyed : T (obeys a p)
 
-turn-complete : (p : Plan) (t : Try) (x : ℕ) → Complete p (t .bits) → Complete p (turnOver t x .bits)
-unfolding turnOver flip
-turn-complete p t zero h = h
-turn-complete p t (suc i) h = length-set (t .bits) i _ ∙ h
+start-lawful : (p : Plan) (ws : List ℕ) → Lawful p (begun p ws .bits)
+unfolding begun
+start-lawful p ws = record { complete = length-hold p _; obeyed = hold-obeys p _ }
+
+turn-lawful : (p : Plan) (t : Try) (x : ℕ) → isLocked p x ≡ false → Lawful p (t .bits) → Lawful p (turnOver t x .bits)
+unfolding turnOver
+turn-lawful p t x e h = record { complete = length-flip (t .bits) x ∙ h .complete; obeyed = flip-obeys p (t .bits) x e (h .obeyed) }
+
+-- The added clause locks nothing.
+tightened-lawful : (p : Plan) (m : ℤ) (a : Assignment) → Lawful (tightened p m) a → Lawful p a
+unfolding tightened
+tightened-lawful p m a h = record { complete = h .complete; obeyed = subst T (tightened-obeys p m a) (h .obeyed) }
+
+-- What one call returns obeys the locks.
+unfoldable Obeyed : Plan → Reached → Type 0
+Obeyed p failed = Unit {0}
+Obeyed p (reached a) = T (obeys a p)
+
+pub call-obeys : (s : Settings) (p : Plan) (ns : List ℕ) (u f : ℕ) (fs : List Assignment) → f ≤ u
+    → {a : Assignment} {m : Mark} → run (call s p) ns (at u f fs) ≡ ends (reached a) m → T (obeys a p)
+unfolding Obeyed Holds
+call-obeys s p ns u f fs h {a} {m} e =
+    subst (λ o. Holds (λ m ls. Unit {0}) (λ r m ls. Obeyed p r) o (reverseAux (looks (call s p) ns u) [])) e
+    (meets-run (λ m ls. Unit {0}) (λ r m ls. Obeyed p r) ns (call s p) (at u f fs) []
+    (call-meets s p fs (λ m ls. Unit {0}) (λ ls. Unit {0}) (Lawful p) (λ r m ls. Obeyed p r) (record {
+      starts = start-lawful p;
+      turns = turn-lawful p;
+      during = λ u f ls h k. tt;
+      miss = λ a ls e k. tt;
+      hit = λ a u f ls e b h k. b .obeyed;
+      lost = λ u f ls h k. tt;
+    }) u f [] h tt))
 
 pub record Good (p : Plan) (fs : List Assignment) : Type 0 where
   pub complete : T (all (λ a. eqb (length a) (p .variables)) fs)
   pub satisfied : T (all (λ a. satisfies a p) fs)
+  pub obeyed : T (all (λ a. obeys a p) fs)
   pub fell : T (falling p fs)
 
 pub record Kept (p : Plan) (m : Mark) (ls : List Assignment) : Type 0 where
@@ -170,14 +229,28 @@ pub record Ended (p : Plan) (e : Ending) (m : Mark) (ls : List Assignment) : Typ
   pub says : noPlan e ≡ isEmpty (m .finds)
   pub floored : isFloor e ≡ lastAtFloor p (m .finds)
 
-one-good : (p : Plan) (a : Assignment) → Complete p a → T (satisfies a p) → Good p (a ∷ [])
+one-good : (p : Plan) (a : Assignment) → Lawful p a → T (satisfies a p) → Good p (a ∷ [])
 unfolding all falling costsLess _and_
-one-good p a n h = record { complete = rw (eq-eqb _ _ n) tt; satisfied = and-both (satisfies a p) true h tt; fell = tt }
+one-good p a n h = record {
+  complete = rw (eq-eqb _ _ (n .complete)) tt;
+  satisfied = and-both (satisfies a p) true h tt;
+  obeyed = and-both (obeys a p) true (n .obeyed) tt;
+  fell = tt;
+}
 
-more-good : (p : Plan) (b a : Assignment) (fs : List Assignment) → Complete p b → T (satisfies b p) → T (ltZ (cost p b) (cost p a)) → Good p (a ∷ fs) → Good p (b ∷ a ∷ fs)
+more-good : (p : Plan) (b a : Assignment) (fs : List Assignment) → Lawful p b → T (satisfies b p) → T (ltZ (cost p b) (cost p a)) → Good p (a ∷ fs) → Good p (b ∷ a ∷ fs)
 unfolding all falling costsLess
-more-good p b a fs n h k g =
-    record { complete = and-both _ _ (T-true (eq-eqb _ _ n)) (g .complete); satisfied = and-both (satisfies b p) _ h (g .satisfied); fell = and-both (ltZ (cost p b) (cost p a)) _ k (g .fell) }
+more-good p b a fs n h k g = record {
+  complete = and-both _ _ (T-true (eq-eqb _ _ (n .complete))) (g .complete);
+  satisfied = and-both (satisfies b p) _ h (g .satisfied);
+  obeyed = and-both (obeys b p) _ (n .obeyed) (g .obeyed);
+  fell = and-both (ltZ (cost p b) (cost p a)) _ k (g .fell);
+}
+
+-- The last find obeys.
+last-obeys : (p : Plan) (a : Assignment) (fs : List Assignment) → Good p (a ∷ fs) → T (obeys a p)
+unfolding all
+last-obeys p a fs g = and-left (obeys a p) _ (g .obeyed)
 
 kept-found : (p : Plan) (a : Assignment) (fs : List Assignment) → Good p (a ∷ fs) → (u f : ℕ) (ls : List Assignment) → f ≤ u → seen p ls ≡ true → Kept p (at u f (a ∷ fs)) ls
 unfolding isEmpty
@@ -185,7 +258,7 @@ kept-found p a fs g u f ls h k = record { good = g; nothing-seen = ap not (sym k
 
 kept-none : (p : Plan) (u f : ℕ) (ls : List Assignment) → f ≤ u → seen p ls ≡ false → Kept p (at u f []) ls
 unfolding isEmpty all falling
-kept-none p u f ls h k = record { good = record { complete = tt; satisfied = tt; fell = tt }; nothing-seen = ap not (sym k); fair = h }
+kept-none p u f ls h k = record { good = record { complete = tt; satisfied = tt; obeyed = tt; fell = tt }; nothing-seen = ap not (sym k); fair = h }
 
 seen-before : (p : Plan) (a : Assignment) (ls : List Assignment) → seen p ls ≡ true → seen p (a ∷ ls) ≡ true
 unfolding any
@@ -216,14 +289,14 @@ module _ (s : Settings) (p : Plan) where
   unfolding Meets after lastAtFloor tightened
   next-goes m a fs g e l otherwise next lost won u f ls h k =
       meets-bind (Going p) (Ended p) (after otherwise next) (call s (tightened p m)) (at u f (a ∷ fs)) ls
-      (call-meets s (tightened p m) (a ∷ fs) (Going p) (λ ls. seen p ls ≡ true) (Complete p) _ (record {
-        starts = start-complete (tightened p m);
-        turns = turn-complete p;
+      (call-meets s (tightened p m) (a ∷ fs) (Going p) (λ ls. seen p ls ≡ true) (Lawful (tightened p m)) _ (record {
+        starts = start-lawful (tightened p m);
+        turns = turn-lawful (tightened p m);
         during = λ u f ls h k. record { kept = kept-found p a fs g u f ls h k; above = e };
         miss = λ b ls e k. seen-before p b ls k;
         hit = λ b u f ls e n h k.
             let t = tightened-find p m (cost p a) b l (T-true e) in
-            won b (more-good p b a fs n (t .0) (t .1) g) (gap-falls p a b (t .1)) u f (b ∷ ls) h (seen-before p b ls k);
+            won b (more-good p b a fs (tightened-lawful p m b n) (t .0) (t .1) g) (gap-falls p a b (t .1)) u f (b ∷ ls) h (seen-before p b ls k);
         lost = lost;
       }) u f ls h k)
 
@@ -239,9 +312,9 @@ module _ (s : Settings) (p : Plan) where
       (fails : (left : ℕ) (a : Assignment) (fs : List Assignment) → Good p (a ∷ fs) → gap p a ≤ left → atFloor p a ≡ false → Goes (otherwise left a) (a ∷ fs)) where
     descending-goes : (left : ℕ) (a : Assignment) (fs : List Assignment) → Good p (a ∷ fs) → gap p a ≤ left → Goes (descending s p mode otherwise left a) (a ∷ fs)
     unfolding descending
-    descending-goes zero a fs g h = floor-goes a fs g (floor-at p a (gap-zero p a (le-zero h)))
+    descending-goes zero a fs g h = floor-goes a fs g (floor-at p a (gap-zero p a (last-obeys p a fs g) (le-zero h)))
     descending-goes (suc left) a fs g h = unless-floor a fs _ g (atFloor p a) refl
-        (λ e. next-goes (boundIn mode (floorCost p) (cost p a)) a fs g e (bound-less p a mode e) (otherwise (suc left) a) (descending s p mode otherwise left)
+        (λ e. next-goes (boundIn mode (floorCost p) (cost p a)) a fs g e (bound-less p a mode (last-obeys p a fs g) e) (otherwise (suc left) a) (descending s p mode otherwise left)
         (fails (suc left) a fs g h e) (λ b g′ l. descending-goes left b (a ∷ fs) g′ (omega arith)))
 
   linear-goes : (left : ℕ) (a : Assignment) (fs : List Assignment) → Good p (a ∷ fs) → gap p a ≤ left → Goes (linearSearch s p left a) (a ∷ fs)
@@ -262,9 +335,9 @@ module _ (s : Settings) (p : Plan) where
   unfolding searchWalk Meets after begin any _or_ noPlan isEmpty isFloor lastAtFloor
   search-meets =
       meets-bind (Going p) (Ended p) (after (done none) (λ a. tighten (s .mode) s p (gap p a) a)) (call s p) begin []
-      (call-meets s p [] (Going p) (λ ls. seen p ls ≡ false) (Complete p) _ (record {
-        starts = start-complete p;
-        turns = turn-complete p;
+      (call-meets s p [] (Going p) (λ ls. seen p ls ≡ false) (Lawful p) _ (record {
+        starts = start-lawful p;
+        turns = turn-lawful p;
         during = λ u f ls h k. record { kept = kept-none p u f ls h k; above = refl };
         miss = λ b ls e k. seen-now p b ls e ∙ k;
         hit = λ b u f ls e n h k. tighten-goes (s .mode) b [] (one-good p b n (T-true e)) u f (b ∷ ls) h (seen-now p b ls e);
@@ -352,7 +425,7 @@ module _ (s : Settings) (p : Plan) (ns : List ℕ) where
   unfolding begin
   call-finds = first-of (run (call s p) ns begin) _ (meets-run Nothing (λ r. Nothing) ns (call s p) begin [] (call-meets s p [] Nothing (λ ls. Unit {0}) (λ a. Unit {0}) (λ r. Nothing) (record {
     starts = λ ws. tt;
-    turns = λ t x b. tt;
+    turns = λ t x o b. tt;
     during = λ u f ls h k. refl;
     miss = λ a ls e k. tt;
     hit = λ a u f ls e b h k. refl;
@@ -416,6 +489,7 @@ module _ (s : Settings) (p : Plan) (ns : List ℕ) where
       record {
         each-complete = outcome-kept .good .complete;
         each-satisfies = outcome-kept .good .satisfied;
+        each-obeys = outcome-kept .good .obeyed;
         each-costs-less = outcome-kept .good .fell;
         handed-out = handed;
         cost-stated = ap (λ r. r .cost) answered ∙ ap (costOf p) (sym handed);

@@ -165,33 +165,34 @@ module _ {A B : Type 0} (I : Claim) (Q : B → Claim) (k : A → Walk B) where
   meets-bind (flipped w) m ls h = meets-bind w _ ls h
   meets-bind (found b w) m ls h = meets-bind w _ ls h
 
--- A walk that only draws numbers, as a choice does.
-unfoldable pub Draws : {A : Type 0} → Walk A → Type 0
-Draws (done a) = Unit {0}
-Draws (words k f) = (ws : List ℕ) → Draws (f ws)
-Draws (pick k f) = (r : ℕ) → Draws (f r)
-Draws (look b w) = ⊥
-Draws (flipped w) = ⊥
-Draws (found b w) = ⊥
+-- A walk that only draws numbers, as a choice does, and comes to what has a property, whatever they are.
+unfoldable pub Draws : {A : Type 0} → (A → Type 0) → Walk A → Type 0
+Draws P (done a) = P a
+Draws P (words k f) = (ws : List ℕ) → Draws P (f ws)
+Draws P (pick k f) = (r : ℕ) → Draws P (f r)
+Draws P (look b w) = ⊥
+Draws P (flipped w) = ⊥
+Draws P (found b w) = ⊥
 
-pub draws-bind : {A B : Type 0} (k : A → Walk B) (w : Walk A) → Draws w → ((a : A) → Draws (k a)) → Draws (w >>= k)
+pub draws-bind : {A B : Type 0} (P : A → Type 0) (Q : B → Type 0) (k : A → Walk B) (w : Walk A) → Draws P w → ((a : A) → P a → Draws Q (k a)) → Draws Q (w >>= k)
 unfolding Draws _>>=_
-draws-bind k (done a) d h = h a
-draws-bind k (words n f) d h = λ ws. draws-bind k (f ws) (d ws) h
-draws-bind k (pick n f) d h = λ r. draws-bind k (f r) (d r) h
-draws-bind k (look b w) d h = d
-draws-bind k (flipped w) d h = d
-draws-bind k (found b w) d h = d
+draws-bind P Q k (done a) d h = h a d
+draws-bind P Q k (words n f) d h = λ ws. draws-bind P Q k (f ws) (d ws) h
+draws-bind P Q k (pick n f) d h = λ r. draws-bind P Q k (f r) (d r) h
+draws-bind P Q k (look b w) d h = d
+draws-bind P Q k (flipped w) d h = d
+draws-bind P Q k (found b w) d h = d
 
 -- It meets what holds however many numbers it draws.
-module _ {A : Type 0} (I : Claim) (Q : A → Claim) (f : ℕ) (fs ls : List Assignment) where
-  pub draws-meets : (w : Walk A) (u : ℕ) → Draws w → ((v : ℕ) → u ≤ v → I (at v f fs) ls) → ((a : A) (v : ℕ) → u ≤ v → Q a (at v f fs) ls) → Meets I Q w (at u f fs) ls
+module _ {A : Type 0} (P : A → Type 0) (I : Claim) (Q : A → Claim) (f : ℕ) (fs ls : List Assignment) where
+  pub draws-meets : (w : Walk A) (u : ℕ) → Draws P w → ((v : ℕ) → u ≤ v → I (at v f fs) ls) → ((a : A) (v : ℕ) → P a → u ≤ v → Q a (at v f fs) ls)
+      → Meets I Q w (at u f fs) ls
   unfolding Draws Meets
-  draws-meets (done a) u d i q = q a u (omega arith)
+  draws-meets (done a) u d i q = q a u d (omega arith)
   draws-meets (words k g) u d i q =
-      (i, λ ws v l. draws-meets (g ws) v (d ws) (λ v h. i v (omega arith)) (λ a v h. q a v (omega arith)))
+      (i, λ ws v l. draws-meets (g ws) v (d ws) (λ v h. i v (omega arith)) (λ a v p h. q a v p (omega arith)))
   draws-meets (pick k g) u d i q =
-      (i, λ r v l. draws-meets (g r) v (d r) (λ v h. i v (omega arith)) (λ a v h. q a v (omega arith)))
+      (i, λ r v l. draws-meets (g r) v (d r) (λ v h. i v (omega arith)) (λ a v p h. q a v p (omega arith)))
   draws-meets (look b w) u d i q = absurd d
   draws-meets (flipped w) u d i q = absurd d
   draws-meets (found b w) u d i q = absurd d

@@ -1,20 +1,20 @@
 -- The choice of a variable (document 01, "The walk": "Choice (Algorithm 2, SKC)"; paper 004, Algorithm 2).
 -- Assumes nothing.
 use Prim.Native.Nat.{ℕ, min}
-use mathlib.Core.Bool.{cond}
+use mathlib.Core.Bool.{not, cond}
 use mathlib.Core.List.{List, [], _∷_}
 use lib.Dec.{ltb, eqb}
 use lib.ListN.{length, getD}
-use Rattle.plpb.specs.Lists.{keep, isEmpty, row}
-use Rattle.plpb.specs.Plan.{Clause, Plan, Assignment, names}
+use Rattle.plpb.specs.Lists.{_and_, keep, isEmpty, row}
+use Rattle.plpb.specs.Plan.{Clause, Plan, Assignment, isLocked, names}
 use Rattle.plpb.specs.Count.{cap, cappedBreak}
 use Rattle.plpb.specs.Walk.{Walk, done, pick, _>>=_}
 use Rattle.plpb.specs.Settings.{Settings}
 use Rattle.plpb.specs.Try.{Try}
 
--- "the clause's variables, each once", in ascending order
+-- "the clause's variables, each once", in ascending order; "Only unlocked variables of a clause may be chosen"
 unfoldable pub choosable : Plan → Clause → List ℕ
-choosable p c = keep (names c) (row 1 (p .variables))
+choosable p c = keep (λ x. names c x and not (isLocked p x)) (row 1 (p .variables))
 
 -- "A pick among m [..] in ascending order of clause or variable number"
 unfoldable pub pickFrom : {A : Type 0} → A → List A → Walk A

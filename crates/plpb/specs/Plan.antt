@@ -2,17 +2,21 @@
 -- Assumes nothing.
 use Prim.Native.Nat.{ℕ, zero, suc}
 use mathlib.Core.Bool.{Bool, true, false, not, cond}
-use mathlib.Core.List.{List, [], _∷_}
+use mathlib.Core.List.{List, [], _∷_, map}
 use lib.Dec.{ltb, eqb}
 use lib.IntN.{ℤ, pos, negsuc, _+ℤ_}
 use lib.ListN.{getD, set}
 use lib.Signed.{leZ}
-use Rattle.plpb.specs.Lists.{_and_, any, all}
+use Rattle.plpb.specs.Lists.{_and_, any, all, row}
 
 -- "with one bound possibly absent"
 pub data Bound (A : Type 0) : Type 0 where
   absent : Bound A
   present : A → Bound A
+
+unfoldable pub isPresent : {A : Type 0} → Bound A → Bool
+isPresent absent = false
+isPresent (present b) = true
 
 unfoldable pub mapBound : {A B : Type 0} → (A → B) → Bound A → Bound B
 mapBound f absent = absent
@@ -33,10 +37,17 @@ pub record Rule : Type 0 where
 abbrev pub Clause : Type 0
 Clause = List Rule
 
--- "A plan is any number of clauses, all to hold, none included. [..] The objective Σ c·x is made as small as possible"
+-- A variable that the mapper has fixed: "entries of a variable number and a byte 0 or 1" (T-01).
+pub record Lock : Type 0 where
+  pub variable : ℕ
+  pub value : Bool
+
+-- "A plan is any number of clauses, all to hold, none included. [..] The objective Σ c·x is made as small as possible"; "The plan's record
+-- carries the locks."
 pub record Plan : Type 0 where
   pub variables : ℕ
   pub objective : List Term
+  pub locks : List Lock
   pub clauses : List Clause
 
 -- A value for each variable: that of variable i stands at place i − 1.
@@ -55,6 +66,35 @@ flip a (suc i) = set a i (not (getD a i false))
 -- "variable outside 1 to n" is what a call may not name.
 unfoldable pub isVariable : Plan → ℕ → Bool
 isVariable p x = ltb 0 x and ltb x (suc (p .variables))
+
+-- The value that the first of some locks of a variable gives it; absent where none does.
+unfoldable pub lockAmong : List Lock → ℕ → Bound Bool
+lockAmong [] x = absent
+lockAmong (k ∷ ks) x = cond (eqb (k .variable) x) (present (k .value)) (lockAmong ks x)
+
+-- The value that a variable of the plan is locked at, absent where it is free.
+unfoldable pub lockOf : Plan → ℕ → Bound Bool
+lockOf p x = cond (isVariable p x) (lockAmong (p .locks) x) absent
+
+unfoldable pub isLocked : Plan → ℕ → Bool
+isLocked p x = isPresent (lockOf p x)
+
+-- A value, or that of the lock.
+unfoldable pub under : Bound Bool → Bool → Bool
+under absent b = b
+under (present v) b = v
+
+-- "then locked variables take their value"
+unfoldable pub hold : Plan → Assignment → Assignment
+hold p a = map (λ x. under (lockOf p x) (value a x)) (row 1 (p .variables))
+
+unfoldable pub agrees : Bound Bool → Bool → Bool
+agrees absent b = true
+agrees (present v) b = cond v b (not b)
+
+-- An assignment obeys the locks if it gives each locked variable its value.
+unfoldable pub obeys : Assignment → Plan → Bool
+obeys a p = all (λ x. agrees (lockOf p x) (value a x)) (row 1 (p .variables))
 
 -- Σ w·x
 unfoldable pub total : Assignment → List Term → ℤ
@@ -87,13 +127,22 @@ unfoldable pub negativePart : ℤ → ℤ
 negativePart (pos n) = pos 0
 negativePart (negsuc n) = negsuc n
 
--- "l(O) is the sum of its negative coefficients."
+-- The sum of the negative coefficients: no values give less.
 unfoldable pub leastTotal : List Term → ℤ
 leastTotal [] = pos 0
 leastTotal (t ∷ ts) = negativePart (t .weight) +ℤ leastTotal ts
 
+-- What a coefficient counts: "l(O) is the sum of its negative coefficients", "l(O) now counts locked variables at their value."
+unfoldable pub leastOf : Bound Bool → ℤ → ℤ
+leastOf absent w = negativePart w
+leastOf (present v) w = cond v w (pos 0)
+
+unfoldable pub leastCost : Plan → List Term → ℤ
+leastCost p [] = pos 0
+leastCost p (t ∷ ts) = leastOf (lockOf p (t .variable)) (t .weight) +ℤ leastCost p ts
+
 unfoldable pub floorCost : Plan → ℤ
-floorCost p = leastTotal (p .objective)
+floorCost p = leastCost p (p .objective)
 
 -- "Numbers in a field rise strictly.", here above a number v.
 unfoldable pub risingAbove : ℕ → List Term → Bool

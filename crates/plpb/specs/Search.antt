@@ -7,7 +7,7 @@ use lib.IntN.{ℤ, pos, negsuc, natAbs, _+ℤ_, _-ℤ_, _*ℤ_}
 use lib.ListN.{length}
 use lib.Signed.{leZ}
 use Rattle.plpb.specs.Lists.{_and_, keep, isEmpty}
-use Rattle.plpb.specs.Plan.{absent, present, Plan, Assignment, satisfies, cost, floorCost}
+use Rattle.plpb.specs.Plan.{absent, present, Plan, Assignment, satisfies, cost, leastTotal, floorCost}
 use Rattle.plpb.specs.Tallies.{unsatisfied}
 use Rattle.plpb.specs.Numbers.{startWords}
 use Rattle.plpb.specs.Walk.{Walk, done, words, look, flipped, found, _>>=_, Mark, Outcome, ends, short, run}
@@ -25,7 +25,7 @@ pub data Turn : Type 0 where
   stuck : Turn
   turned : Try → Turn
 
--- "choose a variable of it; flip" (Algorithm 1, lines 6 and 7)
+-- "choose a variable of it; flip" (Algorithm 1, lines 6 and 7); "if it has none, that try ends with the clause pick used"
 unfoldable pub turning : Settings → Plan → Try → List ℕ → Walk Turn
 turning s p t xs =
     let on = choice s p t xs >>= (λ x. flipped (done (turned (turnOver t x)))) in
@@ -71,6 +71,7 @@ unfoldable pub tightened : Plan → ℤ → Plan
 tightened p m = record {
   variables = p .variables;
   objective = p .objective;
+  locks = p .locks;
   clauses = p .clauses ++ ((record { lower = absent; upper = present m; terms = p .objective } ∷ []) ∷ []);
 }
 
@@ -104,9 +105,9 @@ pub data Ending : Type 0 where
 unfoldable pub atFloor : Plan → Assignment → Bool
 atFloor p a = leZ (cost p a) (floorCost p) and leZ (floorCost p) (cost p a)
 
--- How far a cost is above l(O): each find is nearer, so this bounds how many can follow.
+-- How far a cost is above the least that any values give: each find is nearer, so this bounds how many can follow.
 unfoldable pub gap : Plan → Assignment → ℕ
-gap p a = natAbs (cost p a -ℤ floorCost p)
+gap p a = natAbs (cost p a -ℤ leastTotal (p .objective))
 
 -- What follows one call with an added clause: its find is noted, or it failed.
 unfoldable pub after : Walk Ending → (Assignment → Walk Ending) → Reached → Walk Ending

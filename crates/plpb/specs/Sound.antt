@@ -10,7 +10,7 @@ use lib.Dec.{T, eqb}
 use lib.ListN.{length, take}
 use lib.Signed.{ltZ}
 use Rattle.plpb.specs.Lists.{_and_, any, all, isEmpty}
-use Rattle.plpb.specs.Plan.{Plan, Assignment, satisfies, cost, floorCost}
+use Rattle.plpb.specs.Plan.{Plan, Assignment, obeys, satisfies, cost, floorCost}
 use Rattle.plpb.specs.Walk.{Mark, at, Outcome, ends, short, run, looks}
 use Rattle.plpb.specs.Settings.{Settings}
 use Rattle.plpb.specs.Try.{Try}
@@ -52,6 +52,8 @@ pub record Sound (s : Settings) (p : Plan) (ns : List ℕ) : Type 0 where
   pub each-complete : T (all (λ a. eqb (length a) (p .variables)) (findsOf s p ns))
   -- "A plan handed out satisfies every clause"
   pub each-satisfies : T (all (λ a. satisfies a p) (findsOf s p ns))
+  -- .. and gives each locked variable its value,
+  pub each-obeys : T (all (λ a. obeys a p) (findsOf s p ns))
   -- "and costs less than the one before it."
   pub each-costs-less : T (falling p (findsOf s p ns))
   -- What is handed out is the last find, with its cost: "cost is 0 with nothing found."

@@ -29,7 +29,7 @@ pub data Star : Type 0 where
 
 -- The plan that has one clause, over as many variables as the assignment has.
 unfoldable pub onlyClause : Clause → Assignment → Plan
-onlyClause c a = record { variables = length a; objective = []; clauses = c ∷ [] }
+onlyClause c a = record { variables = length a; objective = []; locks = []; clauses = c ∷ [] }
 
 -- What a line says: each of the real expansion.
 abbrev pub Says : Star → Type 0

@@ -2,16 +2,17 @@
 -- Assumes nothing.
 use Prim.Native.Nat.{ℕ}
 use mathlib.Core.List.{List}
-use Rattle.plpb.specs.Plan.{Plan, Assignment, flip}
+use Rattle.plpb.specs.Plan.{Plan, Assignment, flip, hold}
 use Rattle.plpb.specs.Numbers.{startOf}
 
 -- The assignment that a try holds.
 pub record Try : Type 0 where
   pub bits : Assignment
 
--- "for each try, take ⌈n/32⌉ numbers; variable i gets bit (i−1) mod 32 .."
+-- "for each try, take ⌈n/32⌉ numbers; variable i gets bit (i−1) mod 32 .."; "A try's start still uses all its numbers, then locked variables take their
+-- value."
 unfoldable pub begun : Plan → List ℕ → Try
-begun p ws = record { bits = startOf (p .variables) ws }
+begun p ws = record { bits = hold p (startOf (p .variables) ws) }
 
 -- A try after a flip.
 unfoldable pub turnOver : Try → ℕ → Try
