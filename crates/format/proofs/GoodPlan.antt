@@ -8,15 +8,15 @@ use native.Mathlib.Decide.{decLe}
 use native.Mathlib.Nat.{zero-add, sub-zero, lt-of-not-le}
 use native.Mathlib.Numerals.{add-one}
 use native.Mathlib.Omega.{arith}
-use lib.IntN.{ℤ}
+use lib.IntN.{ℤ, natAbs}
 use lib.ListN.{length}
 use Rattle.plpb.specs.Lists.{row}
-use Rattle.plpb.specs.Plan.{rising}
+use Rattle.plpb.specs.Plan.{lockOf, rising}
 use Rattle.plpb.specs.Tallies.{rulesOf}
 use Rattle.words.specs.Words.{signed, unsigned}
 use Rattle.words.proofs.Words.{unsigned-signed}
-use Rattle.format.specs.Limits.{ruleLawful, termCount}
-use Rattle.format.specs.Tables.{coefficient, clauseEntries, ruleEntries, termEntries, allTerms, termOf, ruleOf, clauseOf, objectiveOf, planIn, sparse, named, isSome}
+use Rattle.format.specs.Limits.{lockTerms, ruleLawful, termCount}
+use Rattle.format.specs.Tables.{coefficient, clauseEntries, ruleEntries, termEntries, allTerms, termOf, ruleOf, clauseOf, objectiveOf, lockWord, locksOf, planIn, sparse, named, isSome}
 use Rattle.format.proofs.Lists.{length-spread, all-row}
 use Rattle.format.proofs.Bounds.{bounds-tested, bounds-meant}
 use Rattle.format.proofs.Lawful.{LawfulTerms, rule-whole, clauseLawful, clause-whole, LawfulPlan}
@@ -26,9 +26,10 @@ use Rattle.format.proofs.Sections.{Sections, length-allTerms}
 use Rattle.format.proofs.Entries.{Entry, entry-join}
 use Rattle.format.proofs.WordBounds.{wordLimit}
 use Rattle.format.proofs.Objective.{sparse-rising, sparse-within, sparse-coefficient, coefficient-above}
+use Rattle.format.proofs.Locks.{free-beyond, lock-coefficient, small-signed, terms-back}
 use Rattle.format.proofs.Chains.{chain-link, chain-rest, chain-concat}
 use Rattle.format.proofs.Sound.{Sound, clause-within, rule-bounds, rule-sound}
-use Rattle.format.specs.Layout.{clauseCountAt, clauseFirstAt, clausesAt, ruleCountAt, ruleFirstAt, ruleLowerAt, ruleUpperAt}
+use Rattle.format.specs.Layout.{clauseCountAt, clauseFirstAt, clausesAt, lockAt, ruleCountAt, ruleFirstAt, ruleLowerAt, ruleUpperAt}
 
 le-or-lt : (a b : ℕ) → (a ≤ b) ⊎ (b < a)
 le-or-lt a b = elim (decLe a b) [ yes l ↦ inl l | no n ↦ inr (lt-of-not-le n) ]
@@ -127,6 +128,36 @@ module _ (f g : ℕ → ℕ) (wf : (i : ℕ) → f i < wordLimit) (wg : (i : ℕ
       (λ l. s .costRest x l b ∙ rw (coefficient-above (f 0) x (objectiveOf f) (objective-lawful .within) l))
       (le-or-lt x (f 0))
 
+  -- The locks.
+  abbrev w : ℕ → ℤ
+  w x = signed (f (lockAt x))
+
+  locked-terms : lockTerms (planIn f g) ≡ sparse w 0 (f 0)
+  unfolding planIn locksOf
+  locked-terms =
+      terms-back w (λ x. f (lockAt x)) 0 (f 0)
+      (λ x a b. let k : f (lockAt x) ≤ 2 = s .lock x a (omega arith) in (small-signed (f (lockAt x)) k, k))
+
+  locks-lawful : LawfulTerms (f 0) (lockTerms (planIn f g))
+  unfolding rising
+  locks-lawful = rw locked-terms
+      (record {
+        rise = sparse-rising w 0 0 (f 0) (omega arith);
+        within = sparse-within w (f 0) 0 (f 0) (zero-add (f 0)) (λ x a b. omega (arith, ap natAbs (small-signed (f (lockAt x)) (s .lock x a b)), s .lock x a b));
+      })
+
+  lock-here : (x : ℕ) → 1 ≤ x → x ≤ f 0 → f (lockAt x) ≡ lockWord (lockOf (planIn f g) x)
+  unfolding planIn
+  lock-here x a b =
+      ap natAbs
+      (sym (small-signed (f (lockAt x)) (s .lock x a b)) ∙ sym (sparse-coefficient w 0 (f 0) x a (omega arith))
+      ∙ ap (λ ts. coefficient ts x) (sym locked-terms) ∙ lock-coefficient (planIn f g) x a b)
+
+  lock-again : (x : ℕ) → 1 ≤ x → x ≤ 512 → f (lockAt x) ≡ lockWord (lockOf (planIn f g) x)
+  unfolding lockWord planIn
+  lock-again x a b =
+      ⊎-elim (λ l. lock-here x a l) (λ l. s .lockRest x l b ∙ sym (ap lockWord (free-beyond (planIn f g) x l))) (le-or-lt x (f 0))
+
   clause-sound : (c : ℕ) → c < f 1 → clauseLawful (f 0) (clauseOf f g c) ≡ true
   unfolding clauseOf
   clause-sound c l =
@@ -141,6 +172,7 @@ module _ (f g : ℕ → ℕ) (wf : (i : ℕ) → f i < wordLimit) (wg : (i : ℕ
     low = s .some;
     high = s .variables;
     objective = objective-lawful;
+    locks = locks-lawful;
     clauses = all-row (clauseLawful (f 0)) (clauseOf f g) 0 (f 1) (λ c l u. clause-sound c (omega arith));
     clauseCount = omega (arith, clause-count, s .clauses);
     ruleCount = omega (arith, rule-count, s .rules);
@@ -155,6 +187,7 @@ module _ (f g : ℕ → ℕ) (wf : (i : ℕ) → f i < wordLimit) (wg : (i : ℕ
     ruleCount = sym rule-count;
     terms = sym term-count;
     objective = cost-again;
+    lock = lock-again;
     clauseEntry = clauses-again 0 0 (f 1) (omega arith) (s .clauseChain);
     ruleEntry = rw rules-all (rules-again 0 0 (f 2) (omega arith) (omega arith) (s .ruleChain));
     termEntry = rw terms-all (terms-again g wg 0 (f 3));

@@ -55,6 +55,7 @@ accepted-behind s left st c e t =
 -- What is known of the contents of the fields from some place on.
 pub record Held (s : List ℕ) (st : State) (c : Contents) : Type 0 where
   pub follow : follows (st .stage) (c .rules) ≡ true
+  pub locks : c .locks ≡ []
   pub rules : all (ruleLawful (st .variables)) (c .rules) ≡ true
   pub clauses : all (clauseLawful (st .variables)) (c .clauses) ≡ true
   pub clauseCount : st .clauses + length (c .clauses) ≤ 512
@@ -88,6 +89,7 @@ held-end s st c clean tag f C R k e =
     subst (Held s st) same
     (record {
       follow = f;
+      locks = refl;
       rules = refl;
       clauses = refl;
       clauseCount = omega arith;
@@ -99,13 +101,14 @@ held-end s st c clean tag f C R k e =
 -- A clause begins.
 held-clause :
     (s : List ℕ) (st : State) (d : Contents) → Clean s st → tagAt s (st .at) ≡ 3 → follows (st .stage) [] ≡ true → Held s (next s st) d
-    → Held s st (record { variables = d .variables; objective = d .objective; rules = []; clauses = d .rules ∷ d .clauses })
+    → Held s st (record { variables = d .variables; objective = d .objective; locks = d .locks; rules = []; clauses = d .rules ∷ d .clauses })
 unfolding next stageAfter lengthLawful all concat sumBy fieldsFrom clauseFields
 held-clause s st d clean tag f held =
     let n = empty-size s st 3 clean tag refl in
     let rulesHere = rw tag at (held .rules) in
     record {
       follow = f;
+      locks = held .locks;
       rules = refl;
       clauses = and-join _ _ (clause-whole _ (d .rules) (nonempty (d .rules) (rw tag at (held .follow))) rulesHere) (rw tag at (held .clauses));
       clauseCount = omega (arith, rw tag at (held .clauseCount));
@@ -170,11 +173,12 @@ module _ (s : List ℕ) (st : State) (clean : Clean s st) (tag : tagAt s (st .at
 held-rule :
     (s : List ℕ) (st : State) (d : Contents) → Clean s st → tagAt s (st .at) ≡ 4 → ((r : Rule) (rs : List Rule) → follows (st .stage) (r ∷ rs) ≡ true)
     → Held s (next s st) d
-    → Held s st (record { variables = d .variables; objective = d .objective; rules = ruleAt s (st .at) ∷ d .rules; clauses = d .clauses })
+    → Held s st (record { variables = d .variables; objective = d .objective; locks = d .locks; rules = ruleAt s (st .at) ∷ d .rules; clauses = d .clauses })
 unfolding next stageAfter all sumBy fieldsFrom concat termsIn ruleAt
 held-rule s st d clean tag f held =
     record {
       follow = f (ruleAt s (st .at)) (d .rules);
+      locks = held .locks;
       rules = and-join _ _ (lawful-here s st clean tag) (rw tag at (held .rules));
       clauses = rw tag at (held .clauses);
       clauseCount = rw tag at (held .clauseCount);

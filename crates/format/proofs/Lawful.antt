@@ -11,7 +11,7 @@ use borrow.Author.Tests.{leb-true, ltb-true, le-leb}
 use Rattle.plpb.specs.Lists.{_and_, all, isEmpty}
 use Rattle.plpb.specs.Plan.{Term, Rule, Clause, Plan, risingAbove, rising}
 use Rattle.plpb.specs.Tallies.{rulesOf}
-use Rattle.format.specs.Limits.{maxVariables, weightLawful, termsLawful, ruleLawful, termCount, within, lawful, roomy}
+use Rattle.format.specs.Limits.{maxVariables, weightLawful, termsLawful, lockTerms, ruleLawful, termCount, within, lawful, roomy}
 use Rattle.format.proofs.Bools.{and-left, and-right, and-join, T-true, true-T}
 use Rattle.format.proofs.Bounds.{bothLawful}
 use Rattle.format.specs.Layout.{clauseRoom, ruleRoom, termRoom}
@@ -93,6 +93,7 @@ pub record Within (clauseLimit ruleLimit termLimit : ℕ) (p : Plan) : Type 0 wh
   pub low : 1 ≤ p .variables
   pub high : p .variables ≤ maxVariables
   pub objective : LawfulTerms (p .variables) (p .objective)
+  pub locks : LawfulTerms (p .variables) (lockTerms p)
   pub clauses : all (clauseLawful (p .variables)) (p .clauses) ≡ true
   pub clauseCount : length (p .clauses) ≤ clauseLimit
   pub ruleCount : length (rulesOf p) ≤ ruleLimit
@@ -107,10 +108,12 @@ module _ (C R K : ℕ) (p : Plan) where
       let c = and-left _ _ b in
       let d = and-left _ _ c in
       let e = and-left _ _ d in
+      let f = and-left _ _ e in
       record {
-        low = leb-true _ _ (and-left _ _ (and-left _ _ e));
-        high = leb-true _ _ (and-right _ _ (and-left _ _ e));
-        objective = terms-parts _ _ (and-right _ _ e);
+        low = leb-true _ _ (and-left _ _ (and-left _ _ f));
+        high = leb-true _ _ (and-right _ _ (and-left _ _ f));
+        objective = terms-parts _ _ (and-right _ _ f);
+        locks = terms-parts _ _ (and-right _ _ e);
         clauses = and-right _ _ d;
         clauseCount = leb-true _ _ (and-right _ _ c);
         ruleCount = leb-true _ _ (and-right _ _ b);
@@ -125,7 +128,9 @@ module _ (C R K : ℕ) (p : Plan) where
       (and-join _ _
       (and-join _ _
       (and-join _ _
+      (and-join _ _
       (and-join _ _ (and-join _ _ (le-leb _ _ (l .low)) (le-leb _ _ (l .high))) (terms-whole _ _ (l .objective)))
+      (terms-whole _ _ (l .locks)))
       (l .clauses)) (le-leb _ _ (l .clauseCount))) (le-leb _ _ (l .ruleCount))) (le-leb _ _ (l .terms)))
 
 -- A plan that a file may hold, and one that the tables have room for.
@@ -157,6 +162,7 @@ room-for p l =
       low = l .low;
       high = l .high;
       objective = l .objective;
+      locks = l .locks;
       clauses = l .clauses;
       clauseCount = omega (arith, l .clauseCount);
       ruleCount = omega (arith, l .ruleCount);

@@ -10,6 +10,7 @@ pub mod Lawful
 pub mod Fields
 pub mod Places
 pub mod WrittenRule
+pub mod LockField
 pub mod Sizes
 pub mod WriteBytes
 pub mod Order
@@ -24,8 +25,10 @@ pub mod Spells
 pub mod Sections
 pub mod WordBounds
 pub mod Objective
+pub mod Locks
 pub mod Entries
 pub mod ReadBack
+pub mod LockWords
 -- The test of tables: what it says, and that it means 22.
 pub mod Chains
 pub mod Sound

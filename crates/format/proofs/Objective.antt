@@ -32,9 +32,9 @@ coefficient-above n x (t ∷ ts) w h =
     rw (ne-eqb (t .variable) x (λ e. omega arith)) (coefficient-above n x ts (and-right _ _ w) h)
 
 module _ (h : ℕ → ℤ) where
-  nothing : (v : ℕ) → sparse h v 0 ≡ []
+  pub sparse-none : (v : ℕ) → sparse h v 0 ≡ []
   unfolding sparse keep row
-  nothing v = refl
+  sparse-none v = refl
 
   pub sparse-skip : (v k : ℕ) → natAbs (h (suc v)) ≡ 0 → sparse h v (suc k) ≡ sparse h (suc v) k
   unfolding sparse keep row isSome named
@@ -64,7 +64,7 @@ module _ (h : ℕ → ℤ) where
       (n v k : ℕ) (ts : List Term) → v + k ≡ n → risingAbove v ts ≡ true → all (termWithin n) ts ≡ true
       → ((x : ℕ) → v < x → x ≤ n → h x ≡ coefficient ts x) → sparse h v k ≡ ts
   unfolding risingAbove all termWithin coefficient
-  sparse-back n v zero [] l r w e = nothing v
+  sparse-back n v zero [] l r w e = sparse-none v
   sparse-back n v zero (t ∷ ts) l r w e =
       let a : v < t .variable = ltb-true _ _ (and-left _ _ r) in
       let b : t .variable ≤ n = leb-true _ _ (and-left _ _ (and-left _ _ w)) in
@@ -83,7 +83,7 @@ module _ (h : ℕ → ℤ) where
       (eq-or-lt-of-le a)
 
   -- The other way: such terms rise, are in range, and have the coefficients that they were taken from.
-  one-more :
+  pub one-more :
       (P : List Term → Type 0) (v k : ℕ) → (natAbs (h (suc v)) ≡ 0 → P (sparse h (suc v) k))
       → (0 < natAbs (h (suc v)) → P (named h (suc v) ∷ sparse h (suc v) k)) → P (sparse h v (suc k))
   one-more P v k a b =
@@ -91,7 +91,7 @@ module _ (h : ℕ → ℤ) where
 
   pub sparse-rising : (u v k : ℕ) → u ≤ v → risingAbove u (sparse h v k) ≡ true
   unfolding risingAbove named
-  sparse-rising u v zero l = rw (nothing v)
+  sparse-rising u v zero l = rw (sparse-none v)
   sparse-rising u v (suc k) l =
       one-more (λ ts. risingAbove u ts ≡ true) v k (λ z. sparse-rising u (suc v) k (omega arith))
       (λ z. and-join _ _ (lt-ltb u (suc v) (omega arith)) (sparse-rising (suc v) (suc v) k (omega arith)))
@@ -99,7 +99,7 @@ module _ (h : ℕ → ℤ) where
   pub sparse-within :
       (n v k : ℕ) → v + k ≡ n → ((x : ℕ) → v < x → x ≤ n → natAbs (h x) ≤ 1_000_000) → all (termWithin n) (sparse h v k) ≡ true
   unfolding all termWithin weightLawful named
-  sparse-within n v zero l s = rw (nothing v)
+  sparse-within n v zero l s = rw (sparse-none v)
   sparse-within n v (suc k) l s =
       let rest = sparse-within n (suc v) k (omega arith) (λ x a b. s x (omega arith) b) in
       one-more (λ ts. all (termWithin n) ts ≡ true) v k (λ z. rest)

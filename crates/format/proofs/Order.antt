@@ -8,7 +8,7 @@ use lib.ListN.{length}
 use borrow.Author.Tests.{eqb-true}
 use Rattle.plpb.specs.Lists.{_or_, concat}
 use Rattle.plpb.specs.Plan.{Rule, Clause}
-use Rattle.format.specs.File.{Stage, atCount, atObjective, atClause, atRule, afterRule, mayStand, behind}
+use Rattle.format.specs.File.{Stage, atCount, atObjective, atLocks, atClause, atRule, afterRule, mayStand, behind}
 use Rattle.format.specs.Writer.{field, ruleField, clauseFields}
 use Rattle.format.proofs.Bools.{true-T}
 use mathlib.Core.Logic.{_⊎_, inl, inr, ⊎-elim}
@@ -21,6 +21,7 @@ fieldsFrom rs cs = concat (map ruleField rs) ++ (concat (map clauseFields cs) ++
 unfoldable pub follows : Stage → List Rule → Bool
 follows atCount rs = false
 follows atObjective rs = false
+follows atLocks rs = false
 follows atClause [] = true
 follows atClause (r ∷ rs) = false
 follows atRule [] = false
@@ -31,6 +32,7 @@ pub may-rule : (g : Stage) (r : Rule) (rs : List Rule) → follows g (r ∷ rs) 
 unfolding follows mayStand _or_
 may-rule atCount r rs h = h
 may-rule atObjective r rs h = h
+may-rule atLocks r rs h = absurd (true-T _ h)
 may-rule atClause r rs h = h
 may-rule atRule r rs h = refl
 may-rule afterRule r rs h = refl
@@ -39,6 +41,7 @@ pub may-clause : (g : Stage) → follows g [] ≡ true → (mayStand g 3 ≡ tru
 unfolding follows mayStand _or_
 may-clause atCount h = (h, h)
 may-clause atObjective h = (h, h)
+may-clause atLocks h = (refl, refl)
 may-clause atClause h = (refl, refl)
 may-clause atRule h = (h, h)
 may-clause afterRule h = (refl, refl)
@@ -58,7 +61,7 @@ unfolding follows
 nonempty [] h = absurd (true-T _ h)
 nonempty (r ∷ rs) h = omega arith
 
--- What may stand in a stage behind the objective.
+-- What may stand in a stage behind objective and locks.
 pub data Standing (g : Stage) (tag : ℕ) : Type 0 where
   begins : tag ≡ 3 → follows g [] ≡ true → Standing g tag
   rules : tag ≡ 4 → ((r : Rule) (rs : List Rule) → follows g (r ∷ rs) ≡ true) → Standing g tag
@@ -73,6 +76,7 @@ pub standing : (g : Stage) (tag : ℕ) → behind g ≡ true → mayStand g tag 
 unfolding behind mayStand follows
 standing atCount tag b h = absurd (true-T _ b)
 standing atObjective tag b h = absurd (true-T _ b)
+standing atLocks tag b h = absurd (true-T _ b)
 standing atClause tag b h = ⊎-elim (λ e. begins (eqb-true tag 3 e) refl) (λ e. ends (eqb-true tag 5 e) refl) (either _ _ h)
 standing atRule tag b h = rules (eqb-true tag 4 h) (λ r rs. refl)
 standing afterRule tag b h =

@@ -14,7 +14,7 @@ use Rattle.plpb.specs.Plan.{Term}
 use Rattle.words.specs.Words.{numAt, bytesOf, signed, unsigned}
 use Rattle.words.proofs.Words.{length-bytesOf, numAt-drop, numAt-bytesOf, signed-unsigned, unsigned-lt}
 use Rattle.format.specs.Limits.{termsLawful}
-use Rattle.format.specs.File.{Stage, mayStand, tagAt, lengthAt, lengthLawful, termAt, termsAt, pastLimits, wrongBounds, fieldTerms}
+use Rattle.format.specs.File.{Stage, mayStand, tagAt, lengthAt, lengthLawful, termAt, termsAt, pastLimits, wrongBounds, fieldTerms, locksFault}
 use Rattle.format.specs.Writer.{field, termBytes}
 use Rattle.format.proofs.Bools.{and-left, and-right}
 use Rattle.format.proofs.Fields.{Clean}
@@ -106,9 +106,9 @@ module _ (s : List ℕ) where
     pub placed-clean :
         (g : Stage) (n C R k : ℕ) → length body < 65_536 → mayStand g tag ≡ true → lengthLawful tag (length body) ≡ true
         → pastLimits s (record { at = at; stage = g; variables = n; clauses = C; rules = R; terms = k }) ≡ false → wrongBounds s at ≡ false
-        → termsLawful n (fieldTerms s at) ≡ true
+        → termsLawful n (fieldTerms s at) ≡ true → locksFault s (record { at = at; stage = g; variables = n; clauses = C; rules = R; terms = k }) ≡ 0
         → Clean s (record { at = at; stage = g; variables = n; clauses = C; rules = R; terms = k })
-    placed-clean g n C R k l may size limits bounds terms = record {
+    placed-clean g n C R k l may size limits bounds terms locks = record {
       head = omega (arith, place-whole);
       tag = rw place-tag may;
       size = rw (place-tag, place-length l) size;
@@ -116,4 +116,5 @@ module _ (s : List ℕ) where
       limits = limits;
       bounds = bounds;
       terms = terms;
+      locks = locks;
     }

@@ -1,19 +1,19 @@
 -- The tables of a lawful plan are good: each part of the test says of the words what is lawful in the plan.
 use Prim.Native.Nat.{ℕ, suc, _+_, _*_}
-use mathlib.Core.Path.{_≡_, refl, sym, _∙_}
+use mathlib.Core.Path.{_≡_, refl, sym, ap, _∙_}
 use mathlib.Core.Bool.{true}
 use mathlib.Core.List.{List, [], _∷_, map}
 use native.Mathlib.Nat.{zero-add}
 use native.Mathlib.Omega.{arith}
 use lib.ListN.{length, length-append}
 use Rattle.plpb.specs.Lists.{all, concat}
-use Rattle.plpb.specs.Plan.{Rule, Clause, Plan, rising}
+use Rattle.plpb.specs.Plan.{Rule, Clause, Plan, lockOf, rising}
 use Rattle.plpb.specs.Tallies.{rulesOf}
 use Rattle.words.specs.Words.{unsigned}
 use Rattle.words.proofs.Words.{signed-unsigned}
 use Rattle.format.specs.Limits.{ruleLawful}
 use Rattle.format.specs.Writer.{boundNumber}
-use Rattle.format.specs.Tables.{clauseEntries, ruleEntries, allTerms, termOf}
+use Rattle.format.specs.Tables.{clauseEntries, ruleEntries, allTerms, lockWord, termOf}
 use Rattle.format.proofs.Bools.{and-left, and-right, and-join}
 use Rattle.format.proofs.Bounds.{bounds-tested, bounds-written}
 use Rattle.format.proofs.Lawful.{LawfulRule, rule-parts, clauseLawful, clause-some, LawfulPlan, room-for}
@@ -21,8 +21,9 @@ use Rattle.format.specs.Good.{everyFrom, chainFrom, ruleGood}
 use Rattle.format.proofs.Good.{every-at}
 use Rattle.format.proofs.Spells.{Spells, spells-left, spells-right, spells-map}
 use Rattle.format.proofs.Sections.{Sections, length-allTerms}
-use Rattle.format.proofs.WordBounds.{rules-lawful, coefficient-small}
+use Rattle.format.proofs.WordBounds.{rules-lawful, coefficient-small, lockWord-small}
 use Rattle.format.proofs.Objective.{coefficient-above}
+use Rattle.format.proofs.Locks.{free-beyond}
 use Rattle.format.proofs.Entries.{Entry, entry-here, entries-behind}
 use Rattle.format.proofs.ReadBack.{terms-spelt, cost-back}
 use Rattle.format.proofs.Chains.{chain-join, chain-close}
@@ -79,7 +80,7 @@ rules-good f g n i first (r ∷ rs) z s l t =
     (rules-good f g n (suc i) (first + length (r .terms)) rs z (entries-behind f i first r rs s) (and-right _ _ l) (spells-right (termOf g) first (r .terms) _ t))
 
 pub sections-sound : (p : Plan) → LawfulPlan p → (f g : ℕ → ℕ) → Sections p f g → Sound f g
-unfolding rulesOf allTerms unsigned
+unfolding rulesOf allTerms unsigned lockWord
 sections-sound p l f g s =
     let n = p .variables in
     let rs = rules-lawful n (p .clauses) (l .clauses) in
@@ -92,6 +93,8 @@ sections-sound p l f g s =
       terms = omega (arith, s .terms, l .terms);
       cost = λ x a b. rw (cost-back p (room-for p l) f g s x a (omega (arith, s .variables, l .high))) (coefficient-small n (p .objective) x (l .objective .within));
       costRest = λ x a b. s .objective x (omega arith) b ∙ rw (coefficient-above n x (p .objective) (l .objective .within) (omega (arith, s .variables)));
+      lock = λ x a b. rw (s .lock x a (omega (arith, s .variables, l .high))) (lockWord-small (lockOf p x));
+      lockRest = λ x a b. s .lock x (omega arith) b ∙ ap lockWord (free-beyond p x (omega (arith, s .variables)));
       clauseChain = rw (s .clauseCount) (clause-chain f n (f 2) 0 0 (p .clauses) (s .clauseEntry) (l .clauses) (zero-add _ ∙ sym (s .ruleCount)));
       clauseRest = s .clauseRest;
       ruleChain = rw (s .ruleCount) (rule-chain f n (f 3) 0 0 (rulesOf p) (s .ruleEntry) rs (zero-add _ ∙ length-allTerms p ∙ sym (s .terms)));

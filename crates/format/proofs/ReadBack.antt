@@ -1,6 +1,6 @@
 -- The plan read back from a plan's tables is that plan, where they have room for it: each entry says where its part is, and the parts follow one another.
 use Prim.Native.Nat.{ℕ, suc, _+_, _*_, _≤_}
-use mathlib.Core.Path.{_≡_, sym, _∙_}
+use mathlib.Core.Path.{_≡_, sym, ap, _∙_}
 use mathlib.Core.Bool.{true}
 use mathlib.Core.List.{List, [], _∷_, map}
 use native.Mathlib.Nat.{zero-add}
@@ -9,23 +9,24 @@ use native.Mathlib.Omega.{arith}
 use lib.Dec.{T}
 use lib.ListN.{length, take}
 use Rattle.plpb.specs.Lists.{all, concat, row}
-use Rattle.plpb.specs.Plan.{Term, Rule, Clause, Plan, rising}
+use Rattle.plpb.specs.Plan.{Term, Rule, Clause, Plan, lockOf, rising}
 use Rattle.plpb.specs.Tallies.{rulesOf}
 use Rattle.words.specs.Words.{wordBytes, wordAt, signed}
 use Rattle.words.proofs.Words.{Below, words-read, words-determine, signed-unsigned}
-use Rattle.format.specs.Limits.{ruleLawful, roomy}
+use Rattle.format.specs.Limits.{lockTerms, ruleLawful, roomy}
 use Rattle.format.specs.File.{boundOf}
 use Rattle.format.specs.Writer.{boundNumber}
-use Rattle.format.specs.Tables.{coefficient, clauseEntries, ruleEntries, termEntries, allTerms, tableWords, termWords, tableSize, termSize, Holds, termOf, ruleOf, clauseOf, objectiveOf, planIn, planOfTables, sparse, named, isSome}
+use Rattle.format.specs.Tables.{coefficient, clauseEntries, ruleEntries, termEntries, allTerms, tableWords, termWords, tableSize, termSize, Holds, termOf, ruleOf, clauseOf, objectiveOf, termLock, locksOf, planIn, planOfTables, sparse, named, isSome}
 use Rattle.format.proofs.Bools.{and-left, and-right}
 use Rattle.format.proofs.Bounds.{bounds-written, bounds-tested, lower-back, upper-back}
 use Rattle.format.proofs.Lawful.{termWithin, weight-small, LawfulRule, rule-parts, RoomyPlan, roomy-parts}
 use Rattle.format.proofs.Spells.{Spells, spells-at, spells-all, spells-left, spells-right, spells-map}
 use Rattle.format.proofs.Sections.{Sections, length-tableWords, length-termWords, spelt-sections, sections-table, sections-terms}
 use Rattle.format.proofs.Entries.{Entry, entry-here, entries-behind}
-use Rattle.format.proofs.WordBounds.{rules-lawful, terms-lawful, coefficient-small, table-below, term-below}
+use Rattle.format.proofs.WordBounds.{rules-lawful, terms-lawful, coefficient-small, lockWord-small, table-below, term-below}
 use Rattle.format.proofs.Objective.{sparse-back}
-use Rattle.format.specs.Layout.{clauseCountAt, clauseFirstAt, clausesAt, ruleCountAt, ruleFirstAt, ruleLowerAt, ruleModeAt, ruleUpperAt}
+use Rattle.format.proofs.Locks.{lock-coefficient, small-signed, locks-back}
+use Rattle.format.specs.Layout.{clauseCountAt, clauseFirstAt, clausesAt, lockAt, ruleCountAt, ruleFirstAt, ruleLowerAt, ruleModeAt, ruleUpperAt}
 
 -- Terms.
 pub terms-back : (g : ℕ → ℕ) (n i : ℕ) (ts : List Term) → Spells g (2 * i) (termEntries ts) → all (termWithin n) ts ≡ true → Spells (termOf g) i ts
@@ -102,11 +103,20 @@ module _ (p : Plan) (l : RoomyPlan p) (f g : ℕ → ℕ) (s : Sections p f g) w
       sparse-back (λ x. signed (f (3 + x))) (p .variables) 0 (f 0) (p .objective) (zero-add (f 0) ∙ s .variables) (l .objective .rise) (l .objective .within)
       (λ x a b. cost-back x a (omega (arith, l .high)))
 
+  locked-back : locksOf f ≡ p .locks
+  unfolding locksOf rising
+  locked-back =
+      let words =
+      sparse-back (λ x. signed (f (lockAt x))) (p .variables) 0 (f 0) (lockTerms p) (zero-add (f 0) ∙ s .variables) (l .locks .rise) (l .locks .within)
+      (λ x a b.
+      ap signed (s .lock x a (omega (arith, l .high))) ∙ small-signed _ (lockWord-small (lockOf p x)) ∙ sym (lock-coefficient p x a b)) in
+      ap (map termLock) words ∙ locks-back (p .locks)
+
   pub plan-back : planIn f g ≡ p
   unfolding planIn
   plan-back =
       let cs : map (clauseOf f g) (row 0 (f 1)) ≡ p .clauses = rw (s .clauseCount) (spells-map (clauseOf f g) 0 (p .clauses) clauses-spelt) in
-      λ j. record { variables = s .variables j; objective = objective-back j; clauses = cs j }
+      λ j. record { variables = s .variables j; objective = objective-back j; locks = locked-back j; clauses = cs j }
 
 -- The bytes of the tables.
 module _ (p : Plan) (l : RoomyPlan p) (tables terms : List ℕ) where

@@ -1,5 +1,5 @@
 -- The words of a lawful plan's tables, section by section: each section has its full length, so the next begins where the layout says.
-use Prim.Native.Nat.{ℕ, _+_, _*_, _-_, _≤_}
+use Prim.Native.Nat.{ℕ, suc, _+_, _*_, _-_, _≤_}
 use mathlib.Core.Path.{_≡_, refl, _∙_}
 use mathlib.Core.Bool.{true}
 use mathlib.Core.List.{List, [], _∷_, _++_, map}
@@ -7,16 +7,16 @@ use native.Mathlib.Nat.{zero-add}
 use native.Mathlib.Omega.{arith}
 use lib.ListN.{length, length-append, length-map}
 use Rattle.plpb.specs.Lists.{row}
-use Rattle.plpb.specs.Plan.{Term, Rule, Clause, Plan}
+use Rattle.plpb.specs.Plan.{Term, Rule, Clause, Plan, lockOf}
 use Rattle.plpb.specs.Tallies.{rulesOf}
 use Rattle.words.specs.Words.{unsigned}
 use Rattle.format.specs.Limits.{termCount}
-use Rattle.format.specs.Tables.{coefficient, padTo, padWith, clauseEntries, ruleEntries, termEntries, allTerms, tableWords, termWords}
+use Rattle.format.specs.Tables.{coefficient, padTo, padWith, clauseEntries, ruleEntries, termEntries, allTerms, lockWord, tableWords, termWords}
 use Rattle.format.specs.Good.{zerosFrom}
 use Rattle.format.proofs.Lists.{length-row, length-concat}
 use Rattle.format.proofs.Lawful.{RoomyPlan}
 use Rattle.format.proofs.Spells.{Spells, spells-left, spells-right, spells-join, spells-zeros, zeros-spell, spells-row, row-spells, length-padTo}
-use Rattle.format.specs.Layout.{clauseWordCount, clausesAt, ruleWordCount, rulesAt, tableWordCount, termWordCount}
+use Rattle.format.specs.Layout.{clauseWordCount, clausesAt, lockAt, ruleWordCount, rulesAt, tableWordCount, termWordCount}
 
 -- How long the sections are.
 pub length-clauseEntries : (first : ℕ) (cs : List Clause) → length (clauseEntries first cs) ≡ 2 * length cs
@@ -45,6 +45,7 @@ pub record Sections (p : Plan) (f g : ℕ → ℕ) : Type 0 where
   pub ruleCount : f 2 ≡ length (rulesOf p)
   pub terms : f 3 ≡ termCount p
   pub objective : (x : ℕ) → 1 ≤ x → x ≤ 512 → f (3 + x) ≡ unsigned (coefficient (p .objective) x)
+  pub lock : (x : ℕ) → 1 ≤ x → x ≤ 512 → f (lockAt x) ≡ lockWord (lockOf p x)
   pub clauseEntry : Spells f clausesAt (clauseEntries 0 (p .clauses))
   pub ruleEntry : Spells f rulesAt (ruleEntries 0 (rulesOf p))
   pub termEntry : Spells g 0 (termEntries (allTerms p))
@@ -76,8 +77,18 @@ module _ (p : Plan) (l : RoomyPlan p) where
   abbrev ruleWords : List ℕ
   ruleWords = padTo ruleWordCount (ruleEntries 0 (rulesOf p))
 
+  abbrev lockWords : List ℕ
+  lockWords = map (λ x. lockWord (lockOf p x)) (row 1 512)
+
+  -- What stands behind the objective, and behind the clauses.
+  abbrev behindObjective : List ℕ
+  behindObjective = clauseWords ++ (ruleWords ++ lockWords)
+
   length-objective : length objectiveWords ≡ 512
   length-objective = length-map (row 1 512) (λ x. unsigned (coefficient (p .objective) x)) ∙ length-row 1 512
+
+  length-locks : length lockWords ≡ 512
+  length-locks = length-map (row 1 512) (λ x. lockWord (lockOf p x)) ∙ length-row 1 512
 
   length-clauseWords : length clauseWords ≡ clauseWordCount
   length-clauseWords = length-padTo clauseWordCount _ (omega (arith, length-clauseEntries 0 (p .clauses), l .clauseCount))
@@ -88,33 +99,34 @@ module _ (p : Plan) (l : RoomyPlan p) where
   pub length-tableWords : length (tableWords p) ≡ tableWordCount
   unfolding tableWords
   length-tableWords =
-      omega (arith, length-append objectiveWords (clauseWords ++ ruleWords), length-append clauseWords ruleWords, length-objective, length-clauseWords, length-ruleWords)
+      omega
+      (arith, length-append objectiveWords behindObjective, length-append clauseWords (ruleWords ++ lockWords), length-append ruleWords lockWords, length-objective, length-clauseWords, length-ruleWords, length-locks)
 
   pub length-termWords : length (termWords p) ≡ termWordCount
   unfolding termWords
   length-termWords = length-padTo termWordCount _ (omega (arith, length-termEntries (allTerms p), length-allTerms p, l .terms))
 
   module _ (f g : ℕ → ℕ) where
-    abbrev cost : ℕ → ℕ
-    cost x = unsigned (coefficient (p .objective) x)
-
-    objective-at : Spells f 4 objectiveWords → (x : ℕ) → 1 ≤ x → x ≤ 512 → f (3 + x) ≡ cost x
-    objective-at s x a b =
-        let m : 4 + (x - 1) ≡ 3 + x = omega arith in
+    -- A word for each variable, from place i + 1 on.
+    dense-at : (h : ℕ → ℕ) (i : ℕ) → Spells f (suc i) (map h (row 1 512)) → (x : ℕ) → 1 ≤ x → x ≤ 512 → f (i + x) ≡ h x
+    dense-at h i s x a b =
+        let m : suc i + (x - 1) ≡ i + x = omega arith in
         let n : 1 + (x - 1) ≡ x = omega arith in
-        rw (m, n) at (spells-row f cost 4 1 512 s (x - 1) (omega arith))
+        rw (m, n) at (spells-row f h (suc i) 1 512 s (x - 1) (omega arith))
 
-    objective-all : ((x : ℕ) → 1 ≤ x → x ≤ 512 → f (3 + x) ≡ cost x) → Spells f 4 objectiveWords
-    objective-all h =
-        row-spells f cost 4 1 512 (λ j b. let m : 3 + (1 + j) ≡ 4 + j = omega arith in rw m at (h (1 + j) (omega arith) (omega arith)))
+    dense-all : (h : ℕ → ℕ) (i : ℕ) → ((x : ℕ) → 1 ≤ x → x ≤ 512 → f (i + x) ≡ h x) → Spells f (suc i) (map h (row 1 512))
+    dense-all h i e =
+        row-spells f h (suc i) 1 512 (λ j b. let m : i + (1 + j) ≡ suc i + j = omega arith in rw m at (e (1 + j) (omega arith) (omega arith)))
 
     pub spelt-sections : Spells f 0 (tableWords p) → Spells g 0 (termWords p) → Sections p f g
     unfolding Spells tableWords termWords
     spelt-sections s t =
-        let body : Spells f 4 (objectiveWords ++ (clauseWords ++ ruleWords)) = s .1 .1 .1 .1 in
-        let rest = rw length-objective at (spells-right f 4 objectiveWords (clauseWords ++ ruleWords) body) in
-        let cs = spells-left f clausesAt clauseWords ruleWords rest in
-        let rs = rw length-clauseWords at (spells-right f clausesAt clauseWords ruleWords rest) in
+        let body : Spells f 4 (objectiveWords ++ behindObjective) = s .1 .1 .1 .1 in
+        let rest = rw length-objective at (spells-right f 4 objectiveWords behindObjective body) in
+        let cs = spells-left f clausesAt clauseWords (ruleWords ++ lockWords) rest in
+        let last = rw length-clauseWords at (spells-right f clausesAt clauseWords (ruleWords ++ lockWords) rest) in
+        let rs = spells-left f rulesAt ruleWords lockWords last in
+        let ks = rw length-ruleWords at (spells-right f rulesAt ruleWords lockWords last) in
         let n₁ : f 1 ≡ length (p .clauses) = s .1 .0 in
         let n₂ : f 2 ≡ length (rulesOf p) = s .1 .1 .0 in
         let n₃ : f 3 ≡ termCount p = s .1 .1 .1 .0 in
@@ -123,7 +135,8 @@ module _ (p : Plan) (l : RoomyPlan p) where
           clauseCount = n₁;
           ruleCount = n₂;
           terms = n₃;
-          objective = objective-at (spells-left f 4 objectiveWords (clauseWords ++ ruleWords) body);
+          objective = dense-at (λ x. unsigned (coefficient (p .objective) x)) 3 (spells-left f 4 objectiveWords behindObjective body);
+          lock = dense-at (λ x. lockWord (lockOf p x)) 6_666 ks;
           clauseEntry = pad-words f clausesAt clauseWordCount _ _ refl cs;
           ruleEntry = pad-words f rulesAt ruleWordCount _ _ refl rs;
           termEntry = pad-words g 0 termWordCount _ _ refl t;
@@ -139,7 +152,9 @@ module _ (p : Plan) (l : RoomyPlan p) where
         let n₂ : length (ruleEntries 0 (rulesOf p)) ≡ 5 * f 2 = omega (arith, length-ruleEntries 0 (rulesOf p), s .ruleCount) in
         let cs = pad-whole f clausesAt clauseWordCount (2 * f 1) _ n₁ (s .clauseEntry) (s .clauseRest) in
         let rs = pad-whole f rulesAt ruleWordCount (5 * f 2) _ n₂ (s .ruleEntry) (s .ruleRest) in
-        let rest = spells-join f clausesAt clauseWords ruleWords cs (rw length-clauseWords rs) in (
+        let ks = dense-all (λ x. lockWord (lockOf p x)) 6_666 (s .lock) in
+        let last = spells-join f rulesAt ruleWords lockWords rs (rw length-ruleWords ks) in
+        let rest = spells-join f clausesAt clauseWords (ruleWords ++ lockWords) cs (rw length-clauseWords last) in (
           s .variables,
           (
             s .clauseCount,
@@ -147,7 +162,7 @@ module _ (p : Plan) (l : RoomyPlan p) where
               s .ruleCount,
               (
                 s .terms,
-                spells-join f 4 objectiveWords (clauseWords ++ ruleWords) (objective-all (s .objective)) (rw length-objective rest),
+                spells-join f 4 objectiveWords behindObjective (dense-all (λ x. unsigned (coefficient (p .objective) x)) 3 (s .objective)) (rw length-objective rest),
               ),
             ),
           ),

@@ -1,21 +1,22 @@
--- How long a written plan is: each field takes three bytes and its body, so the largest file has 52,907.
+-- How long a written plan is: each field takes three bytes and its body, so the largest file has 54,446.
 use Prim.Native.Nat.{ℕ, _+_, _*_, _≤_}
 use mathlib.Core.Path.{_≡_, refl}
 use mathlib.Core.List.{List, [], _∷_, _++_, map}
 use native.Mathlib.Omega.{arith}
 use lib.Dec.{T}
-use lib.ListN.{length, length-append}
+use lib.ListN.{length, length-append, length-map}
 use Rattle.plpb.specs.Lists.{concat, sumBy}
-use Rattle.plpb.specs.Plan.{Rule, Clause, Plan, rising}
+use Rattle.plpb.specs.Plan.{Rule, Clause, Lock, Plan, rising}
 use Rattle.plpb.specs.Tallies.{rulesOf}
 use Rattle.words.specs.Words.{bytesOf}
 use Rattle.words.proofs.Words.{length-bytesOf}
-use Rattle.format.specs.Limits.{termCount, lawful}
-use Rattle.format.specs.Writer.{field, termBytes, ruleField, clauseFields, write}
+use Rattle.format.specs.Limits.{lockTerm, lockTerms, termCount, lawful}
+use Rattle.format.specs.Writer.{field, termBytes, ruleField, clauseFields, lockBytes, lockField, fileWith, write}
 use Rattle.format.proofs.Lists.{sumBy-append}
 use Rattle.format.proofs.Lawful.{terms-short, plan-parts}
 use Rattle.format.proofs.Places.{length-field}
 use Rattle.format.proofs.WrittenRule.{length-terms, bodyOf, length-body}
+use Rattle.format.proofs.LockField.{length-locks}
 
 abbrev pub termsOf : Rule → ℕ
 termsOf r = length (r .terms)
@@ -38,19 +39,28 @@ length-clauses (c ∷ cs) =
     omega
     (arith, length-append (clauseFields c) (concat (map clauseFields cs)), length-append (field 3 []) (concat (map ruleField c)), length-field 3 [], length-rules c, length-clauses cs, length-append c (concat cs), sumBy-append termsOf c (concat cs))
 
-pub length-write :
-    (p : Plan) → length (write p) ≡ 11 + 6 * length (p .objective) + 3 * length (p .clauses) + 12 * length (rulesOf p) + 6 * termCount p
-unfolding write rulesOf termCount
-length-write p =
+pub length-lockField : (ks : List Lock) → length (lockField ks) ≤ 3 + 3 * length ks
+unfolding lockField
+length-lockField [] = omega arith
+length-lockField (k ∷ ks) = omega (arith, length-field 6 (concat (map lockBytes (k ∷ ks))), length-locks (k ∷ ks))
+
+pub length-fileWith :
+    (between : List ℕ) (p : Plan)
+    → length (fileWith between p) ≡ 11 + 6 * length (p .objective) + length between + 3 * length (p .clauses) + 12 * length (rulesOf p) + 6 * termCount p
+unfolding fileWith rulesOf termCount
+length-fileWith between p =
     let n = field 1 (bytesOf 2 (p .variables)) in
     let ts = concat (map termBytes (p .objective)) in
     let cs = concat (map clauseFields (p .clauses)) in
     omega
-    (arith, length-append n (field 2 ts ++ (cs ++ field 5 [])), length-append (field 2 ts) (cs ++ field 5 []), length-append cs (field 5 []), length-field 1 (bytesOf 2 (p .variables)), length-bytesOf 2 (p .variables), length-field 2 ts, length-terms (p .objective), length-clauses (p .clauses), length-field 5 [])
+    (arith, length-append n (field 2 ts ++ (between ++ (cs ++ field 5 []))), length-append (field 2 ts) (between ++ (cs ++ field 5 [])), length-append between (cs ++ field 5 []), length-append cs (field 5 []), length-field 1 (bytesOf 2 (p .variables)), length-bytesOf 2 (p .variables), length-field 2 ts, length-terms (p .objective), length-clauses (p .clauses), length-field 5 [])
 
-pub write-short : (p : Plan) → T (lawful p) → length (write p) ≤ 52_907
-unfolding rising
+-- "the largest file is then 54,446 bytes"
+pub write-short : (p : Plan) → T (lawful p) → length (write p) ≤ 54_446
+unfolding write rising
 write-short p h =
     let l = plan-parts p h in
     let few = terms-short (p .variables) 0 (p .objective) (l .objective .rise) (l .objective .within) (omega arith) in
-    omega (arith, length-write p, l .high, l .clauseCount, l .ruleCount, l .terms)
+    let locked = terms-short (p .variables) 0 (lockTerms p) (l .locks .rise) (l .locks .within) (omega arith) in
+    let n : length (lockTerms p) ≡ length (p .locks) = length-map (p .locks) lockTerm in
+    omega (arith, length-fileWith (lockField (p .locks)) p, length-lockField (p .locks), l .high, l .clauseCount, l .ruleCount, l .terms)

@@ -19,10 +19,10 @@ use Rattle.format.proofs.Bools.{and-left, and-right, and-join}
 use Rattle.format.proofs.Lists.{length-row}
 use Rattle.format.proofs.Bounds.{bounds-tested, bounds-meant}
 use Rattle.format.proofs.Lawful.{termWithin, LawfulRule}
-use Rattle.format.specs.Good.{zerosFrom, chainFrom, termGood, termsFrom, countsGood, coefficientGood, objectiveGood, clausesGood, rulesGood, ruleGood, goodBy}
+use Rattle.format.specs.Good.{zerosFrom, chainFrom, termGood, termsFrom, countsGood, coefficientGood, objectiveGood, lockGood, locksGood, clausesGood, rulesGood, ruleGood, goodBy}
 use Rattle.format.proofs.Good.{every-at, every-all, zeros-at, zeros-all}
 use Rattle.format.proofs.Chains.{chain-at}
-use Rattle.format.specs.Layout.{clauseCountAt, clauseFirstAt, clauseWordCount, clausesAt, ruleCountAt, ruleFirstAt, ruleLowerAt, ruleModeAt, ruleUpperAt, ruleWordCount, rulesAt, termWordCount}
+use Rattle.format.specs.Layout.{clauseCountAt, clauseFirstAt, clauseWordCount, clausesAt, lockAt, locksAt, tableWordCount, ruleCountAt, ruleFirstAt, ruleLowerAt, ruleModeAt, ruleUpperAt, ruleWordCount, rulesAt, termWordCount}
 
 -- Good terms rise and are within the range, and the other way round.
 module _ (g : ℕ → ℕ) (n : ℕ) where
@@ -69,6 +69,8 @@ pub record Sound (f g : ℕ → ℕ) : Type 0 where
   pub terms : f 3 ≤ maxTerms
   pub cost : (x : ℕ) → 1 ≤ x → x ≤ f 0 → natAbs (signed (f (3 + x))) ≤ maxWeight
   pub costRest : (x : ℕ) → f 0 < x → x ≤ 512 → f (3 + x) ≡ 0
+  pub lock : (x : ℕ) → 1 ≤ x → x ≤ f 0 → f (lockAt x) ≤ 2
+  pub lockRest : (x : ℕ) → f 0 < x → x ≤ 512 → f (lockAt x) ≡ 0
   pub clauseChain : chainFrom (λ c. f (clauseFirstAt c)) (λ c. f (clauseCountAt c)) (f 2) 0 0 (f 1) ≡ true
   pub clauseRest : zerosFrom f (clausesAt + 2 * f 1) (clauseWordCount - 2 * f 1) ≡ true
   pub ruleChain : chainFrom (λ r. f (ruleFirstAt r)) (λ r. f (ruleCountAt r)) (f 3) 0 0 (f 2) ≡ true
@@ -78,8 +80,10 @@ pub record Sound (f g : ℕ → ℕ) : Type 0 where
 
 module _ (f g : ℕ → ℕ) where
   pub good-sound : goodBy f g ≡ true → Sound f g
-  unfolding goodBy countsGood objectiveGood coefficientGood clausesGood rulesGood
-  good-sound h =
+  unfolding goodBy countsGood objectiveGood coefficientGood lockGood locksGood clausesGood rulesGood
+  good-sound h' =
+      let h = and-left _ _ h' in
+      let k = and-right _ _ h' in
       let a = and-left _ _ h in
       let b = and-left _ _ a in
       let c = and-left _ _ b in
@@ -94,6 +98,8 @@ module _ (f g : ℕ → ℕ) where
         terms = leb-true _ _ (and-right _ _ n);
         cost = λ x p q. leb-true _ _ (every-at (coefficientGood f) 1 (f 0) (and-left _ _ o) x p (omega arith));
         costRest = λ x p q. zeros-at f (4 + f 0) (512 - f 0) (and-right _ _ o) (3 + x) (omega arith) (omega arith);
+        lock = λ x p q. leb-true _ _ (every-at (lockGood f) 1 (f 0) (and-left _ _ k) x p (omega arith));
+        lockRest = λ x p q. zeros-at f (locksAt + f 0) (512 - f 0) (and-right _ _ k) (lockAt x) (omega arith) (omega arith);
         clauseChain = and-left _ _ (and-right _ _ c);
         clauseRest = and-right _ _ (and-right _ _ c);
         ruleChain = and-left _ _ (and-right _ _ b);
@@ -105,10 +111,14 @@ module _ (f g : ℕ → ℕ) where
   rest-zero : Sound f g → (j : ℕ) → 4 + f 0 ≤ j → j < clausesAt → f j ≡ 0
   rest-zero s j p q = let m : 3 + (j - 3) ≡ j = omega arith in rw m at (s .costRest (j - 3) (omega arith) (omega arith))
 
+  locks-zero : Sound f g → (j : ℕ) → locksAt + f 0 ≤ j → j < tableWordCount → f j ≡ 0
+  locks-zero s j p q = let m : lockAt (j - 6_666) ≡ j = omega arith in rw m at (s .lockRest (j - 6_666) (omega arith) (omega arith))
+
   pub sound-good : Sound f g → goodBy f g ≡ true
-  unfolding goodBy countsGood objectiveGood coefficientGood clausesGood rulesGood
+  unfolding goodBy countsGood objectiveGood coefficientGood lockGood locksGood clausesGood rulesGood
   sound-good s =
       and-join _ _
+      (and-join _ _
       (and-join _ _
       (and-join _ _
       (and-join _ _
@@ -118,7 +128,8 @@ module _ (f g : ℕ → ℕ) where
       (and-join _ _ (s .clauseChain) (s .clauseRest)))
       (and-join _ _ (s .ruleChain) (s .ruleRest)))
       (every-all (ruleGood f g) 0 (f 2) (λ r p q. s .rule r (omega arith))))
-      (s .termRest)
+      (s .termRest))
+      (and-join _ _ (every-all _ 1 (f 0) (λ x p q. le-leb _ _ (s .lock x p (omega arith)))) (zeros-all f (locksAt + f 0) (512 - f 0) (λ j p q. locks-zero s j p (omega (arith, s .variables)))))
 
 -- What code reads off good tables.
 module _ (f g : ℕ → ℕ) (s : Sound f g) where

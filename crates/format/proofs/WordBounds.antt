@@ -9,12 +9,12 @@ use lib.IntN.{ℤ, natAbs}
 use lib.ListN.{length, replicate, length-append}
 use borrow.Author.Tests.{leb-true}
 use Rattle.plpb.specs.Lists.{all, concat, sumBy, row}
-use Rattle.plpb.specs.Plan.{Term, Rule, Clause, Plan}
+use Rattle.plpb.specs.Plan.{Bound, absent, present, Term, Rule, Clause, Plan, lockOf}
 use Rattle.plpb.specs.Tallies.{rulesOf}
 use Rattle.words.specs.Words.{unsigned}
 use Rattle.words.proofs.Words.{Below, below-nil, below-cons, unsigned-lt}
 use Rattle.format.specs.Limits.{ruleLawful, termCount}
-use Rattle.format.specs.Tables.{coefficient, padTo, padWith, clauseEntries, ruleEntries, termEntries, allTerms, tableWords, termWords}
+use Rattle.format.specs.Tables.{coefficient, padTo, padWith, clauseEntries, ruleEntries, termEntries, allTerms, lockWord, tableWords, termWords}
 use Rattle.format.proofs.Bools.{and-left, and-right}
 use Rattle.format.proofs.Lists.{all-append}
 use Rattle.format.proofs.Bounds.{bounds-written, bounds-tested}
@@ -96,6 +96,12 @@ each-term n (t ∷ ts) s h =
     let w = weight-small (t .weight) (and-right _ _ (and-left _ _ h)) in
     (omega arith, (unsigned-lt _ (omega arith), each-term n ts s (and-right _ _ h)))
 
+pub lockWord-small : (b : Bound Bool) → lockWord b ≤ 2
+unfolding lockWord
+lockWord-small absent = omega arith
+lockWord-small (present true) = omega arith
+lockWord-small (present false) = omega arith
+
 -- The two tables.
 module _ (p : Plan) (l : RoomyPlan p) where
   rulesHere : all (ruleLawful (p .variables)) (rulesOf p) ≡ true
@@ -112,8 +118,10 @@ module _ (p : Plan) (l : RoomyPlan p) where
       each-map _ (row 1 512) (λ x. unsigned-lt (coefficient (p .objective) x) (omega (arith, coefficient-small (p .variables) (p .objective) x (l .objective .within)))) in
       let clauses : Each b = each-padTo clauseWordCount _ (each-clause 0 (p .clauses) (omega (arith, l .ruleCount))) in
       let rules : Each c = each-padTo ruleWordCount _ (each-rule (p .variables) 0 (rulesOf p) rulesHere (omega (arith, l .terms))) in
+      let d = map (λ x. lockWord (lockOf p x)) (row 1 512) in
+      let locks : Each d = each-map _ (row 1 512) (λ x. omega (arith, lockWord-small (lockOf p x))) in
       each-below (tableWords p)
-      (omega (arith, l .high), (omega (arith, l .clauseCount), (omega (arith, l .ruleCount), (omega (arith, l .terms), each-append a (b ++ c) costs (each-append b c clauses rules)))))
+      (omega (arith, l .high), (omega (arith, l .clauseCount), (omega (arith, l .ruleCount), (omega (arith, l .terms), each-append a (b ++ (c ++ d)) costs (each-append b (c ++ d) clauses (each-append c d rules locks))))))
 
   pub term-below : Below wordLimit (termWords p)
   unfolding termWords allTerms

@@ -1,5 +1,6 @@
 -- What is written is bytes: tags, modes and the bytes of numbers are.
 use Prim.Native.Nat.{ℕ, _<_}
+use mathlib.Core.Bool.{Bool, true, false, cond}
 use mathlib.Core.List.{List, [], _∷_, _++_, map}
 use native.Mathlib.Omega.{arith}
 use lib.Dec.{T}
@@ -7,10 +8,10 @@ use lib.IntN.{ℤ}
 use lib.ListN.{length}
 use lib.Pow.{areBytes}
 use Rattle.plpb.specs.Lists.{concat}
-use Rattle.plpb.specs.Plan.{Bound, absent, present, Term, Rule, Clause, Plan}
+use Rattle.plpb.specs.Plan.{Bound, absent, present, Term, Rule, Clause, Lock, Plan}
 use Rattle.words.specs.Words.{bytesOf, unsigned}
 use Rattle.words.proofs.Words.{Below, below-nil, below-cons, below-append, below-bytes, bytesOf-below}
-use Rattle.format.specs.Writer.{field, termBytes, mode, boundNumber, ruleField, clauseFields, write}
+use Rattle.format.specs.Writer.{field, termBytes, mode, boundNumber, ruleField, clauseFields, lockBytes, lockField, fileWith, write}
 
 below-concat : {A : Type 0} (f : A → List ℕ) (xs : List A) → ((x : A) → Below 256 (f x)) → Below 256 (concat (map f xs))
 unfolding concat
@@ -52,13 +53,28 @@ unfolding clauseFields
 clause-below c =
     below-append 256 (field 3 []) (concat (map ruleField c)) (field-below 3 [] (omega arith) none-below) (below-concat ruleField c rule-below)
 
+value-below : (v : Bool) → Below 256 (cond v 1 0 ∷ [])
+value-below true = below-cons 256 1 [] (omega arith) none-below
+value-below false = below-cons 256 0 [] (omega arith) none-below
+
+lock-below : (k : Lock) → Below 256 (lockBytes k)
+unfolding lockBytes
+lock-below k = below-append 256 (bytesOf 2 (k .variable)) _ (bytesOf-below 2 (k .variable)) (value-below (k .value))
+
+locks-below : (ks : List Lock) → Below 256 (lockField ks)
+unfolding lockField
+locks-below [] = none-below
+locks-below (k ∷ ks) = field-below 6 (concat (map lockBytes (k ∷ ks))) (omega arith) (below-concat lockBytes (k ∷ ks) lock-below)
+
 pub write-bytes : (p : Plan) → T (areBytes (write p))
-unfolding write
+unfolding write fileWith
 write-bytes p =
     let ts = concat (map termBytes (p .objective)) in
+    let ks = lockField (p .locks) in
     let cs = concat (map clauseFields (p .clauses)) in
     below-bytes (write p)
-    (below-append 256 (field 1 (bytesOf 2 (p .variables))) (field 2 ts ++ (cs ++ field 5 []))
+    (below-append 256 (field 1 (bytesOf 2 (p .variables))) (field 2 ts ++ (ks ++ (cs ++ field 5 [])))
     (field-below 1 _ (omega arith) (bytesOf-below 2 (p .variables)))
-    (below-append 256 (field 2 ts) (cs ++ field 5 []) (field-below 2 ts (omega arith) (below-concat termBytes (p .objective) term-below))
-    (below-append 256 cs (field 5 []) (below-concat clauseFields (p .clauses) clause-below) (field-below 5 [] (omega arith) none-below))))
+    (below-append 256 (field 2 ts) (ks ++ (cs ++ field 5 [])) (field-below 2 ts (omega arith) (below-concat termBytes (p .objective) term-below))
+    (below-append 256 ks (cs ++ field 5 []) (locks-below (p .locks))
+    (below-append 256 cs (field 5 []) (below-concat clauseFields (p .clauses) clause-below) (field-below 5 [] (omega arith) none-below)))))

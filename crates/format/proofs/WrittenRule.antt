@@ -13,7 +13,7 @@ use Rattle.plpb.specs.Plan.{Term, Rule, rising}
 use Rattle.words.specs.Words.{bytesOf, unsigned}
 use Rattle.words.proofs.Words.{length-bytesOf}
 use Rattle.format.specs.Limits.{maxBound}
-use Rattle.format.specs.File.{Stage, afterRule, State, mayStand, tagAt, lengthAt, lengthLawful, termsIn, modeAt, lowerAt, upperAt, fieldTerms, pastLimits, wrongBounds, next, stageAfter, boundOf, ruleAt}
+use Rattle.format.specs.File.{Stage, afterRule, State, mayStand, tagAt, lengthAt, lengthLawful, termsIn, modeAt, lowerAt, upperAt, fieldTerms, pastLimits, wrongBounds, locksFault, next, stageAfter, boundOf, ruleAt}
 use Rattle.format.specs.Writer.{field, termBytes, mode, boundNumber, ruleField}
 use Rattle.format.proofs.Bounds.{bounds-written, bounds-tested, lower-back, upper-back}
 use Rattle.format.proofs.Lawful.{terms-short, terms-whole, LawfulRule}
@@ -132,9 +132,10 @@ module _ (s : List ℕ) (n : ℕ) (small : n ≤ 512) (at : ℕ) (r : Rule) (res
     within-limits = rw (rule-tag, counted, lt-leb 1_024 R roomR, le-ltb 6_000 (k + length (r .terms)) roomT)
 
     pub rule-clean : Clean s (record { at = at; stage = g; variables = n; clauses = C; rules = R; terms = k })
+    unfolding locksFault
     rule-clean =
         placed-clean s at 4 (bodyOf r) rest here g n C R k (omega (arith, length-body r, few)) may size-lawful within-limits bounds-lawful
-        (rw terms-read (terms-whole n (r .terms) (l .terms)))
+        (rw terms-read (terms-whole n (r .terms) (l .terms))) (rw rule-tag)
 
     pub rule-next :
         next s (record { at = at; stage = g; variables = n; clauses = C; rules = R; terms = k })

@@ -9,7 +9,7 @@ use Rattle.plpb.specs.Lists.{_and_}
 use Rattle.words.specs.Words.{signed}
 use Rattle.format.specs.Limits.{maxVariables, maxClauses, maxRules, maxTerms, maxWeight, weightLawful}
 use Rattle.format.specs.File.{boundsLawful}
-use Rattle.format.specs.Layout.{clauseCountAt, clauseFirstAt, clauseWordCount, clausesAt, objectiveAt, ruleCountAt, ruleFirstAt, ruleLowerAt, ruleModeAt, ruleUpperAt, ruleWordCount, rulesAt, termWordCount}
+use Rattle.format.specs.Layout.{clauseCountAt, clauseFirstAt, clauseWordCount, clausesAt, lockAt, locksAt, objectiveAt, ruleCountAt, ruleFirstAt, ruleLowerAt, ruleModeAt, ruleUpperAt, ruleWordCount, rulesAt, termWordCount}
 
 -- A test holds at i, i + 1, .., k places in all.
 unfoldable pub everyFrom : (ℕ → Bool) → ℕ → ℕ → Bool
@@ -49,6 +49,13 @@ coefficientGood f x = leb (natAbs (signed (f (objectiveAt x)))) maxWeight
 unfoldable pub objectiveGood : (ℕ → ℕ) → Bool
 objectiveGood f = everyFrom (coefficientGood f) 1 (f 0) and zerosFrom f (4 + f 0) (512 - f 0)
 
+-- The locks: 0, 1 or 2 for each variable, 0 beyond the last.
+unfoldable pub lockGood : (ℕ → ℕ) → ℕ → Bool
+lockGood f x = leb (f (lockAt x)) 2
+
+unfoldable pub locksGood : (ℕ → ℕ) → Bool
+locksGood f = everyFrom (lockGood f) 1 (f 0) and zerosFrom f (locksAt + f 0) (512 - f 0)
+
 -- The clauses share out the rules in order; unused entries 0.
 unfoldable pub clausesGood : (ℕ → ℕ) → Bool
 clausesGood f =
@@ -69,4 +76,4 @@ ruleGood f g r =
 unfoldable pub goodBy : (ℕ → ℕ) → (ℕ → ℕ) → Bool
 goodBy f g =
     countsGood f and objectiveGood f and clausesGood f and rulesGood f and everyFrom (ruleGood f g) 0 (f 2)
-    and zerosFrom g (2 * f 3) (termWordCount - 2 * f 3)
+    and zerosFrom g (2 * f 3) (termWordCount - 2 * f 3) and locksGood f

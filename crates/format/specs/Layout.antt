@@ -5,13 +5,13 @@ use Prim.Native.Nat.{ℕ, _+_, _*_}
 
 -- The words of the two tables, and their bytes.
 abbrev pub tableWordCount : ℕ
-tableWordCount = 6_667
+tableWordCount = 7_179
 
 abbrev pub termWordCount : ℕ
 termWordCount = 13_024
 
 abbrev pub tableSize : ℕ
-tableSize = 26_668
+tableSize = 28_716
 
 abbrev pub termSize : ℕ
 termSize = 52_096
@@ -33,7 +33,7 @@ clauseWordCount = 1_026
 abbrev pub ruleWordCount : ℕ
 ruleWordCount = 5_125
 
--- The bytes of the three sections behind the counts, and where each begins.
+-- The bytes of the four sections behind the counts, and where each begins.
 abbrev pub objectiveSize : ℕ
 objectiveSize = 2_048
 
@@ -42,6 +42,9 @@ clauseSectionSize = 4_104
 
 abbrev pub ruleSectionSize : ℕ
 ruleSectionSize = 20_500
+
+abbrev pub lockSectionSize : ℕ
+lockSectionSize = 2_048
 
 abbrev pub objectiveByte : ℕ
 objectiveByte = 16
@@ -52,12 +55,18 @@ clausesByte = 2_064
 abbrev pub rulesByte : ℕ
 rulesByte = 6_168
 
+abbrev pub locksByte : ℕ
+locksByte = 26_668
+
 -- The sections' first words.
 abbrev pub clausesAt : ℕ
 clausesAt = 516
 
 abbrev pub rulesAt : ℕ
 rulesAt = 1_542
+
+abbrev pub locksAt : ℕ
+locksAt = 6_667
 
 -- A variable's coefficient.
 abbrev pub objectiveAt : ℕ → ℕ
@@ -95,6 +104,10 @@ lastCountAt rules = 1_538 + 5 * rules
 
 abbrev pub lastUpperAt : ℕ → ℕ
 lastUpperAt rules = 1_541 + 5 * rules
+
+-- A variable's lock.
+abbrev pub lockAt : ℕ → ℕ
+lockAt x = 6_666 + x
 
 -- The words of the tallies, and their bytes.
 abbrev pub tallyWordCount : ℕ

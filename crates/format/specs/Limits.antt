@@ -1,13 +1,13 @@
 -- The limits of a plan (the owner's demands; document 01, "Who can cause which refusal", 4 to 6) and plans within them.
 -- Assumes nothing.
 use Prim.Native.Nat.{ℕ}
-use mathlib.Core.Bool.{Bool, true, false, not}
-use mathlib.Core.List.{List}
+use mathlib.Core.Bool.{Bool, true, false, not, cond}
+use mathlib.Core.List.{List, map}
 use lib.Dec.{leb, ltb}
-use lib.IntN.{ℤ, natAbs}
+use lib.IntN.{ℤ, pos, natAbs}
 use lib.ListN.{length}
 use Rattle.plpb.specs.Lists.{_and_, _or_, all, isEmpty, sumBy}
-use Rattle.plpb.specs.Plan.{Bound, absent, present, Term, Rule, Plan, rising}
+use Rattle.plpb.specs.Plan.{Bound, absent, present, Term, Rule, Lock, Plan, rising}
 use Rattle.plpb.specs.Tallies.{rulesOf}
 use Rattle.format.specs.Layout.{clauseRoom, ruleRoom, termRoom}
 
@@ -39,6 +39,13 @@ weightLawful w = ltb 0 (natAbs w) and leb (natAbs w) maxWeight
 unfoldable pub termsLawful : ℕ → List Term → Bool
 termsLawful n ts = rising ts and all (λ t. leb (t .variable) n and weightLawful (t .weight)) ts
 
+-- A lock as a term whose weight is its word in the tables: 1 for locked at 0, 2 for locked at 1.
+unfoldable pub lockTerm : Lock → Term
+lockTerm k = record { variable = k .variable; weight = cond (k .value) (pos 2) (pos 1) }
+
+abbrev pub lockTerms : Plan → List Term
+lockTerms p = map lockTerm (p .locks)
+
 unfoldable pub boundLawful : Bound ℤ → Bool
 boundLawful absent = true
 boundLawful (present b) = leb (natAbs b) maxBound
@@ -56,10 +63,11 @@ ruleLawful n r =
 unfoldable pub termCount : Plan → ℕ
 termCount p = sumBy (λ r. length (r .terms)) (rulesOf p)
 
--- A plan within every range, each clause with "one or more" rules, and with so many clauses, rules and terms at most.
+-- A plan within every range, its locks' numbers "as in terms", each clause with "one or more" rules, and with so many clauses, rules and terms at most.
 unfoldable pub within : ℕ → ℕ → ℕ → Plan → Bool
 within clauses rules terms p =
     leb 1 (p .variables) and leb (p .variables) maxVariables and termsLawful (p .variables) (p .objective)
+    and termsLawful (p .variables) (lockTerms p)
     and all (λ c. not (isEmpty c) and all (ruleLawful (p .variables)) c) (p .clauses)
     and leb (length (p .clauses)) clauses and leb (length (rulesOf p)) rules and leb (termCount p) terms
 

@@ -9,13 +9,13 @@ use lib.IntN.{ℤ, pos, natAbs}
 use lib.ListN.{length, replicate, take}
 use lib.Pow.{areBytes}
 use Rattle.plpb.specs.Lists.{_and_, concat, keep, row}
-use Rattle.plpb.specs.Plan.{Term, Rule, Clause, Plan}
+use Rattle.plpb.specs.Plan.{Bound, absent, present, Term, Rule, Clause, Lock, Plan, lockOf}
 use Rattle.plpb.specs.Tallies.{rulesOf}
 use Rattle.words.specs.Words.{wordBytes, wordAt, signed, unsigned}
 use Rattle.format.specs.Limits.{termCount, lawful}
 use Rattle.format.specs.File.{accepted, read, boundOf}
 pub use Rattle.format.specs.Layout.{tableSize, termSize}
-use Rattle.format.specs.Layout.{termWordCount, objectiveAt, clauseFirstAt, clauseCountAt, ruleFirstAt, ruleCountAt, ruleModeAt, ruleLowerAt, ruleUpperAt, clauseWordCount, ruleWordCount}
+use Rattle.format.specs.Layout.{termWordCount, objectiveAt, clauseFirstAt, clauseCountAt, ruleFirstAt, ruleCountAt, ruleModeAt, ruleLowerAt, ruleUpperAt, lockAt, clauseWordCount, ruleWordCount}
 use Rattle.format.specs.Writer.{mode, boundNumber}
 
 -- The coefficient of a variable in a sum, 0 where it has none.
@@ -56,8 +56,14 @@ termEntries (t ∷ ts) = t .variable ∷ unsigned (t .weight) ∷ termEntries ts
 unfoldable pub allTerms : Plan → List Term
 allTerms p = concat (map (λ r. r .terms) (rulesOf p))
 
--- The table of counts, objective (dense, by variable), clauses and rules: 4 + 512 + 2·513 + 5·1,025 words. There is room for one clause and
--- rule more than a plan may have, so that the tables of a search, which adds one, are laid out alike.
+-- A variable's lock: 0 where it is free, 1 where it is locked at 0, 2 where it is locked at 1.
+unfoldable pub lockWord : Bound Bool → ℕ
+lockWord absent = 0
+lockWord (present v) = cond v 2 1
+
+-- The table of counts, objective (dense, by variable), clauses, rules and locks (dense too): 4 + 512 + 2·513 + 5·1,025 + 512 words. There is room
+-- for one clause and rule more than a plan may have, so that the tables of a search, which adds one, are laid out alike. "The plan's record
+-- carries the locks."
 unfoldable pub tableWords : Plan → List ℕ
 tableWords p =
     p .variables
@@ -65,7 +71,8 @@ tableWords p =
     ∷ length (rulesOf p)
     ∷ termCount p
     ∷ (map (λ x. unsigned (coefficient (p .objective) x)) (row 1 512)
-    ++ (padTo clauseWordCount (clauseEntries 0 (p .clauses)) ++ padTo ruleWordCount (ruleEntries 0 (rulesOf p))))
+    ++ (padTo clauseWordCount (clauseEntries 0 (p .clauses))
+    ++ (padTo ruleWordCount (ruleEntries 0 (rulesOf p)) ++ map (λ x. lockWord (lockOf p x)) (row 1 512))))
 
 -- The term table: 2·6,512 words, with room for the terms of one rule more.
 unfoldable pub termWords : Plan → List ℕ
@@ -108,8 +115,15 @@ sparse h v k = keep isSome (map (named h) (row (suc v) k))
 unfoldable pub objectiveOf : (ℕ → ℕ) → List Term
 objectiveOf f = sparse (λ x. signed (f (objectiveAt x))) 0 (f 0)
 
+-- A lock of each variable that has a term in the locks' section.
+unfoldable pub termLock : Term → Lock
+termLock t = record { variable = t .variable; value = ltb 1 (natAbs (t .weight)) }
+
+unfoldable pub locksOf : (ℕ → ℕ) → List Lock
+locksOf f = map termLock (sparse (λ x. signed (f (lockAt x))) 0 (f 0))
+
 unfoldable pub planIn : (ℕ → ℕ) → (ℕ → ℕ) → Plan
-planIn f g = record { variables = f 0; objective = objectiveOf f; clauses = map (clauseOf f g) (row 0 (f 1)) }
+planIn f g = record { variables = f 0; objective = objectiveOf f; locks = locksOf f; clauses = map (clauseOf f g) (row 0 (f 1)) }
 
 -- The plan that two tables hold.
 unfoldable pub planOfTables : List ℕ → List ℕ → Plan

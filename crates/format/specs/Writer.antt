@@ -1,11 +1,12 @@
--- The file of a plan (document 01, "The plan file").
+-- The file of a plan (document 01, "The plan file"; T-01).
 -- Assumes nothing.
 use Prim.Native.Nat.{ℕ}
+use mathlib.Core.Bool.{cond}
 use mathlib.Core.List.{List, [], _∷_, _++_, map}
 use lib.IntN.{ℤ, pos}
 use lib.ListN.{length}
 use Rattle.plpb.specs.Lists.{concat}
-use Rattle.plpb.specs.Plan.{Bound, absent, present, Term, Rule, Clause, Plan}
+use Rattle.plpb.specs.Plan.{Bound, absent, present, Term, Rule, Clause, Lock, Plan}
 use Rattle.words.specs.Words.{bytesOf, unsigned}
 
 unfoldable pub field : ℕ → List ℕ → List ℕ
@@ -35,7 +36,20 @@ ruleField r =
 unfoldable pub clauseFields : Clause → List ℕ
 clauseFields c = field 3 [] ++ concat (map ruleField c)
 
-unfoldable pub write : Plan → List ℕ
-write p =
+-- "entries of a variable number and a byte 0 or 1"
+unfoldable pub lockBytes : Lock → List ℕ
+lockBytes k = bytesOf 2 (k .variable) ++ (cond (k .value) 1 0 ∷ [])
+
+-- "an optional field, tag 06, between objective and first clause": it stands only where there is a lock.
+unfoldable pub lockField : List Lock → List ℕ
+lockField [] = []
+lockField (k ∷ ks) = field 6 (concat (map lockBytes (k ∷ ks)))
+
+-- A plan's file, given what stands between objective and first clause.
+unfoldable pub fileWith : List ℕ → Plan → List ℕ
+fileWith between p =
     field 1 (bytesOf 2 (p .variables))
-    ++ (field 2 (concat (map termBytes (p .objective))) ++ (concat (map clauseFields (p .clauses)) ++ field 5 []))
+    ++ (field 2 (concat (map termBytes (p .objective))) ++ (between ++ (concat (map clauseFields (p .clauses)) ++ field 5 [])))
+
+unfoldable pub write : Plan → List ℕ
+write p = fileWith (lockField (p .locks)) p

@@ -10,7 +10,8 @@ pub const MAX_RULES: usize = 1024;
 
 pub const MAX_TERMS: usize = 6000;
 
-// The words of the tables: four counts, a coefficient for each variable, two words for each clause and five for each rule.
+// The words of the tables: four counts, a coefficient for each variable, two words for each clause, five for each rule, and a lock for each
+// variable.
 pub const OBJECTIVE: usize = 4 - 1; // variable x has its coefficient at OBJECTIVE + x
 
 pub const CLAUSES: usize = 4 + MAX_VARIABLES; // clause c has its first rule at CLAUSES + 2 * c
@@ -27,7 +28,11 @@ pub const RULE_LOWER: usize = RULES + 3;
 
 pub const RULE_UPPER: usize = RULES + 4;
 
-pub const TABLE_WORDS: usize = RULES + 5 * (MAX_RULES + 1);
+pub const RULES_END: usize = RULES + 5 * (MAX_RULES + 1);
+
+pub const LOCKS: usize = RULES_END - 1; // variable x has its lock at LOCKS + x
+
+pub const TABLE_WORDS: usize = RULES_END + MAX_VARIABLES;
 
 pub const TERM_WORDS: usize = 2 * (MAX_TERMS + MAX_VARIABLES);
 
@@ -44,6 +49,8 @@ pub const OBJECTIVE_BYTE: usize = 4 * 4;
 pub const CLAUSES_BYTE: usize = 4 * CLAUSES;
 
 pub const RULES_BYTE: usize = 4 * RULES;
+
+pub const LOCKS_BYTE: usize = 4 * RULES_END;
 
 pub const TABLES: usize = 4 * TABLE_WORDS;
 
