@@ -15,7 +15,7 @@ use Rattle.plpb.specs.Plan.{rising, risingAbove}
 use Rattle.words.specs.Words.{numAt, signed}
 use Rattle.format.proofs.Bools.{and-left}
 use Rattle.format.specs.File as File
-use Rattle.format.specs.File.{atClause, afterRule, mayStand, tagAt, lengthAt, lengthLawful, refuse, fault, pastLimits, boundsLawful, lowerAt, upperAt, modeAt, wrongBounds, termsIn, termsAt, fieldTerms}
+use Rattle.format.specs.File.{atLocks, atClause, afterRule, mayStand, tagAt, lengthAt, lengthLawful, refuse, fault, pastLimits, boundsLawful, lowerAt, upperAt, modeAt, wrongBounds, termsIn, termsAt, fieldTerms, locksFault}
 use Rattle.format.specs.Limits.{termsLawful}
 use Rattle.judge.specs.declared.field.State.{State}
 use Rattle.judge.specs.declared.field.Field.the-variants.{Taken, Fault}
@@ -52,6 +52,15 @@ stands-rule tag e = simp e
 pub stands-else : (tag : ℕ) → (tag ≡ 4 → ⊥) → mayStand atClause tag ≡ mayStand afterRule tag
 unfolding mayStand
 stands-else tag n = either (eqb tag 3) (eqb tag 4) (eqb tag 5) (ne-eqb tag 4 n)
+
+-- Behind the objective may stand what may stand at a clause, and a field of locks.
+pub stands-locks : (tag : ℕ) → tag ≡ 6 → true ≡ mayStand atLocks tag
+unfolding mayStand _or_
+stands-locks tag e = simp e
+
+pub stands-clause : (tag : ℕ) → (tag ≡ 6 → ⊥) → mayStand atClause tag ≡ mayStand atLocks tag
+unfolding mayStand _or_
+stands-clause tag n = simp (ne-eqb tag 6 n)
 
 -- The byte at a place is its number of one byte.
 pub tag-byte : (s : List ℕ) (at : ℕ) → getD s at 0 ≡ tagAt s at
@@ -211,7 +220,7 @@ module _ (s : List ℕ) (st : File.State) where
   unfolding bodyFault refuse
   bad a b c = rw (a, b, c)
 
-  pub fine : pastLimits s st ≡ false → wrongBounds s (st .at) ≡ false → termsLawful (st .variables) (fieldTerms s (st .at)) ≡ true → 0 ≡ bodyFault s st
+  pub fine : pastLimits s st ≡ false → wrongBounds s (st .at) ≡ false → termsLawful (st .variables) (fieldTerms s (st .at)) ≡ true → locksFault s st ≡ bodyFault s st
   unfolding bodyFault refuse
   fine a b c = rw (a, b, c)
 

@@ -8,9 +8,9 @@ use lib.Dec.{ltb}
 use lib.ListN.{length}
 use Rattle.format.specs.Limits.{termsLawful}
 use Rattle.format.specs.File as File
-use Rattle.format.specs.File.{atCount, atObjective, atClause, atRule, afterRule, mayStand, tagAt, lengthAt, lengthLawful, fieldTerms, pastLimits, wrongBounds, refuse, fault, readFrom}
+use Rattle.format.specs.File.{atCount, atObjective, atLocks, atClause, atRule, afterRule, mayStand, tagAt, lengthAt, lengthLawful, fieldTerms, pastLimits, wrongBounds, refuse, locksFault, fault, readFrom}
 use Rattle.judge.specs.declared.field.Stage.{Stage}
-use Rattle.judge.specs.declared.field.Stage.the-variants.{Count, Objective, Clause, Rule, MoreRules}
+use Rattle.judge.specs.declared.field.Stage.the-variants.{Count, Objective, Locks, Clause, Rule, MoreRules}
 use Rattle.judge.specs.declared.field.State.{State}
 use Rattle.judge.specs.declared.field.Taken.{Taken as TakenT}
 use Rattle.judge.specs.declared.field.Field.{Field}
@@ -24,6 +24,7 @@ use Rattle.judge.specs.Answers.{outcome}
 unfoldable pub stageOf : Stage → File.Stage
 stageOf Count = atCount
 stageOf Objective = atObjective
+stageOf Locks = atLocks
 stageOf Clause = atClause
 stageOf Rule = atRule
 stageOf MoreRules = afterRule
@@ -52,11 +53,11 @@ pub record Headed (s : List ℕ) (at : ℕ) : Type 0 where
   pub room : at + 3 + lengthAt s at ≤ length s
   pub lawful : lengthLawful (tagAt s at) (lengthAt s at) ≡ true
 
--- ".. 4, 6, then 5 from left to right."
+-- ".. 4, 6, then 5 from left to right." In a field of locks 5 and 10, entry by entry.
 unfoldable pub bodyFault : List ℕ → File.State → ℕ
 bodyFault s st =
     refuse (pastLimits s st) 4
-    (refuse (wrongBounds s (st .at)) 6 (refuse (not (termsLawful (st .variables) (fieldTerms s (st .at)))) 5 0))
+    (refuse (wrongBounds s (st .at)) 6 (refuse (not (termsLawful (st .variables) (fieldTerms s (st .at)))) 5 (locksFault s st)))
 
 -- "A field is taken apart into tag, body and next place, or reading stops with its refusal."
 unfoldable pub takenAt : List ℕ → ℕ → TakenT

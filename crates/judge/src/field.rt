@@ -5,14 +5,17 @@ ghost use Prim.Native.Nat.{_+_, _-_};
 ghost use lib.Dec.{leb, ltb};
 ghost use Rattle.plpb.specs.Lists.{_and_, _or_};
 ghost use Rattle.format.specs.Limits.{termsLawful};
-ghost use Rattle.format.specs.File.{atClause, mayStand, lengthLawful, pastLimits, wrongBounds, fieldTerms};
+ghost use Rattle.format.specs.File.{atClause, mayStand, lengthLawful, pastLimits, wrongBounds, fieldTerms, locksFault};
 ghost use Rattle.judge.specs.Fields.{stageOf, stateOf, headFault, bodyFault, Headed, takenAt, fieldAt};
+use crate::locks;
 use crate::terms;
 
 // What may stand next: "Order: 01, 02, then clauses, each 03 followed by one or more 04, then 05 as the last bytes."
+// "an optional field, tag 06, between objective and first clause"
 pub enum Stage {
     Count,
     Objective,
+    Locks,
     Clause,
     Rule,
     MoreRules,
@@ -53,6 +56,7 @@ fn may_stand(stage: Stage, tag: u8) -> bool
     match stage {
         Stage::Count => tag == 1,
         Stage::Objective => tag == 2,
+        Stage::Locks => if tag == 6 { true } else { begins_or_ends(tag) },
         Stage::Clause => begins_or_ends(tag),
         Stage::Rule => tag == 4,
         Stage::MoreRules => if tag == 4 { true } else { begins_or_ends(tag) },
@@ -67,6 +71,7 @@ fn length_lawful(tag: u8, size: usize) -> bool
         1 => size == 2,
         2 => size % 6 == 0,
         4 => 15 <= size && (size - 9) % 6 == 0,
+        6 => size % 3 == 0,
         _ => size == 0,
     }
 }
@@ -169,6 +174,19 @@ fn right_terms(file: &[u8], at: usize, variables: u32) -> bool
     true
 }
 
+// "5 for a wrong number as in terms, 10 for another value (after 5 of that entry)"
+fn locks_fault(file: &[u8], st: State) -> u32
+    requires { ⌜ Headed (now file) (st .at) ⌝ }
+    ensures { λ r. ⌜ r ≡ locksFault (now (file .entry)) (stateOf st) ⌝ }
+{
+    let at = st.at;
+    if file[at] != 6 {
+        return 0;
+    }
+    let size = words::read_size(file, at + 1);
+    locks::entries_fault(file, at + 3, size / 3, st.variables)
+}
+
 // ".., 4, 6, then 5 from left to right."
 fn body_fault(file: &[u8], st: State) -> u32
     requires { ⌜ Headed (now file) (st .at) ⌝ }
@@ -183,7 +201,7 @@ fn body_fault(file: &[u8], st: State) -> u32
     if !right_terms(file, st.at, st.variables) {
         return 5;
     }
-    0
+    locks_fault(file, st)
 }
 
 fn parts(file: &[u8], at: usize) -> Taken

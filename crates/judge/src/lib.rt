@@ -14,6 +14,7 @@ use crate::field::State;
 use crate::field::Taken;
 
 mod field;
+mod locks;
 mod terms;
 
 // A refusal carries its number and its offset.
@@ -33,8 +34,9 @@ fn stage_after(tag: u8) -> Stage
 {
     match tag {
         1 => Stage::Objective,
-        2 => Stage::Clause,
+        2 => Stage::Locks,
         3 => Stage::Rule,
+        6 => Stage::Clause,
         _ => Stage::MoreRules,
     }
 }

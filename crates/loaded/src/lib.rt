@@ -9,12 +9,13 @@ ghost use lib.ListN.{length};
 ghost use Rattle.plpb.specs.Lists.{_and_};
 ghost use Rattle.words.specs.Words.{wordAt, signed};
 ghost use Rattle.format.specs.Limits.{maxVariables, maxClauses, maxRules, maxTerms, weightLawful};
-ghost use Rattle.format.specs.Layout.{tableSize, termSize, clauseFirstAt, clauseCountAt, ruleFirstAt, ruleCountAt};
+ghost use Rattle.format.specs.Layout.{tableSize, termSize, locksAt, clauseFirstAt, clauseCountAt, ruleFirstAt, ruleCountAt};
 ghost use Rattle.format.specs.File.{boundsLawful};
 ghost use Rattle.format.specs.Tables.{isLoaded};
-ghost use Rattle.format.specs.Good.{everyFrom, chainFrom, termsFrom, coefficientGood, objectiveGood, clausesGood, rulesGood, ruleGood, goodBy};
+ghost use Rattle.format.specs.Good.{everyFrom, chainFrom, termsFrom, coefficientGood, objectiveGood, lockGood, locksGood, clausesGood, rulesGood, ruleGood, goodBy};
 use format::CLAUSE_COUNT;
 use format::CLAUSES;
+use format::LOCKS;
 use format::MAX_CLAUSES;
 use format::MAX_RULES;
 use format::MAX_TERMS;
@@ -25,6 +26,7 @@ use format::RULE_LOWER;
 use format::RULE_MODE;
 use format::RULE_UPPER;
 use format::RULES;
+use format::RULES_END;
 use format::TABLE_WORDS;
 use format::TABLES;
 use format::TERM_WORDS;
@@ -59,6 +61,20 @@ fn coefficients(tables: &[u8], variables: usize) -> bool
     let mut x = 1;
     while x < variables + 1 {
         all = all & (size(word(tables, OBJECTIVE + x)) <= 1000000);
+        x += 1;
+    }
+    all
+}
+
+// The locks, one for each variable.
+fn locks(tables: &[u8], variables: usize) -> bool
+    requires { ⌜ 4 * (locksAt + variables) ≤ length (now tables) ⌝ }
+    ensures { λ r. ⌜ r ≡ everyFrom (lockGood (wordAt (now (tables .entry)))) 1 variables ⌝ }
+{
+    let mut all = true;
+    let mut x = 1;
+    while x < variables + 1 {
+        all = all & (word(tables, LOCKS + x) <= 2);
         x += 1;
     }
     all
@@ -212,7 +228,17 @@ fn rules_good(tables: &[u8], terms: &[u8], rules: usize, total: usize) -> bool
     ensures { λ b. ⌜ b
         ≡ (rulesGood (wordAt (now (tables .entry))) and everyFrom (ruleGood (wordAt (now (tables .entry))) (wordAt (now (terms .entry)))) 0 rules) ⌝ }
 {
-    rule_chain(tables, terms, rules, total) & zeros(tables, RULES + 5 * rules, TABLE_WORDS)
+    rule_chain(tables, terms, rules, total) & zeros(tables, RULES + 5 * rules, RULES_END)
+}
+
+// The locks: 0, 1 or 2 for each variable, 0 beyond the last.
+fn locks_good(tables: &[u8], variables: usize) -> bool
+    requires { ⌜ variables ≡ wordAt (now tables) 0 ⌝ }
+    requires { ⌜ variables ≤ maxVariables ⌝ }
+    requires { ⌜ tableSize ≤ length (now tables) ⌝ }
+    ensures { λ r. ⌜ r ≡ locksGood (wordAt (now (tables .entry))) ⌝ }
+{
+    locks(tables, variables) & zeros(tables, RULES_END + variables, TABLE_WORDS)
 }
 
 // Tables of full size.
@@ -232,6 +258,7 @@ fn full_good(tables: &[u8], terms: &[u8]) -> bool
         & clauses_good(tables, clauses, rules)
         & rules_good(tables, terms, rules, total)
         & zeros(terms, 2 * total, TERM_WORDS)
+        & locks_good(tables, variables)
 }
 
 // Whether an accepted loading leaves these tables, for any bytes: format/proofs/IsLoaded.antt says that `isLoaded` is just that.

@@ -1,4 +1,4 @@
--- Laws of the objective written variable by variable: over zeros, terms whose numbers rise leave each variable's coefficient at its place.
+-- Laws of objective and locks written variable by variable: over zeros, terms whose numbers rise leave each variable's coefficient at its place.
 -- Assumes nothing.
 use Prim.Native.Nat.{ℕ, zero, suc, _+_, _*_, _-_, _/_, _≤_, _<_}
 use native.Mathlib.Omega.{arith}
@@ -6,26 +6,31 @@ use native.Mathlib.Nat.{add-zero}
 use native.Mathlib.Numerals.{one-add}
 use native.Mathlib.Decide.{decLt, ℕ-discrete}
 use mathlib.Core.Path.{_≡_, refl, sym, ap, _∙_}
-use mathlib.Core.Bool.{true}
+use mathlib.Core.Bool.{Bool, true, false, cond}
 use mathlib.Core.List.{List, [], _∷_, map}
+use lib.Dec.{eqb}
+use lib.IntN.{pos}
 use lib.ListN.{length, getD, set, replicate, length-set, length-replicate, getD-replicate, length-map}
 use lib.Seq.{ext-getD, getD-set-same, getD-set-other}
 use borrow.Author.Tests.{eq-eqb, ne-eqb, leb-true, ltb-true, le-leb}
 use Rattle.plpb.specs.Lists.{all, row}
-use Rattle.plpb.specs.Plan.{Term, Plan, rising, risingAbove}
+use Rattle.plpb.specs.Plan.{Term, Plan, lockOf, rising, risingAbove}
 use Rattle.words.specs.Words.{numAt, bytesOf, wordBytes, unsigned}
 use Rattle.words.specs.Writes.{put}
 use Rattle.words.proofs.Words.{Below, numAt-lt, length-bytesOf, unsigned-signed}
 use Rattle.words.proofs.Writes.{put-word, wordBytes-zeros, length-put}
-use Rattle.format.specs.File.{read, accepted, lengthAt, termAt, termsAt}
-use Rattle.format.specs.Tables.{coefficient}
+use Rattle.format.specs.Limits.{lockTerm, lockTerms}
+use Rattle.format.specs.File.{read, accepted, tagAt, lengthAt, termAt, termsAt, lockEntry, lockEntries, fieldLocks}
+use Rattle.format.specs.Tables.{coefficient, lockWord}
 use Rattle.format.proofs.Bools.{and-left, and-right, and-join}
-use Rattle.format.proofs.Lawful.{LawfulPlan, termWithin}
+use Rattle.format.proofs.Lawful.{LawfulTerms, termWithin}
 use Rattle.format.proofs.Lists.{length-row}
 use Rattle.format.proofs.Objective.{coefficient-below}
-use Rattle.tables.specs.Places.{firstClause}
-use Rattle.tables.specs.Sections.{objectiveWords, placed, inRange}
-use Rattle.tables.proofs.Found.{begun-file}
+use Rattle.format.proofs.Locks.{lock-dense}
+use Rattle.tables.specs.Places.{behindObjective, behindField, locksIn}
+use Rattle.tables.specs.Sections.{objectiveWords, lockWords, placed, inRange}
+use Rattle.judge.proofs.Judged.{tag-byte}
+use Rattle.tables.proofs.Found.{begun-file, begun-front}
 use Rattle.tables.proofs.Filled.{lawful-file}
 
 -- The words after the same writes.
@@ -38,15 +43,12 @@ ranged : (t : Term) (ts : List Term) → inRange (t ∷ ts) ≡ true → (1 ≤ 
 unfolding inRange all
 ranged t ts h = let a = and-left _ _ h in (leb-true _ _ (and-left _ _ a), leb-true _ _ (and-right _ _ a))
 
-pub range-first : (t : Term) (ts : List Term) → inRange (t ∷ ts) ≡ true → (1 ≤ t .variable) × (t .variable ≤ 512)
-range-first = ranged
-
-pub range-rest : (t : Term) (ts : List Term) → inRange (t ∷ ts) ≡ true → inRange ts ≡ true
+range-rest : (t : Term) (ts : List Term) → inRange (t ∷ ts) ≡ true → inRange ts ≡ true
 unfolding inRange all
 range-rest t ts h = and-right _ _ h
 
 -- Lawful terms of at most 512 variables are such.
-pub lawful-range : (n v : ℕ) (ts : List Term) → n ≤ 512 → risingAbove v ts ≡ true → all (termWithin n) ts ≡ true → inRange ts ≡ true
+lawful-range : (n v : ℕ) (ts : List Term) → n ≤ 512 → risingAbove v ts ≡ true → all (termWithin n) ts ≡ true → inRange ts ≡ true
 unfolding inRange all risingAbove termWithin
 lawful-range n v [] l r w = refl
 lawful-range n v (t ∷ ts) l r w =
@@ -124,71 +126,106 @@ getD-row f x zero i h = absurd (omega arith)
 getD-row f x (suc k) zero h = ap f (sym (add-zero x))
 getD-row f x (suc k) (suc i) h = getD-row f (suc x) k i (omega arith) ∙ ap f (let e : suc x + i ≡ x + suc i = omega arith in e)
 
-pub dense : (p : Plan) → LawfulPlan p → placed (p .objective) (replicate 2_048 0) ≡ wordBytes (objectiveWords p)
-unfolding objectiveWords rising
-dense p q =
+pub dense :
+    (n : ℕ) (ts : List Term) (h : ℕ → ℕ) → n ≤ 512 → LawfulTerms n ts → ((x : ℕ) → 1 ≤ x → unsigned (coefficient ts x) ≡ h x)
+    → placed ts (replicate 2_048 0) ≡ wordBytes (map h (row 1 512))
+unfolding rising
+dense n ts h small q same =
     let zs : List ℕ = replicate 512 0 in
-    let n : length zs ≡ 512 = length-replicate {A = ℕ} 512 0 in
-    let r = lawful-range (p .variables) 0 (p .objective) (q .high) (q .objective .rise) (q .objective .within) in
-    let m : length (map (λ x. unsigned (coefficient (p .objective) x)) (row 1 512)) ≡ 512 = length-map (row 1 512) (λ x. unsigned (coefficient (p .objective) x)) ∙ length-row 1 512 in
-    ap (placed (p .objective)) (sym (wordBytes-zeros 512))
-    ∙ placed-words (p .objective) zs n r
+    let z : length zs ≡ 512 = length-replicate {A = ℕ} 512 0 in
+    let r = lawful-range n 0 ts small (q .rise) (q .within) in
+    let m : length (map h (row 1 512)) ≡ 512 = length-map (row 1 512) h ∙ length-row 1 512 in
+    ap (placed ts) (sym (wordBytes-zeros 512))
+    ∙ placed-words ts zs z r
     ∙ ap wordBytes
-    (ext-getD 0 (stands (p .objective) zs) (map (λ x. unsigned (coefficient (p .objective) x)) (row 1 512)) (length-stands (p .objective) zs ∙ n ∙ sym m)
+    (ext-getD 0 (stands ts zs) (map h (row 1 512)) (length-stands ts zs ∙ z ∙ sym m)
     (λ i l.
-    let h : i < 512 = omega (arith, length-stands (p .objective) zs, n) in
-    at-place i h 0 (p .objective) zs n (getD-replicate 512 i 0 0 h) (q .objective .rise) (omega arith)
-    ∙ sym (getD-row (λ x. unsigned (coefficient (p .objective) x)) 1 512 i h ∙ ap (λ (x : ℕ). unsigned (coefficient (p .objective) x)) (one-add i))))
+    let b : i < 512 = omega (arith, length-stands ts zs, z) in
+    at-place i b 0 ts zs z (getD-replicate 512 i 0 0 b) (q .rise) (omega arith)
+    ∙ same (suc i) (omega arith) ∙ sym (getD-row h 1 512 i b ∙ ap h (one-add i))))
 
--- The coefficients of a field's terms written one after the other.
-pub record Placing (s : List ℕ) (from count : ℕ) (o : List ℕ) (at left : ℕ) (t : List ℕ) : Type 0 where
-  pub whole : placed (termsAt s at left) t ≡ placed (termsAt s from count) o
-  pub room : at + 6 * left ≤ length s
-  pub range : inRange (termsAt s at left) ≡ true
+-- Terms written one after the other: what those left would still write over the table is what all write over the first.
+pub record Placing (ts : List Term) (o : List ℕ) (left : List Term) (t : List ℕ) : Type 0 where
+  pub whole : placed left t ≡ placed ts o
+  pub range : inRange left ≡ true
   pub long : length t ≡ 2_048
   pub same : length t ≡ length o
 
-pub placing-start :
-    (s : List ℕ) (from count : ℕ) (o : List ℕ) → from + 6 * count ≤ length s → inRange (termsAt s from count) ≡ true → length o ≡ 2_048
-    → Placing s from count o from count o
-placing-start s from count o h r n = record { whole = refl; room = h; range = r; long = n; same = refl }
+pub placing-start : (ts : List Term) (o : List ℕ) → inRange ts ≡ true → length o ≡ 2_048 → Placing ts o ts o
+placing-start ts o r n = record { whole = refl; range = r; long = n; same = refl }
 
-less : (k : ℕ) → 0 < k → k ≡ suc (k - 1)
-less k h = omega arith
+module _ {ts : List Term} {o : List ℕ} {left : List Term} {t : List ℕ} (h : Placing ts o left t) where
+  module _ (x : Term) (rest : List Term) (e : left ≡ x ∷ rest) where
+    range-here : inRange (x ∷ rest) ≡ true
+    range-here = ap inRange (sym e) ∙ h .range
 
-module _ {s : List ℕ} {from count : ℕ} {o : List ℕ} {at left : ℕ} {t : List ℕ} (h : Placing s from count o at left t) where
-  module _ (l : 0 < left) where
-    range-here : inRange (termAt s at ∷ termsAt s (at + 6) (left - 1)) ≡ true
-    unfolding termsAt
-    range-here = ap (λ (k : ℕ). inRange (termsAt s at k)) (sym (less left l)) ∙ h .range
+    pub place-range : (1 ≤ x .variable) × (x .variable ≤ 512)
+    place-range = ranged x rest range-here
 
-    pub place-range : (1 ≤ numAt 2 s at) × (numAt 2 s at ≤ 512)
-    unfolding termAt
-    place-range = range-first (termAt s at) (termsAt s (at + 6) (left - 1)) range-here
-
-    pub placing-more :
-        (u : List ℕ) → Below 256 s → u ≡ put (4 * (numAt 2 s at - 1)) (bytesOf 4 (numAt 4 s (at + 2))) t
-        → Placing s from count o (at + 6) (left - 1) u
-    unfolding termsAt termAt placed
-    placing-more u b e =
+    pub placing-more : (u : List ℕ) → u ≡ put (4 * (x .variable - 1)) (bytesOf 4 (unsigned (x .weight))) t → Placing ts o rest u
+    unfolding placed
+    placing-more u k =
         let (a, c) = place-range in
-        let w = unsigned-signed (numAt 4 s (at + 2)) (numAt-lt 4 s (at + 2) b) in
+        let w = bytesOf 4 (unsigned (x .weight)) in
         let long : length u ≡ length t =
-        ap length e ∙ length-put (4 * (numAt 2 s at - 1)) (bytesOf 4 (numAt 4 s (at + 2))) t (omega (arith, length-bytesOf 4 (numAt 4 s (at + 2)), h .long)) in
+        ap length k ∙ length-put (4 * (x .variable - 1)) w t (omega (arith, length-bytesOf 4 (unsigned (x .weight)), h .long)) in
         record {
-          whole =
-              ap (placed (termsAt s (at + 6) (left - 1))) (e ∙ ap (λ (v : ℕ). put (4 * (numAt 2 s at - 1)) (bytesOf 4 v) t) (sym w))
-              ∙ ap (λ (k : ℕ). placed (termsAt s at k) t) (sym (less left l))
-              ∙ h .whole;
-          room = omega (arith, h .room);
-          range = range-rest (termAt s at) (termsAt s (at + 6) (left - 1)) range-here;
+          whole = ap (placed rest) k ∙ ap (λ (l : List Term). placed l t) (sym e) ∙ h .whole;
+          range = range-rest x rest range-here;
           long = long ∙ h .long;
           same = long ∙ h .same;
         }
 
-  pub placing-end : left ≤ 0 → t ≡ placed (termsAt s from count) o
-  unfolding termsAt placed
-  placing-end l = ap (λ (k : ℕ). placed (termsAt s at k) t) (let e : 0 ≡ left = omega arith in e) ∙ h .whole
+  pub placing-end : left ≡ [] → t ≡ placed ts o
+  unfolding placed
+  placing-end e = ap (λ (l : List Term). placed l t) (sym e) ∙ h .whole
+
+-- The terms left of a field, and of the locks of one.
+less : (k : ℕ) → 0 < k → k ≡ suc (k - 1)
+less k h = omega arith
+
+none : (k : ℕ) → k ≤ 0 → k ≡ 0
+none k h = omega arith
+
+module _ (s : List ℕ) (at left : ℕ) where
+  pub terms-left : 0 < left → termsAt s at left ≡ termAt s at ∷ termsAt s (at + 6) (left - 1)
+  unfolding termsAt
+  terms-left h = ap (termsAt s at) (less left h)
+
+  pub no-terms-left : left ≤ 0 → termsAt s at left ≡ []
+  unfolding termsAt
+  no-terms-left h = ap (termsAt s at) (none left h)
+
+  pub locks-left : 0 < left → map lockTerm (lockEntries s at left) ≡ lockTerm (lockEntry s at) ∷ map lockTerm (lockEntries s (at + 3) (left - 1))
+  unfolding lockEntries
+  locks-left h = ap (λ (k : ℕ). map lockTerm (lockEntries s at k)) (less left h)
+
+  pub no-locks-left : left ≤ 0 → map lockTerm (lockEntries s at left) ≡ []
+  unfolding lockEntries
+  no-locks-left h = ap (λ (k : ℕ). map lockTerm (lockEntries s at k)) (none left h)
+
+-- What is written for a term, and for a lock.
+pub term-written :
+    (s : List ℕ) (at : ℕ) (t u : List ℕ) → Below 256 s → u ≡ put (4 * (numAt 2 s at - 1)) (bytesOf 4 (numAt 4 s (at + 2))) t
+    → u ≡ put (4 * (termAt s at .variable - 1)) (bytesOf 4 (unsigned (termAt s at .weight))) t
+unfolding termAt
+term-written s at t u b e =
+    e ∙ ap (λ (v : ℕ). put (4 * (numAt 2 s at - 1)) (bytesOf 4 v) t) (sym (unsigned-signed (numAt 4 s (at + 2)) (numAt-lt 4 s (at + 2) b)))
+
+lock-weight : (b : Bool) → cond b 2 1 ≡ unsigned (cond b (pos 2) (pos 1))
+unfolding unsigned
+lock-weight true = refl
+lock-weight false = refl
+
+pub value-byte : (s : List ℕ) (at : ℕ) → getD s at 0 ≡ numAt 1 s at
+unfolding tagAt
+value-byte s at = tag-byte s at
+
+pub lock-written :
+    (s : List ℕ) (at : ℕ) (t u : List ℕ) → u ≡ put (4 * (numAt 2 s at - 1)) (bytesOf 4 (cond (eqb (numAt 1 s (at + 2)) 1) 2 1)) t
+    → u ≡ put (4 * (lockTerm (lockEntry s at) .variable - 1)) (bytesOf 4 (unsigned (lockTerm (lockEntry s at) .weight))) t
+unfolding lockTerm lockEntry
+lock-written s at t u e = e ∙ ap (λ (v : ℕ). put (4 * (numAt 2 s at - 1)) (bytesOf 4 v) t) (lock-weight (eqb (numAt 1 s (at + 2)) 1))
 
 -- The objective of an accepted file.
 module _ (s : List ℕ) (p : Plan) (a : read s ≡ accepted p) (k : ℕ) (e : k ≡ numAt 2 s 6) where
@@ -197,8 +234,8 @@ module _ (s : List ℕ) (p : Plan) (a : read s ≡ accepted p) (k : ℕ) (e : k 
   objective-terms = begun-file s p a .objective ∙ ap (λ (n : ℕ). termsAt s 8 (n / 6)) (sym e)
 
   pub objective-room : 8 + 6 * (k / 6) ≤ length s
-  unfolding firstClause lengthAt
-  objective-room = omega (arith, e, begun-file s p a .room)
+  unfolding behindObjective lengthAt
+  objective-room = omega (arith, e, begun-front s p a)
 
   pub objective-range : inRange (termsAt s 8 (k / 6)) ≡ true
   unfolding rising
@@ -208,8 +245,48 @@ module _ (s : List ℕ) (p : Plan) (a : read s ≡ accepted p) (k : ℕ) (e : k 
 
   pub objective-done :
       (o t u : List ℕ) → length o ≡ 2_048 → t ≡ replicate (length o) 0 → u ≡ placed (termsAt s 8 (k / 6)) t → u ≡ wordBytes (objectiveWords p)
+  unfolding objectiveWords
   objective-done o t u n c r =
+      let q = lawful-file s p a in
       r
       ∙ ap (λ (ts : List Term). placed ts t) (sym objective-terms)
       ∙ ap (placed (p .objective)) (c ∙ ap (λ (m : ℕ). replicate m 0) n)
-      ∙ dense p (lawful-file s p a)
+      ∙ dense (p .variables) (p .objective) (λ x. unsigned (coefficient (p .objective) x)) (q .high) (q .objective) (λ x l. refl)
+
+-- Its locks.
+module _ (s : List ℕ) (p : Plan) (a : read s ≡ accepted p) (at k : ℕ) (place : at ≡ behindObjective s) (e : k ≡ locksIn s at) where
+  entries : (b : Bool) (at : ℕ) → eqb (tagAt s at) 6 ≡ b → fieldLocks s at ≡ lockEntries s (at + 3) (locksIn s at)
+  unfolding fieldLocks locksIn lockEntries
+  entries true at t = rw t
+  entries false at t = rw t
+
+  locks-terms : lockTerms p ≡ map lockTerm (lockEntries s (at + 3) k)
+  locks-terms =
+      ap (map lockTerm)
+      (begun-file s p a .locks ∙ ap (fieldLocks s) (sym place) ∙ entries _ at refl ∙ ap (lockEntries s (at + 3)) (sym e))
+
+  in-field : (b : Bool) → eqb (tagAt s at) 6 ≡ b → 3 * locksIn s at ≤ lengthAt s at
+  unfolding locksIn
+  in-field true t = rw t (omega arith)
+  in-field false t = rw t (omega arith)
+
+  pub locks-room : at + 3 + 3 * k ≤ length s
+  unfolding behindField
+  locks-room = omega (arith, e, in-field _ refl, ap (λ (n : ℕ). n + 3 + lengthAt s n) place, begun-file s p a .body)
+
+  pub locks-range : inRange (map lockTerm (lockEntries s (at + 3) k)) ≡ true
+  unfolding rising
+  locks-range =
+      let q = lawful-file s p a in
+      ap inRange (sym locks-terms) ∙ lawful-range (p .variables) 0 (lockTerms p) (q .high) (q .locks .rise) (q .locks .within)
+
+  pub locks-done :
+      (o t u : List ℕ) → length o ≡ 2_048 → t ≡ replicate (length o) 0 → u ≡ placed (map lockTerm (lockEntries s (at + 3) k)) t
+      → u ≡ wordBytes (lockWords p)
+  unfolding lockWords
+  locks-done o t u n c r =
+      let q = lawful-file s p a in
+      r
+      ∙ ap (λ (ts : List Term). placed ts t) (sym locks-terms)
+      ∙ ap (placed (lockTerms p)) (c ∙ ap (λ (m : ℕ). replicate m 0) n)
+      ∙ dense (p .variables) (lockTerms p) (λ x. lockWord (lockOf p x)) (q .high) (q .locks) (λ x l. lock-dense p x (q .locks .within) l)

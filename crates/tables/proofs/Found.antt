@@ -15,31 +15,38 @@ use Rattle.plpb.specs.Plan.{Rule, Clause, Plan}
 use Rattle.plpb.specs.Tallies.{rulesOf}
 use Rattle.words.specs.Words.{numAt}
 use Rattle.format.specs.File as File
-use Rattle.format.specs.File.{State, Contents, refused, accepted, readFrom, read, begin, planOf, next, stageAfter, addField, finish, mayStand, tagAt, lengthAt, lengthLawful, termsIn, termsAt, fieldTerms, ruleAt, boundsLawful, modeAt, lowerAt, upperAt, wrongBounds, behind}
+use Rattle.format.specs.File.{State, Contents, refused, accepted, readFrom, read, begin, planOf, next, stageAfter, addField, finish, mayStand, tagAt, lengthAt, lengthLawful, termsIn, termsAt, fieldTerms, fieldLocks, ruleAt, boundsLawful, modeAt, lowerAt, upperAt, wrongBounds, behind}
 use Rattle.format.proofs.Bools.{and-left, true-T}
 use Rattle.format.proofs.Order.{Standing, begins, rules, ends, standing}
-use Rattle.format.proofs.Fields.{Clean, read-end}
-use Rattle.format.proofs.Held.{not-refused, accepted-clean, accepted-behind, mapped}
-use Rattle.tables.specs.Places.{Found, Reads, Ran, RuleHere, firstClause, behindField, ruleFrom}
+use Rattle.format.proofs.Fields.{Clean, read-end, read-past}
+use Rattle.format.proofs.Held.{not-refused, accepted-clean, accepted-behind, mapped, held}
+use Rattle.tables.specs.Places.{Found, Reads, Ran, RuleHere, behindObjective, pastLocks, locksIn, firstClause, behindField, ruleFrom}
 use Rattle.judge.proofs.Judged.{tag-byte}
 
 -- What a field adds, by its tag.
 module _ (s : List ℕ) (at : ℕ) (d c : Contents) (same : addField s at d ≡ c) where
-  add-count : tagAt s at ≡ 1 → (c .variables ≡ numAt 2 s (at + 3)) × (c .objective ≡ d .objective) × (c .rules ≡ d .rules) × (c .clauses ≡ d .clauses)
+  add-count : tagAt s at ≡ 1 → (c .variables ≡ numAt 2 s (at + 3)) × (c .objective ≡ d .objective) × (c .locks ≡ d .locks) × (c .rules ≡ d .rules) × (c .clauses ≡ d .clauses)
   unfolding addField
   add-count t =
       let e = rw t at same in (
         ap (λ (x : Contents). x .variables) (sym e),
         ap (λ (x : Contents). x .objective) (sym e),
+        ap (λ (x : Contents). x .locks) (sym e),
         ap (λ (x : Contents). x .rules) (sym e),
         ap (λ (x : Contents). x .clauses) (sym e),
       )
 
-  add-objective : tagAt s at ≡ 2 → (c .objective ≡ fieldTerms s at) × (c .rules ≡ d .rules) × (c .clauses ≡ d .clauses)
+  add-objective : tagAt s at ≡ 2 → (c .objective ≡ fieldTerms s at) × (c .locks ≡ d .locks) × (c .clauses ≡ d .clauses)
   unfolding addField
   add-objective t =
       let e = rw t at same in
-      (ap (λ (x : Contents). x .objective) (sym e), ap (λ (x : Contents). x .rules) (sym e), ap (λ (x : Contents). x .clauses) (sym e))
+      (ap (λ (x : Contents). x .objective) (sym e), ap (λ (x : Contents). x .locks) (sym e), ap (λ (x : Contents). x .clauses) (sym e))
+
+  add-locks : tagAt s at ≡ 6 → (c .locks ≡ fieldLocks s at) × (c .rules ≡ d .rules) × (c .clauses ≡ d .clauses)
+  unfolding addField
+  add-locks t =
+      let e = rw t at same in
+      (ap (λ (x : Contents). x .locks) (sym e), ap (λ (x : Contents). x .rules) (sym e), ap (λ (x : Contents). x .clauses) (sym e))
 
   add-clause : tagAt s at ≡ 3 → (c .rules ≡ []) × (c .clauses ≡ d .rules ∷ d .clauses)
   unfolding addField
@@ -56,7 +63,7 @@ finished false n o a c e = cc
 ended : (s : List ℕ) (st : State) (c : Contents) → finish s st ≡ accepted c → (c .rules ≡ []) × (c .clauses ≡ [])
 unfolding finish
 ended s st c e =
-    let h = finished (ltb (st .at + 3) (length s)) 7 (st .at + 3) (record { variables = 0; objective = []; rules = []; clauses = [] }) c e in
+    let h = finished (ltb (st .at + 3) (length s)) 7 (st .at + 3) (record { variables = 0; objective = []; locks = []; rules = []; clauses = [] }) c e in
     (ap (λ (x : Contents). x .rules) (sym h), ap (λ (x : Contents). x .clauses) (sym h))
 
 -- One field of a reading from a state.
@@ -207,11 +214,63 @@ none-left {s} f e =
       clauses = f .clauses;
     }
 
+-- The field of locks, where there is one.
+record Third (s : List ℕ) (at : ℕ) (c : Contents) : Type 0 where
+  head : at + 3 ≤ length s
+  body : behindField s at ≤ length s
+  locks : c .locks ≡ fieldLocks s at
+  found : Found s (pastLocks s at) [] (c .clauses)
+
+abbrev third-state : ℕ → ℕ → State
+third-state at n = record { at = at; stage = File.atLocks; variables = n; clauses = 0; rules = 0; terms = 0 }
+
+module _ (s : List ℕ) (left at n : ℕ) (c : Contents) (e : readFrom s left (third-state at n) ≡ accepted c) where
+  third-clean : Clean s (third-state at n)
+  third-clean = clean-at s (third-state at n) c left e
+
+  -- It stands here.
+  third-field : tagAt s at ≡ 6 → Third s at c
+  unfolding next stageAfter behind behindField pastLocks
+  third-field t =
+      let (k, d, on, same) = behind-at s (third-state at n) c left e (λ q. absurd (omega (arith, t))) in
+      let (ks, r, cl) = add-locks s at d c same t in
+      let f : Found s (at + 3 + lengthAt s at) (c .rules) (c .clauses) =
+      record { left = k; state = next s (third-state at n); contents = d; reading = on; here = refl; stage = rw t; rules = sym r; clauses = sym cl } in
+      record {
+        head = third-clean .head;
+        body = third-clean .body;
+        locks = ks;
+        found = subst (λ (m : ℕ). Found s m [] (c .clauses)) (rw t) (none-left f (rw t));
+      }
+
+  -- Something else does: reading goes on as from behind one.
+  third-none : eqb (tagAt s at) 6 ≡ false → Third s at c
+  unfolding behind behindField pastLocks fieldLocks
+  third-none t =
+      let on = sym (read-past s left at n 0 0 0 t) ∙ e in
+      let st : State = record { at = at; stage = File.atClause; variables = n; clauses = 0; rules = 0; terms = 0 } in
+      let h = held s left st c (record { stage = refl; clauses = omega arith; rules = omega arith; terms = omega arith }) on in
+      let f : Found s at (c .rules) (c .clauses) =
+      record { left = left; state = st; contents = c; reading = on; here = refl; stage = refl; rules = refl; clauses = refl } in
+      record {
+        head = third-clean .head;
+        body = third-clean .body;
+        locks = rw t (h .locks);
+        found = subst (λ (m : ℕ). Found s m [] (c .clauses)) (rw t) (none-left f refl);
+      }
+
+  third : Third s at c
+  third = by (eqb (tagAt s at) 6) refl
+    where
+      by : (b : Bool) → eqb (tagAt s at) 6 ≡ b → Third s at c
+      by true t = third-field (eqb-true _ _ t)
+      by false t = third-none t
+
 -- The first two fields: the variable count and the objective.
 record Second (s : List ℕ) (at : ℕ) (c : Contents) : Type 0 where
   room : behindField s at ≤ length s
   objective : c .objective ≡ termsAt s (at + 3) (lengthAt s at / 6)
-  found : Found s (behindField s at) [] (c .clauses)
+  third : Third s (behindField s at) c
 
 abbrev second-state : ℕ → ℕ → State
 second-state at n = record { at = at; stage = File.atObjective; variables = n; clauses = 0; rules = 0; terms = 0 }
@@ -228,21 +287,36 @@ module _ (s : List ℕ) (left at n : ℕ) (c : Contents) (e : readFrom s left (s
   unfolding fieldTerms termsIn
   second-terms = rw second-tag
 
+  second-next : next s (second-state at n) ≡ third-state (at + 3 + lengthAt s at) n
+  unfolding next stageAfter
+  second-next = rw second-tag
+
   second : Second s at c
-  unfolding next stageAfter behind behindField
+  unfolding behindField
   second =
       let t = second-tag in
       let (k, d, on, same) = behind-at s (second-state at n) c left e (λ q. absurd (omega (arith, t))) in
-      let (o, r, cl) = add-objective s at d c same t in
-      let f : Found s (behindField s at) (c .rules) (c .clauses) =
-      record { left = k; state = next s (second-state at n); contents = d; reading = on; here = refl; stage = rw t; rules = sym r; clauses = sym cl } in
-      record { room = second-clean .body; objective = o ∙ second-terms; found = none-left f (rw t) }
+      let (o, ks, cl) = add-objective s at d c same t in
+      let h = third s k (at + 3 + lengthAt s at) n d (ap (readFrom s k) (sym second-next) ∙ on) in
+      record {
+        room = second-clean .body;
+        objective = o ∙ second-terms;
+        third =
+            record {
+              head = h .head;
+              body = h .body;
+              locks = ks ∙ h .locks;
+              found = subst (λ (x : List Clause). Found s (pastLocks s (at + 3 + lengthAt s at)) [] x) (sym cl) (h .found);
+            };
+      }
 
 -- What an accepted file says, and where its clauses begin.
 pub record Begun (s : List ℕ) (p : Plan) : Type 0 where
-  pub room : firstClause s ≤ length s
+  pub room : behindObjective s + 3 ≤ length s
+  pub body : behindField s (behindObjective s) ≤ length s
   pub variables : p .variables ≡ numAt 2 s 3
   pub objective : p .objective ≡ termsAt s 8 (lengthAt s 5 / 6)
+  pub locks : p .locks ≡ fieldLocks s (behindObjective s)
   pub found : Found s (firstClause s) [] (p .clauses)
 
 module _ (s : List ℕ) (left : ℕ) (c : Contents) (e : readFrom s left begin ≡ accepted c) where
@@ -261,25 +335,27 @@ module _ (s : List ℕ) (left : ℕ) (c : Contents) (e : readFrom s left begin �
   unfolding begin next stageAfter
   first-next = rw first-tag
 
-  first-two : (variables : c .variables ≡ numAt 2 s 3) × (d : Contents) × (c .objective ≡ d .objective) × (c .clauses ≡ d .clauses) × Second s 5 d
+  first-two : (variables : c .variables ≡ numAt 2 s 3) × (d : Contents) × (c .objective ≡ d .objective) × (c .locks ≡ d .locks) × (c .clauses ≡ d .clauses) × Second s 5 d
   unfolding begin
   first-two =
       let t = first-tag in
       let (k, d, on, same) = behind-at s begin c left e (λ q. absurd (omega (arith, t))) in
-      let (v, o, r, cl) = add-count s 0 d c same t in
-      (v, d, o, cl, subst (λ (n : ℕ). Second s (3 + n) d) first-size (second s k (3 + lengthAt s 0) (numAt 2 s 3) d (ap (readFrom s k) (sym first-next) ∙ on)))
+      let (v, o, ks, r, cl) = add-count s 0 d c same t in
+      (v, d, o, ks, cl, subst (λ (n : ℕ). Second s (3 + n) d) first-size (second s k (3 + lengthAt s 0) (numAt 2 s 3) d (ap (readFrom s k) (sym first-next) ∙ on)))
 
 pub begun-file : (s : List ℕ) (p : Plan) → read s ≡ accepted p → Begun s p
-unfolding read planOf firstClause behindField
+unfolding read planOf behindObjective behindField
 begun-file s p a =
     let (c, e, same) = mapped planOf (readFrom s (length s) begin) p a in
-    let (v, d, o, cl, h) = first-two s (length s) c e in
+    let (v, d, o, ks, cl, h) = first-two s (length s) c e in
     subst (λ (q : Plan). Begun s q) same
     (record {
-      room = h .room;
+      room = h .third .head;
+      body = h .third .body;
       variables = v;
       objective = o ∙ h .objective;
-      found = subst (λ (x : List Clause). Found s (8 + lengthAt s 5) [] x) (sym cl) (h .found);
+      locks = ks ∙ h .third .locks;
+      found = subst (λ (x : List Clause). Found s (firstClause s) [] x) (sym cl) (h .third .found);
     })
 
 -- The rules left of a file, at the place of the first of them, or at the end.
@@ -388,5 +464,27 @@ module _ {s : List ℕ} {from at count : ℕ} (h : Running s from at count) wher
         (omega (arith, ap length none), subst (λ (x : List Rule). Found s at x cs) none g),
   )
 
+-- What stands before the clauses is there.
+pub begun-front : (s : List ℕ) (p : Plan) → read s ≡ accepted p → behindObjective s + 3 ≤ length s
+begun-front s p a = begun-file s p a .room
+
 pub begun-room : (s : List ℕ) (p : Plan) → read s ≡ accepted p → firstClause s + 3 ≤ length s
 begun-room s p a = found-room (begun-file s p a .found)
+
+-- A field of locks told by its first byte: the place behind it, and how many it has.
+module _ (s : List ℕ) (at : ℕ) where
+  pub past-field : getD s at 0 ≡ 6 → behindField s at ≡ pastLocks s at
+  unfolding pastLocks
+  past-field e = rw (eq-eqb (tagAt s at) 6 (sym (tag-byte s at) ∙ e))
+
+  pub past-none : (getD s at 0 ≡ 6 → ⊥) → at ≡ pastLocks s at
+  unfolding pastLocks
+  past-none n = rw (ne-eqb (tagAt s at) 6 (λ e. n (tag-byte s at ∙ e)))
+
+  pub locks-some : (k : ℕ) → getD s at 0 ≡ 6 → k ≡ numAt 2 s (at + 1) → k / 3 ≡ locksIn s at
+  unfolding locksIn lengthAt
+  locks-some k e q = rw (eq-eqb (tagAt s at) 6 (sym (tag-byte s at) ∙ e), q)
+
+  pub locks-none : (getD s at 0 ≡ 6 → ⊥) → 0 ≡ locksIn s at
+  unfolding locksIn
+  locks-none n = rw (ne-eqb (tagAt s at) 6 (λ e. n (tag-byte s at ∙ e)))

@@ -10,7 +10,7 @@ use lib.ListN.{length, drop, length-append, length-map}
 use borrow.Author.Tests.{lt-ltb, le-ltb}
 use borrow.Rule.Slice.PartMut.{postOf, putMid}
 use Rattle.plpb.specs.Lists.{_or_, row}
-use Rattle.plpb.specs.Plan.{Plan}
+use Rattle.plpb.specs.Plan.{Plan, lockOf}
 use Rattle.plpb.specs.Tallies.{rulesOf}
 use Rattle.words.specs.Words.{wordBytes, unsigned}
 use Rattle.words.specs.Writes.{front, put}
@@ -18,7 +18,7 @@ use Rattle.words.proofs.Words.{length-wordBytes}
 use Rattle.words.proofs.Writes.{front-before, length-front, length-put, lent-part, put-put, wordBytes-append}
 use Rattle.format.specs.Limits.{termCount}
 use Rattle.format.specs.File.{Reading, refused, accepted, read}
-use Rattle.format.specs.Tables.{coefficient, clauseEntries, ruleEntries, tableWords, termWords, tableSize, termSize}
+use Rattle.format.specs.Tables.{coefficient, clauseEntries, ruleEntries, lockWord, tableWords, termWords, tableSize, termSize}
 use Rattle.format.proofs.Lists.{length-row}
 use Rattle.format.proofs.Lawful.{LawfulPlan, room-for}
 use Rattle.format.proofs.Spells.{length-padTo}
@@ -27,9 +27,9 @@ use Rattle.judge.specs.declared.Answer.{Answer}
 use Rattle.judge.specs.declared.Answer.the-variants.{Accepted, Refused}
 use Rattle.tables.specs.Load.{outcome, tooSmall, loading, tablesOf, termsOf, tablesAfter, termsAfter}
 use Rattle.tables.specs.Places.{said}
-use Rattle.tables.specs.Sections.{objectiveWords, clauseWords, ruleWords}
+use Rattle.tables.specs.Sections.{objectiveWords, clauseWords, ruleWords, lockWords}
 use Rattle.tables.proofs.Filled.{lawful-file}
-use Rattle.format.specs.Layout.{clauseSectionSize, clauseWordCount, clausesByte, objectiveByte, objectiveSize, ruleSectionSize, ruleWordCount, rulesByte}
+use Rattle.format.specs.Layout.{clauseSectionSize, clauseWordCount, clausesByte, lockSectionSize, locksByte, objectiveByte, objectiveSize, ruleSectionSize, ruleWordCount, rulesByte}
 
 -- How long each section is.
 module _ (p : Plan) (q : LawfulPlan p) where
@@ -51,10 +51,20 @@ module _ (p : Plan) (q : LawfulPlan p) where
       let n = length-ruleEntries 0 (rulesOf p) in
       length-wordBytes (ruleWords p) ∙ omega (arith, length-padTo ruleWordCount (ruleEntries 0 (rulesOf p)) (omega (arith, n, q .ruleCount)))
 
+  locks-long : length (wordBytes (lockWords p)) ≡ lockSectionSize
+  unfolding lockWords
+  locks-long = length-wordBytes (lockWords p) ∙ omega (arith, length-map (row 1 512) (λ x. lockWord (lockOf p x)), length-row 1 512)
+
   pub terms-long : length (wordBytes (termWords p)) ≡ termSize
   terms-long = omega (arith, length-wordBytes (termWords p), length-termWords p (room-for p q))
 
-  -- The three sections behind the counts, written one behind the other.
+  -- The sections behind the counts, written one behind the other: the first three, then the locks.
+  abbrev three : List ℕ → List ℕ → List ℕ → List ℕ → List ℕ
+  three o y z w = putMid rulesByte ruleSectionSize (putMid clausesByte clauseSectionSize (putMid objectiveByte objectiveSize o y) z) w
+
+  abbrev four : List ℕ → List ℕ → List ℕ → List ℕ → List ℕ → List ℕ
+  four o y z w k = putMid locksByte lockSectionSize (three o y z w) k
+
   module _ (o y z w : List ℕ) (n : tableSize ≤ length o) (a : y ≡ wordBytes (objectiveWords p)) (b : z ≡ wordBytes (clauseWords p)) (c : w ≡ wordBytes (ruleWords p)) where
     ly : length y ≡ objectiveSize
     ly = ap length a ∙ objective-long
@@ -65,38 +75,60 @@ module _ (p : Plan) (q : LawfulPlan p) where
     lw : length w ≡ ruleSectionSize
     lw = ap length c ∙ rules-long
 
-    two : put clausesByte z (put objectiveByte y o) ≡ put objectiveByte (y ++ z) o
-    two = ap (λ (k : ℕ). put (16 + k) z (put objectiveByte y o)) (sym ly) ∙ put-put objectiveByte y z o (omega (arith, ly, n))
+    long : objectiveByte + length (y ++ z ++ w) ≡ locksByte
+    long = omega (arith, length-append (y ++ z) w, length-append y z, ly, lz, lw)
 
-    pub behind-head : putMid rulesByte ruleSectionSize (putMid clausesByte clauseSectionSize (putMid objectiveByte objectiveSize o y) z) w ≡ put objectiveByte (y ++ z ++ w) o
-    behind-head =
-        lent-part rulesByte tableSize _ w (omega arith) lw
+    two : put clausesByte z (put objectiveByte y o) ≡ put objectiveByte (y ++ z) o
+    two = ap (λ (m : ℕ). put (16 + m) z (put objectiveByte y o)) (sym ly) ∙ put-put objectiveByte y z o (omega (arith, ly, n))
+
+    behind-three : three o y z w ≡ put objectiveByte (y ++ z ++ w) o
+    behind-three =
+        lent-part rulesByte locksByte _ w (omega arith) lw
         ∙ ap (put rulesByte w) (lent-part clausesByte rulesByte _ z (omega arith) lz ∙ ap (put clausesByte z) (lent-part objectiveByte clausesByte o y (omega arith) ly) ∙ two)
-        ∙ ap (λ (k : ℕ). put k w (put objectiveByte (y ++ z) o)) (let e : rulesByte ≡ objectiveByte + length (y ++ z) = omega (arith, length-append y z, ly, lz) in e)
+        ∙ ap (λ (m : ℕ). put m w (put objectiveByte (y ++ z) o)) (let e : rulesByte ≡ objectiveByte + length (y ++ z) = omega (arith, length-append y z, ly, lz) in e)
         ∙ put-put objectiveByte (y ++ z) w o (omega (arith, length-append y z, ly, lz, n))
 
-    pub behind-long : length (putMid rulesByte ruleSectionSize (putMid clausesByte clauseSectionSize (putMid objectiveByte objectiveSize o y) z) w) ≡ length o
-    behind-long =
-        ap length behind-head
-        ∙ length-put objectiveByte (y ++ z ++ w) o (omega (arith, length-append (y ++ z) w, length-append y z, ly, lz, lw, n))
+    pub three-long : length (three o y z w) ≡ length o
+    three-long = ap length behind-three ∙ length-put objectiveByte (y ++ z ++ w) o (omega (arith, long, n))
 
-    pub tables-whole :
-        (u : List ℕ) {v cl ru te : ℕ} → v ≡ p .variables → cl ≡ length (p .clauses) → ru ≡ length (rulesOf p) → te ≡ termCount p
-        → u ≡ front (wordBytes (v ∷ cl ∷ ru ∷ te ∷ [])) (putMid rulesByte ruleSectionSize (putMid clausesByte clauseSectionSize (putMid objectiveByte objectiveSize o y) z) w)
-        → u ≡ front (wordBytes (tableWords p)) o
-    unfolding tableWords objectiveWords clauseWords ruleWords
-    tables-whole u {v} {cl} {ru} {te} pv pc pr pt e =
-        let hs = v ∷ cl ∷ ru ∷ te ∷ [] in
-        let m : length (wordBytes hs) ≡ 16 = length-wordBytes hs in
-        let bytes : y ++ z ++ w ≡ wordBytes (objectiveWords p ++ (clauseWords p ++ ruleWords p)) =
-        append-assoc y z w
-        ∙ ap₂ _++_ a (ap₂ _++_ b c ∙ sym (wordBytes-append (clauseWords p) (ruleWords p)))
-        ∙ sym (wordBytes-append (objectiveWords p) (clauseWords p ++ ruleWords p)) in
-        e
-        ∙ ap (front (wordBytes hs)) (behind-head ∙ ap (λ (k : ℕ). put k (y ++ z ++ w) o) (sym m))
-        ∙ front-before (wordBytes hs) (y ++ z ++ w) o (omega (arith, m, n))
-        ∙ ap (λ (x : List ℕ). front x o) (ap (λ (x : List ℕ). wordBytes hs ++ x) bytes ∙ sym (wordBytes-append hs (objectiveWords p ++ (clauseWords p ++ ruleWords p))))
-        ∙ ap (λ (ws : List ℕ). front (wordBytes (ws ++ (objectiveWords p ++ (clauseWords p ++ ruleWords p)))) o) (λ i. pv i ∷ pc i ∷ pr i ∷ pt i ∷ [])
+    module _ (k : List ℕ) (d : k ≡ wordBytes (lockWords p)) where
+      lk : length k ≡ lockSectionSize
+      lk = ap length d ∙ locks-long
+
+      behind-head : four o y z w k ≡ put objectiveByte (y ++ z ++ w ++ k) o
+      behind-head =
+          lent-part locksByte tableSize _ k (omega arith) lk
+          ∙ ap (put locksByte k) behind-three
+          ∙ ap (λ (m : ℕ). put m k (put objectiveByte (y ++ z ++ w) o)) (sym long)
+          ∙ put-put objectiveByte (y ++ z ++ w) k o (omega (arith, long, n))
+
+      pub behind-long : length (four o y z w k) ≡ length o
+      behind-long =
+          ap length behind-head ∙ length-put objectiveByte (y ++ z ++ w ++ k) o (omega (arith, length-append (y ++ z ++ w) k, long, lk, n))
+
+      abbrev sections : List ℕ
+      sections = objectiveWords p ++ (clauseWords p ++ (ruleWords p ++ lockWords p))
+
+      bytes : y ++ z ++ w ++ k ≡ wordBytes sections
+      bytes =
+          append-assoc (y ++ z) w k
+          ∙ append-assoc y z (w ++ k)
+          ∙ ap₂ _++_ a (ap₂ _++_ b (ap₂ _++_ c d ∙ sym (wordBytes-append (ruleWords p) (lockWords p))) ∙ sym (wordBytes-append (clauseWords p) (ruleWords p ++ lockWords p)))
+          ∙ sym (wordBytes-append (objectiveWords p) (clauseWords p ++ (ruleWords p ++ lockWords p)))
+
+      pub tables-whole :
+          (u : List ℕ) {v cl ru te : ℕ} → v ≡ p .variables → cl ≡ length (p .clauses) → ru ≡ length (rulesOf p) → te ≡ termCount p
+          → u ≡ front (wordBytes (v ∷ cl ∷ ru ∷ te ∷ [])) (four o y z w k)
+          → u ≡ front (wordBytes (tableWords p)) o
+      unfolding tableWords objectiveWords clauseWords ruleWords lockWords
+      tables-whole u {v} {cl} {ru} {te} pv pc pr pt e =
+          let hs = v ∷ cl ∷ ru ∷ te ∷ [] in
+          let m : length (wordBytes hs) ≡ 16 = length-wordBytes hs in
+          e
+          ∙ ap (front (wordBytes hs)) (behind-head ∙ ap (λ (j : ℕ). put j (y ++ z ++ w ++ k) o) (sym m))
+          ∙ front-before (wordBytes hs) (y ++ z ++ w ++ k) o (omega (arith, m, n))
+          ∙ ap (λ (x : List ℕ). front x o) (ap (λ (x : List ℕ). wordBytes hs ++ x) bytes ∙ sym (wordBytes-append hs sections))
+          ∙ ap (λ (ws : List ℕ). front (wordBytes (ws ++ sections)) o) (λ i. pv i ∷ pc i ∷ pr i ∷ pt i ∷ [])
 
   pub table-size : (o : List ℕ) → tableSize ≤ length o → length (front (wordBytes (tableWords p)) o) ≡ length o
   table-size o n = length-front (wordBytes (tableWords p)) o (omega (arith, length-wordBytes (tableWords p), length-tableWords p (room-for p q)))

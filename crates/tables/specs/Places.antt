@@ -1,6 +1,6 @@
 -- Places of an accepted file: what reading finds from there on.
 -- Assumes nothing.
-use Prim.Native.Nat.{ℕ, _+_, _≤_}
+use Prim.Native.Nat.{ℕ, _+_, _/_, _≤_}
 use mathlib.Core.Path.{_≡_}
 use mathlib.Core.Bool.{true, cond}
 use mathlib.Core.List.{List, []}
@@ -11,7 +11,7 @@ use Rattle.format.specs.File.{State, Contents, Reading, refused, accepted, read
 
 -- The plan that a file says, and that it says one.
 unfoldable pub said : Reading Plan → Plan
-said (refused number offset) = record { variables = 0; objective = []; clauses = [] }
+said (refused number offset) = record { variables = 0; objective = []; locks = []; clauses = [] }
 said (accepted p) = p
 
 abbrev pub planOfFile : List ℕ → Plan
@@ -35,11 +35,22 @@ pub record Found (s : List ℕ) (at : ℕ) (rs : List Rule) (cs : List Clause) :
 abbrev pub Reads : List ℕ → ℕ → Type 0
 Reads s at = (rs : List Rule) × (cs : List Clause) × Found s at rs cs
 
-unfoldable pub firstClause : List ℕ → ℕ
-firstClause s = 8 + lengthAt s 5
-
 unfoldable pub behindField : List ℕ → ℕ → ℕ
 behindField s at = at + 3 + lengthAt s at
+
+-- Behind the fields 01 and 02 stands "an optional field, tag 06, between objective and first clause".
+unfoldable pub behindObjective : List ℕ → ℕ
+behindObjective s = 8 + lengthAt s 5
+
+unfoldable pub pastLocks : List ℕ → ℕ → ℕ
+pastLocks s at = cond (eqb (tagAt s at) 6) (behindField s at) at
+
+abbrev pub firstClause : List ℕ → ℕ
+firstClause s = pastLocks s (behindObjective s)
+
+-- How many locks a field has, none if it is another.
+unfoldable pub locksIn : List ℕ → ℕ → ℕ
+locksIn s at = cond (eqb (tagAt s at) 6) (lengthAt s at / 3) 0
 
 unfoldable pub ruleFrom : List ℕ → ℕ → ℕ
 ruleFrom s at = cond (eqb (tagAt s at) 3) (at + 3) at

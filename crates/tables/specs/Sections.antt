@@ -5,11 +5,11 @@ use mathlib.Core.Bool.{Bool}
 use mathlib.Core.List.{List, [], _∷_, map}
 use lib.Dec.{leb}
 use Rattle.plpb.specs.Lists.{_and_, all, row}
-use Rattle.plpb.specs.Plan.{Term, Plan}
+use Rattle.plpb.specs.Plan.{Term, Plan, lockOf}
 use Rattle.plpb.specs.Tallies.{rulesOf}
 use Rattle.words.specs.Words.{bytesOf, unsigned}
 use Rattle.words.specs.Writes.{put}
-use Rattle.format.specs.Tables.{coefficient, padTo, clauseEntries, ruleEntries}
+use Rattle.format.specs.Tables.{coefficient, padTo, clauseEntries, ruleEntries, lockWord}
 use Rattle.format.specs.Layout.{clauseWordCount, ruleWordCount}
 
 unfoldable pub objectiveWords : Plan → List ℕ
@@ -20,6 +20,9 @@ clauseWords p = padTo clauseWordCount (clauseEntries 0 (p .clauses))
 
 unfoldable pub ruleWords : Plan → List ℕ
 ruleWords p = padTo ruleWordCount (ruleEntries 0 (rulesOf p))
+
+unfoldable pub lockWords : Plan → List ℕ
+lockWords p = map (λ x. lockWord (lockOf p x)) (row 1 512)
 
 -- Terms written over a table that is dense by variable: each at its variable's place.
 unfoldable pub placed : List Term → List ℕ → List ℕ

@@ -3,14 +3,26 @@ ghost use mathlib.Core.Path.{_≡_};
 ghost use Prim.Native.Nat.{_+_, _≤_};
 ghost use lib.ListN.{length};
 ghost use Rattle.format.specs.File.{termsIn, lengthAt};
-ghost use Rattle.tables.specs.Places.{Reads, firstClause, behindField, ruleFrom, firstRule, nextRule, Ran};
+ghost use Rattle.tables.specs.Places.{Reads, behindObjective, locksIn, firstClause, behindField, ruleFrom, firstRule, nextRule, Ran};
 
-// Where the first clause or the end stands: behind the fields 01 and 02.
-pub fn first_clause(file: &[u8]) -> usize
-    requires { ⌜ firstClause (now file) ≤ length (now file) ⌝ }
-    ensures { λ r. ⌜ r ≡ firstClause (now (file .entry)) ⌝ }
+// Where the field of locks stands, or what comes behind it: behind the fields 01 and 02.
+pub fn behind_objective(file: &[u8]) -> usize
+    requires { ⌜ behindObjective (now file) ≤ length (now file) ⌝ }
+    ensures { λ r. ⌜ r ≡ behindObjective (now (file .entry)) ⌝ }
 {
     8 + words::read_size(file, 6)
+}
+
+// How many locks a field has, none if it is another.
+pub fn locks_of(file: &[u8], at: usize) -> usize
+    requires { ⌜ at + 3 ≤ length (now file) ⌝ }
+    ensures { λ r. ⌜ r ≡ locksIn (now (file .entry)) at ⌝ }
+{
+    if file[at] == 6 {
+        words::read_size(file, at + 1) / 3
+    } else {
+        0
+    }
 }
 
 // The place behind a field.
@@ -19,6 +31,15 @@ pub fn after(file: &[u8], at: usize) -> usize
     ensures { λ r. ⌜ r ≡ behindField (now (file .entry)) at ⌝ }
 {
     at + 3 + words::read_size(file, at + 1)
+}
+
+// Where the first clause or the end stands.
+pub fn first_clause(file: &[u8]) -> usize
+    requires { ⌜ (behindObjective (now file) + 3 ≤ length (now file)) × (firstClause (now file) ≤ length (now file)) ⌝ }
+    ensures { λ r. ⌜ r ≡ firstClause (now (file .entry)) ⌝ }
+{
+    let at = behind_objective(file);
+    if file[at] == 6 { after(file, at) } else { at }
 }
 
 // A clause's first rule, or the place itself, where a rule or the end stands.
@@ -31,7 +52,7 @@ pub fn rule_from(file: &[u8], at: usize) -> usize
 
 // The first rule of a file, or the end.
 pub fn first_rule(file: &[u8]) -> usize
-    requires { ⌜ firstClause (now file) + 3 ≤ length (now file) ⌝ }
+    requires { ⌜ (behindObjective (now file) + 3 ≤ length (now file)) × (firstClause (now file) + 3 ≤ length (now file)) ⌝ }
     ensures { λ r. ⌜ r ≡ firstRule (now (file .entry)) ⌝ }
 {
     rule_from(file, first_clause(file))

@@ -15,7 +15,7 @@ mod sections;
 
 pub use judge::Answer;
 
-// The table of counts, objective, clauses and rules of an accepted file.
+// The table of counts, objective, clauses, rules and locks of an accepted file.
 fn fill_tables(file: &[u8], tables: &mut [u8])
     requires { ⌜ Accepts (now file) ⌝ }
     requires { ⌜ tableSize ≤ length (now tables) ⌝ }
@@ -29,7 +29,8 @@ fn fill_tables(file: &[u8], tables: &mut [u8])
         file,
         &mut tables[format::CLAUSES_BYTE..format::RULES_BYTE],
     );
-    let counted = sections::rule_section(file, &mut tables[format::RULES_BYTE..format::TABLES]);
+    let counted = sections::rule_section(file, &mut tables[format::RULES_BYTE..format::LOCKS_BYTE]);
+    sections::lock_section(file, &mut tables[format::LOCKS_BYTE..format::TABLES]);
     let variables = words::read_u16(file, 3);
     entries::put_head(tables, variables, clauses, counted.rules, counted.terms);
 }

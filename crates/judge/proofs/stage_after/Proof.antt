@@ -20,7 +20,13 @@ returns-3 c = rw (c .match .keys3)
 
 returns-4 : tie.Need-returns-4
 unfolding stageOf stageAfter
-returns-4 c = simp (ne-eqb _ _ (c .match .rest .0 .0 .1), ne-eqb _ _ (c .match .rest .0 .1), ne-eqb _ _ (c .match .rest .1))
+returns-4 c = rw (c .match .keys4)
+
+returns-5 : tie.Need-returns-5
+unfolding stageOf stageAfter
+returns-5 c =
+    simp
+    (ne-eqb _ _ (c .match .rest .0 .0 .0 .1), ne-eqb _ _ (c .match .rest .0 .0 .1), ne-eqb _ _ (c .match .rest .0 .1), ne-eqb _ _ (c .match .rest .1))
 
 pub stage-after-spec : {M : Type 1} → statement M
 stage-after-spec =
@@ -29,4 +35,5 @@ stage-after-spec =
     returns
     returns-2
     returns-3
-    returns-4)
+    returns-4
+    returns-5)

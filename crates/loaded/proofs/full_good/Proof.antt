@@ -53,17 +53,24 @@ mul-zeros c = let w = within (c .before .before .before) in omega arith
 zeros-requires : tie.Need-zeros-requires
 zeros-requires c κs = let w = within (c .before .before .before) in search needs
 
+locks-good-requires : tie.Need-locks-good-requires
+locks-good-requires c κs =
+    let e = c .before .before .before .before in
+    let w = within e in
+    (e .before .before .before .before .before .index .ensures, (w .variablesFit, search needs))
+
 returns-2 : tie.Need-returns-2
 returns-2 c =
-    let e = c .before .before .before .before in
+    let e = c .before .before .before .before .before in
     let k = e .before in
     let total = k .before in
     let rules = total .before in
     let clauses = rules .before in
-    rw (both, both, both)
+    rw (both, both, both, both)
     (parts-whole _ _ (clauses .before .index .ensures) (clauses .index2 .ensures) (rules .index3 .ensures) (total .index4 .ensures)
-    (k .counts-good .ensures) (e .if1 .left) (c .before .before .before .objective-good .ensures) (c .before .before .clauses-good .ensures)
-    (c .before .rules-good .ensures) (zeros-are _ _ _ _ (c .zeros .ensures)))
+    (k .counts-good .ensures) (e .if1 .left) (c .before .before .before .before .objective-good .ensures)
+    (c .before .before .before .clauses-good .ensures) (c .before .before .rules-good .ensures) (zeros-are _ _ _ _ (c .before .zeros .ensures))
+    (c .locks-good .ensures))
 
 pub full-good-spec : {M : Type 1} → statement M
 full-good-spec =
@@ -80,4 +87,5 @@ full-good-spec =
     rules-good-requires
     mul-zeros
     zeros-requires
+    locks-good-requires
     returns-2)

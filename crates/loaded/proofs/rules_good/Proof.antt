@@ -9,13 +9,13 @@ use native.Mathlib.Omega.{arith}
 use Rattle.format.specs.Good.{rulesGood}
 use Rattle.loaded.proofs.Turns.{zeros-are, both}
 use Rattle.loaded.proofs.Parts.{rules-last}
-use Rattle.format.specs.Layout.{ruleFirstAt, ruleWordCount, tableWordCount}
+use Rattle.format.specs.Layout.{locksAt, ruleFirstAt, ruleWordCount}
 
 returns : tie.Need-returns
 unfolding rulesGood
 returns c =
     let s = c .before .before .before .before in
-    let n : tableWordCount - (ruleFirstAt (s .args .rules)) ≡ ruleWordCount - 5 * s .args .rules = omega arith in
+    let n : locksAt - (ruleFirstAt (s .args .rules)) ≡ ruleWordCount - 5 * s .args .rules = omega arith in
     rw (both, c .before .rule-chain .ensures, zeros-are _ _ _ _ (c .zeros .ensures), rules-last, n, ← s .pre .0, ← s .pre .1 .0)
 
 pub rules-good-spec : {M : Type 1} → statement M

@@ -1,4 +1,4 @@
--- `judge::field::body_fault` meets its contract: 4, 6, then 5.
+-- `judge::field::body_fault` meets its contract: 4, 6, then 5, and last what a field of locks meets.
 -- Assumes nothing.
 use borrow.Author.Needs.{needs}
 use mathlib.Core.Path.{sym, _∙_}
@@ -31,12 +31,14 @@ returns-3 c =
 returns-4 : tie.Need-returns-4
 unfolding stateOf
 returns-4 c =
-    let test2 = c .before .before in
+    let right = c .before .before in
+    let test2 = right .before in
     let wrong = test2 .before in
     let test = wrong .before in
     let past = test .before in
-    fine _ _ (sym (past .past-limits .ensures) ∙ test .if1 .left) (sym (wrong .wrong-bounds .ensures) ∙ test2 .if2 .left)
-    (sym (c .before .right-terms .ensures) ∙ not-false _ (c .if3 .left))
+    c .locks-fault .ensures
+    ∙ fine _ _ (sym (past .past-limits .ensures) ∙ test .if1 .left) (sym (wrong .wrong-bounds .ensures) ∙ test2 .if2 .left)
+    (sym (right .right-terms .ensures) ∙ not-false _ (c .before .if3 .left))
 
 pub body-fault-spec : {M : Type 1} → statement M
 body-fault-spec =
@@ -48,4 +50,5 @@ body-fault-spec =
     returns-2
     (λ c κs. search needs)
     returns-3
+    (λ c κs. search needs)
     returns-4)

@@ -25,7 +25,13 @@ returns-4 c = rw (c .before .match .keys3, lt-leb _ _ (c .if1 .left))
 
 returns-5 : tie.Need-returns-5
 unfolding lengthLawful
-returns-5 c = simp (ne-eqb _ _ (c .match .rest .0 .0 .1), ne-eqb _ _ (c .match .rest .0 .1), ne-eqb _ _ (c .match .rest .1))
+returns-5 c = rw (c .match .keys4)
+
+returns-6 : tie.Need-returns-6
+unfolding lengthLawful
+returns-6 c =
+    simp
+    (ne-eqb _ _ (c .match .rest .0 .0 .0 .1), ne-eqb _ _ (c .match .rest .0 .0 .1), ne-eqb _ _ (c .match .rest .0 .1), ne-eqb _ _ (c .match .rest .1))
 
 pub length-lawful-spec : {M : Type 1} → statement M
 length-lawful-spec =
@@ -36,4 +42,5 @@ length-lawful-spec =
     returns-2
     returns-3
     returns-4
-    returns-5)
+    returns-5
+    returns-6)

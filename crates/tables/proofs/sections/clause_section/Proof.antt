@@ -6,7 +6,7 @@ use Prim.Native.Nat.{_-_}
 use native.Mathlib.Omega.{arith}
 use lib.ListN.{length}
 use Rattle.tables.specs.Places.{planOfFile}
-use Rattle.tables.proofs.Found.{begun-file, begun-room}
+use Rattle.tables.proofs.Found.{begun-file, begun-front, begun-room}
 use Rattle.tables.proofs.Filled.{ClauseFill, lawful-file, clause-start, clause-few, clause-space, clause-room, clause-reads, clause-rules, clause-part, clause-same, clause-more, clause-on, clause-count, clause-end}
 use Rattle.tables.proofs.sections.clause_section.Statement.{statement}
 use Rattle.tables.proofs.sections.clause_section.Tie as tie
@@ -102,7 +102,7 @@ clause-section-spec =
     (tie.spec
     Inv-loop
     μ-loop
-    (λ c κs. omega (arith, begun-room _ _ (c .before .before .pre .0)))
+    (λ c κs. (begun-front _ _ (c .before .before .pre .0), omega (arith, begun-room _ _ (c .before .before .pre .0))))
     loop-holds
     shared-slice-read-if1
     add-clause-run

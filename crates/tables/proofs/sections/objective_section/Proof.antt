@@ -5,15 +5,15 @@ use native.Mathlib.Omega.{arith}
 use mathlib.Core.Path.{ap, _∙_}
 use lib.ListN.{length, length-replicate}
 use Prim.Native.Nat.{ℕ}
-use Rattle.tables.specs.Places.{firstClause}
-use Rattle.tables.proofs.Found.{begun-room}
+use Rattle.tables.specs.Places.{behindObjective}
+use Rattle.tables.proofs.Found.{begun-front}
 use Rattle.tables.proofs.Dense.{objective-room, objective-range, objective-done}
 use Rattle.tables.proofs.sections.objective_section.Statement.{statement}
 use Rattle.tables.proofs.sections.objective_section.Tie as tie
 
 read-size-requires : tie.Need-read-size-requires
-unfolding firstClause
-read-size-requires c κs = omega (arith, begun-room _ _ (c .before .before .before .before .before .before .pre .0))
+unfolding behindObjective
+read-size-requires c κs = omega (arith, begun-front _ _ (c .before .before .before .before .before .before .pre .0))
 
 put-coefficients-requires : tie.Need-put-coefficients-requires
 put-coefficients-requires c κs =

@@ -9,7 +9,7 @@ use lib.ListN.{length}
 use Rattle.tables.specs.Places.{planOfFile}
 use Rattle.judge.proofs.Judged.{tag-byte}
 use Rattle.tables.proofs.Entered.{here-room}
-use Rattle.tables.proofs.Found.{begun-file, begun-room, rules-room, behind-room, rules-on}
+use Rattle.tables.proofs.Found.{begun-file, begun-front, begun-room, rules-room, behind-room, rules-on}
 use Rattle.tables.proofs.Filled.{RuleFill, lawful-file, rule-start, rule-few, rule-space, rule-first, rule-here, rule-part, rule-same, rule-more-terms, rule-more, rule-count, rule-terms, rule-end}
 use Rattle.tables.proofs.sections.rule_section.Statement.{statement}
 use Rattle.tables.proofs.sections.rule_section.Tie as tie
@@ -103,7 +103,7 @@ rule-section-spec =
     (tie.spec
     Inv-loop
     μ-loop
-    (λ c κs. begun-room _ _ (c .before .before .pre .0))
+    (λ c κs. (begun-front _ _ (c .before .before .pre .0), begun-room _ _ (c .before .before .pre .0)))
     loop-holds
     (λ c. omega (arith, rules-room (c .before .loop .inv .left)))
     mul-place

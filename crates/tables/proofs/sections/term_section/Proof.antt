@@ -9,7 +9,7 @@ use lib.ListN.{length}
 use Rattle.tables.specs.Places.{planOfFile}
 use Rattle.judge.proofs.Judged.{tag-byte}
 use Rattle.tables.proofs.Entered.{here-room}
-use Rattle.tables.proofs.Found.{begun-file, begun-room, rules-room, behind-room, rules-on}
+use Rattle.tables.proofs.Found.{begun-file, begun-front, begun-room, rules-room, behind-room, rules-on}
 use Rattle.tables.proofs.Filled.{TermFill, lawful-file, term-start, term-space, term-here, term-file, term-more-space, term-part, term-same, term-more, term-end}
 use Rattle.tables.proofs.sections.term_section.Statement.{statement}
 use Rattle.tables.proofs.sections.term_section.Tie as tie
@@ -100,7 +100,7 @@ term-section-spec =
     (tie.spec
     Inv-loop
     μ-loop
-    (λ c κs. begun-room _ _ (c .before .before .pre .0))
+    (λ c κs. (begun-front _ _ (c .before .before .pre .0), begun-room _ _ (c .before .before .pre .0)))
     loop-holds
     (λ c. omega (arith, rules-room (c .before .loop .inv .left)))
     terms-of-requires
