@@ -1,25 +1,27 @@
 -- What an accepted or refused call comes to: an accepted one has tested all that the cores need, a refused one leaves what it was lent.
 use Prim.Native.Nat.{ℕ, zero, suc, _≤_, _<_}
 use native.Mathlib.Omega.{arith}
-use mathlib.Core.Path.{_≡_, refl, sym}
+use mathlib.Core.Path.{_≡_, refl, sym, _∙_}
 use mathlib.Core.Bool.{true, false, cond}
-use lib.Dec.{eqb·suc-zero}
+use lib.Dec.{ltb, eqb·suc-zero}
 use lib.ListN.{length, take}
 use borrow.Author.Tests.{lt-ltb, le-ltb}
 use Rattle.plpb.specs.Lists.{_and_}
-use Rattle.plpb.specs.Plan.{isVariable}
+use Rattle.plpb.specs.Plan.{isVariable, isLocked}
 use Rattle.plpb.specs.Count.{cappedBreak, cappedMake}
 use Rattle.words.specs.Words.{wordAt}
 use Rattle.format.specs.File.{refuse}
 use Rattle.format.specs.Tables.{sameBytes}
 use Rattle.format.proofs.IsLoaded.{isLoaded-tables, same-equal}
+use Rattle.format.proofs.Lawful.{plan-parts}
+use Rattle.format.proofs.LockWords.{lock-word, word-locked}
 use Rattle.tallies.specs.Layout.{tallySize, bitsOf}
-use Rattle.tallies.specs.Calls.{Lent, plan, freshBytes, openRefusal, openTallies, callRefusal, turned, flipAssignment, flipTallies, countsBreak, countsMake}
+use Rattle.tallies.specs.Calls.{Lent, plan, freshBytes, openRefusal, openTallies, callRefusal, flipRefusal, turned, flipAssignment, flipTallies, countsBreak, countsMake}
 use Rattle.recount.specs.Core.{Flippable, recounted}
 use Rattle.calls.proofs.Opening.{first-words}
-use Rattle.tallies.proofs.Refusals.{Opens, opens, takes, only-variable}
+use Rattle.tallies.proofs.Refusals.{Opens, opens, takes, flips, only-variable, plan-lawful}
 use Rattle.recount.proofs.Callers.{takes-flippable}
-use Rattle.format.specs.Layout.{tableSize}
+use Rattle.format.specs.Layout.{tableSize, lockAt}
 
 module _ (l : Lent) where
   pub loaded-tables : Opens l → tableSize ≤ length (l .tables)
@@ -73,19 +75,48 @@ module _ (l : Lent) (x : ℕ) where
   call-first zero e n = absurd (n refl)
   call-first (suc k) e n = rw (sym e, eqb·suc-zero k)
 
-  pub flip-refused : (k : ℕ) → k ≡ callRefusal l x → (k ≡ 0 → ⊥) → (l .assignment ≡ flipAssignment l x) × (l .tallies ≡ flipTallies l x)
+  pub flippable : callRefusal l x ≡ 0 → Flippable (l .tables) (l .terms) (l .assignment) (l .tallies) x
+  flippable e = takes-flippable l x (takes l x e)
+
+  pub flip-first : (k : ℕ) → k ≡ callRefusal l x → (k ≡ 0 → ⊥) → k ≡ flipRefusal l x
+  unfolding flipRefusal
+  flip-first zero e n = absurd (n refl)
+  flip-first (suc k) e n = rw (sym e, eqb·suc-zero k)
+
+  pub few-variables : callRefusal l x ≡ 0 → x ≤ 512
+  unfolding plan
+  few-variables e =
+      let high = plan-parts (plan l) (plan-lawful l (takes l x e .opening)) .high in
+      omega (arith, high, flippable e .high)
+
+  -- The word of a variable among the locks says whether it is locked.
+  lock-tested : callRefusal l x ≡ 0 → ltb 0 (wordAt (l .tables) (lockAt x)) ≡ isLocked (plan l) x
+  unfolding plan
+  lock-tested e =
+      let f = flippable e in
+      word-locked (plan l) x _ (lock-word (plan l) (l .tables) (l .terms) (f .ready .laid .room) (f .ready .laid .holds) x (f .low) (few-variables e))
+
+  pub flip-locked : callRefusal l x ≡ 0 → 0 < wordAt (l .tables) (lockAt x) → 26 ≡ flipRefusal l x
+  unfolding flipRefusal refuse
+  flip-locked e h = rw (e, sym (lock-tested e) ∙ lt-ltb 0 (wordAt (l .tables) (lockAt x)) h)
+
+  pub flip-free : callRefusal l x ≡ 0 → wordAt (l .tables) (lockAt x) ≤ 0 → 0 ≡ flipRefusal l x
+  unfolding flipRefusal refuse
+  flip-free e h = rw (e, sym (lock-tested e) ∙ le-ltb 0 (wordAt (l .tables) (lockAt x)) h)
+
+  pub flip-refused : (k : ℕ) → k ≡ flipRefusal l x → (k ≡ 0 → ⊥) → (l .assignment ≡ flipAssignment l x) × (l .tallies ≡ flipTallies l x)
   unfolding flipAssignment flipTallies
   flip-refused zero e n = absurd (n refl)
   flip-refused (suc k) e n = (rw (sym e, eqb·suc-zero k), rw (sym e, eqb·suc-zero k))
 
-  pub flip-accepted : callRefusal l x ≡ 0
+  pub flip-accepted : flipRefusal l x ≡ 0
       → (turned (l .assignment) x ≡ flipAssignment l x)
       × (recounted (l .tables) (l .terms) (turned (l .assignment) x) (l .tallies) ≡ flipTallies l x)
   unfolding flipAssignment flipTallies freshBytes plan
   flip-accepted e = (rw e, rw e)
 
-  pub flippable : callRefusal l x ≡ 0 → Flippable (l .tables) (l .terms) (l .assignment) (l .tallies) x
-  flippable e = takes-flippable l x (takes l x e)
+  pub flip-tested : flipRefusal l x ≡ 0 → Flippable (l .tables) (l .terms) (l .assignment) (l .tallies) x
+  flip-tested e = flippable (flips l x e .0)
 
   pub counts-refused : (k : ℕ) → k ≡ callRefusal l x → (k ≡ 0 → ⊥) → (0 ≡ countsBreak l x) × (0 ≡ countsMake l x)
   unfolding countsBreak countsMake

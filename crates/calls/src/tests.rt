@@ -1,9 +1,9 @@
-// What opening tests of what it is lent, in the order of document 01: 21, 22, 24; and flip and counts: 21, 22, 24, 25, 23.
+// What opening tests of what it is lent, in the order of document 01: 21, 22, 24; and flip and counts: 21, 22, 24, 25, 23; and then flip alone: 26.
 ghost use mathlib.Core.Path.{_≡_};
 ghost use Prim.Native.Nat.{_≤_};
 ghost use lib.ListN.{length};
 ghost use Rattle.tallies.specs.Layout.{areBits};
-ghost use Rattle.tallies.specs.Calls.{tooSmall, openRefusal, callRefusal, lent};
+ghost use Rattle.tallies.specs.Calls.{tooSmall, openRefusal, callRefusal, flipRefusal, lent};
 use fresh::fresh;
 use loaded::good;
 use words::index;
@@ -70,6 +70,20 @@ pub fn call_refusal(tables: &[u8], terms: &[u8], assignment: &[u8], tallies: &[u
     }
     if word(tables, 0) < x {
         return 23;
+    }
+    0
+}
+
+// A locked variable is refused to flips alone, so the test stands apart from what counts tests too.
+pub fn flip_refusal(tables: &[u8], terms: &[u8], assignment: &[u8], tallies: &[u8], x: u32) -> u32
+    ensures { λ r. ⌜ r ≡ flipRefusal (lent (now (tables .entry)) (now (terms .entry)) (now (assignment .entry)) (now (tallies .entry))) x ⌝ }
+{
+    let sooner = call_refusal(tables, terms, assignment, tallies, x);
+    if sooner != 0 {
+        return sooner;
+    }
+    if 0 < word(tables, format::LOCKS + x as usize) {
+        return 26;
     }
     0
 }

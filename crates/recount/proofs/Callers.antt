@@ -6,6 +6,7 @@ use mathlib.Core.List.{List}
 use lib.Dec.{T}
 use Rattle.plpb.specs.Plan.{Plan}
 use Rattle.plpb.proofs.Lists.{and-left, and-right}
+use Rattle.plpb.proofs.Locks.{variable-range}
 use Rattle.format.specs.Limits.{roomy}
 use Rattle.format.specs.Tables.{Holds, isLoaded, planOfTables}
 use Rattle.format.proofs.Lawful.{lawful-roomy}
@@ -13,7 +14,7 @@ use Rattle.format.proofs.ReadBack.{read-back}
 use Rattle.tallies.specs.Calls.{Lent, plan, freshBytes}
 use Rattle.recount.specs.Core.{Laid, Ready, Flippable}
 use Rattle.tallies.proofs.TallyBytes.{same-bytes}
-use Rattle.tallies.proofs.Refusals.{Opens, Takes, variable-range, assignment-room}
+use Rattle.tallies.proofs.Refusals.{Opens, Takes, assignment-room}
 
 -- Tables that pass the test for 22.
 pub loaded-laid : (tables terms : List ℕ) → T (isLoaded tables terms) → Laid tables terms

@@ -12,7 +12,7 @@ use Rattle.words.specs.Words.{numAt, bytesOf, wordBytes}
 use Rattle.words.specs.Writes.{front, put}
 use Rattle.words.proofs.Words.{length-bytesOf}
 use Rattle.words.proofs.Writes.{put-put, front-none}
-use Rattle.tallies.specs.Calls.{Lent, lent, callRefusal, flipAssignment, flipTallies, countsBreak, countsMake, answer, leftBy}
+use Rattle.tallies.specs.Calls.{Lent, lent, callRefusal, flipRefusal, flipAssignment, flipTallies, countsBreak, countsMake, answer, leftBy}
 use Rattle.tallies.specs.Demand.{answers, after}
 use Rattle.replay.specs.Replay.{callOf, callsFrom, callsOf, answerWords, answerBytes}
 
@@ -26,7 +26,7 @@ is-counts : (kind x : ℕ) → (kind ≡ 0 → ⊥) → callOf kind x ≡ counts
 unfolding callOf
 is-counts kind x n = ap (λ (b : Bool). cond b (flipCall x) (countsCall x)) (ne-eqb kind 0 n)
 
-flip-words : (l : Lent) (x k : ℕ) → k ≡ callRefusal l x → k ∷ 0 ∷ 0 ∷ [] ≡ answerWords (answer l (flipCall x))
+flip-words : (l : Lent) (x k : ℕ) → k ≡ flipRefusal l x → k ∷ 0 ∷ 0 ∷ [] ≡ answerWords (answer l (flipCall x))
 unfolding answer answerWords
 flip-words l x zero e = rw (sym e)
 flip-words l x (suc k) e = rw (sym e, eqb·suc-zero k)
@@ -36,20 +36,20 @@ unfolding answer answerWords countsBreak countsMake
 counts-words l x zero e = rw (sym e)
 counts-words l x (suc k) e = rw (sym e, eqb·suc-zero k)
 
-module _ (l : Lent) (kind x k : ℕ) (e : k ≡ callRefusal l x) where
-  pub flip-made : kind ≡ 0
+module _ (l : Lent) (kind x k : ℕ) where
+  pub flip-made : k ≡ flipRefusal l x → kind ≡ 0
       → (k ∷ 0 ∷ 0 ∷ [] ≡ answerWords (answer l (callOf kind x)))
       × (flipAssignment l x ≡ leftBy l (callOf kind x) .assignment)
       × (flipTallies l x ≡ leftBy l (callOf kind x) .tallies)
   unfolding leftBy
-  flip-made z = rw (is-flip kind x z) (flip-words l x k e, refl, refl)
+  flip-made e z = rw (is-flip kind x z) (flip-words l x k e, refl, refl)
 
-  pub counts-made : (b m : ℕ) → (kind ≡ 0 → ⊥) → b ≡ countsBreak l x → m ≡ countsMake l x
+  pub counts-made : k ≡ callRefusal l x → (b m : ℕ) → (kind ≡ 0 → ⊥) → b ≡ countsBreak l x → m ≡ countsMake l x
       → (k ∷ b ∷ m ∷ [] ≡ answerWords (answer l (callOf kind x)))
       × (l .assignment ≡ leftBy l (callOf kind x) .assignment)
       × (l .tallies ≡ leftBy l (callOf kind x) .tallies)
   unfolding leftBy
-  counts-made b m n p q = rw (is-counts kind x n, p, q) (counts-words l x k e, refl, refl)
+  counts-made e b m n p q = rw (is-counts kind x n, p, q) (counts-words l x k e, refl, refl)
 
 -- ---- an answer written
 

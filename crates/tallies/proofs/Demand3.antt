@@ -12,7 +12,7 @@ use lib.Dec.{eqb}
 use lib.ListN.{length}
 use Rattle.plpb.specs.Lists.{_and_}
 use Rattle.plpb.specs.Plan.{Plan, Assignment, value, flip, isVariable}
-use Rattle.plpb.specs.Book.{Call, flipCall, countsCall, entry, book}
+use Rattle.plpb.specs.Book.{Call, flipCall, countsCall, refusal, entry, book}
 use Rattle.plpb.proofs.Lists.{not-not}
 use Rattle.plpb.proofs.Flip.{length-flip, flip-same, flip-other}
 use Rattle.format.proofs.Accepted.{accepted-lawful}
@@ -23,7 +23,7 @@ use Rattle.tallies.specs.Narrow.{isRefused, isFlipOf}
 use Rattle.tallies.specs.Demand.{answers, after, opened, flipsOf, end, account, Agrees, Demand3}
 use Rattle.tallies.proofs.Bits.{length-bitsOf, length-bitBytes}
 use Rattle.tallies.proofs.TallyBytes.{length-fresh}
-use Rattle.tallies.proofs.Refusals.{either, Opens, opens, assignment-room, plan-fits}
+use Rattle.tallies.proofs.Refusals.{either, one-of, Opens, opens, assignment-room, plan-fits}
 use Rattle.tallies.proofs.Steps.{told-bits, book-size, answers-of-book, after-book, opened-told}
 use Rattle.tallies.proofs.Narrow.{each-call}
 
@@ -61,12 +61,13 @@ unfolding _and_
 no-flip x y k = either (eqb y x) (λ e. rw (e, zero-add)) (λ e. rw (e, zero-add))
 
 value-turns : (p : Plan) (x : ℕ) (b : Assignment) (cs : List Call) → 1 ≤ x → x ≤ length b → value (book p b cs .bits) x ≡ turns (flipsOf x cs (book p b cs .answers)) (value b x)
-unfolding book flipsOf entry turns isFlipOf isRefused
+unfolding book flipsOf entry refusal turns isFlipOf isRefused
 value-turns p x b [] low high = refl
 value-turns p x b (flipCall y ∷ cs) low high =
-    either (isVariable p y)
-    (λ e. rw (e, book) (value-turns p x (flip b y) cs low (rw length-flip high) ∙ one-flip b x y _ low high))
-    (λ e. rw (e, book, no-flip x y) (value-turns p x b cs low high))
+    one-of p y
+    (λ v k. rw (v, k, book) (value-turns p x (flip b y) cs low (rw length-flip high) ∙ one-flip b x y _ low high))
+    (λ v k. rw (v, k, book, no-flip x y) (value-turns p x b cs low high))
+    (λ v. rw (v, book, no-flip x y) (value-turns p x b cs low high))
 value-turns p x b (countsCall y ∷ cs) low high =
     either (isVariable p y) (λ e. rw (e, book, zero-add) (value-turns p x b cs low high)) (λ e. rw (e, book, zero-add) (value-turns p x b cs low high))
 

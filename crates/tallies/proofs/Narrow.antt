@@ -18,20 +18,21 @@ use Rattle.plpb.specs.Tallies.{rulesOf, freshCount}
 use Rattle.plpb.specs.Book.{Call, flipCall, countsCall, refused, accepted}
 use Rattle.plpb.proofs.Lists.{count-nil, count-cons}
 use Rattle.plpb.proofs.Flip.{length-flip, flip-other, flip-twice, flip-literal-other}
+use Rattle.plpb.proofs.Locks.{variable-range}
 use Rattle.words.specs.Words.{bytesOf, wordBytes}
 use Rattle.words.proofs.Words.{length-bytesOf}
 use Rattle.format.specs.Layout.{clauseRoom, holdingAt, ruleRoom, tallyWordCount, unsatisfiedAt}
 use Rattle.format.proofs.Bools.{and-left, and-right}
 use Rattle.tallies.specs.Layout.{tallySize, tallyWords, tallyBytes, tallyWord}
-use Rattle.tallies.specs.Calls.{Lent, plan, bits, told, callRefusal, turned, flipAssignment, answer, leftBy}
+use Rattle.tallies.specs.Calls.{Lent, plan, bits, told, flipRefusal, turned, flipAssignment, answer, leftBy}
 use Rattle.tallies.specs.Narrow.{rulesNaming, clausesNaming, concerns, isRefused, isFlipOf, Narrow, Step, EveryCall}
 use Rattle.tallies.specs.Demand.{EachStep}
 use Rattle.tallies.proofs.Order.{order-rule, order-clause, order-whole}
 use Rattle.tallies.proofs.TallyBytes.{Fits, length-fresh-words, length-fresh}
 use Rattle.tallies.proofs.Tallied.{weights-at, holding-at}
 use Rattle.tallies.proofs.Bits.{length-bitsOf, length-turned}
-use Rattle.tallies.proofs.Refusals.{either, variable-range, Opens, takes, plan-fits, assignment-room, counts-left, refused-left}
-use Rattle.tallies.proofs.Steps.{told-tallies-room, told-flip, told-refusal, lent-told}
+use Rattle.tallies.proofs.Refusals.{either, Opens, Takes, takes, flips, plan-fits, assignment-room, counts-left, refused-left}
+use Rattle.tallies.proofs.Steps.{told-tallies-room, told-flip, told-flip-refusal, lent-told}
 
 -- ---- what a flip leaves of a rule and a clause that do not name its variable
 
@@ -167,12 +168,15 @@ getD-turned a (suc j) i h =
     (λ e. let z : i ≡ j = omega (arith, eqb-true (suc i) (suc j) e) in rw (e, z) (getD-set-same a j (1 - getD a j 0) 0 h))
     (λ e. rw e (getD-set-other a j i (1 - getD a j 0) 0 (λ q. eqb-false (suc i) (suc j) e (ap suc q))))
 
-module _ (l : Lent) (x : ℕ) (e : callRefusal l x ≡ 0) where
+module _ (l : Lent) (x : ℕ) (e : flipRefusal l x ≡ 0) where
   b : Assignment
   b = bits l
 
+  tested : Takes l x
+  tested = takes l x (flips l x e .0)
+
   o : Opens l
-  o = takes l x e .opening
+  o = tested .opening
 
   bits-size : length b ≡ plan l .variables
   unfolding b
@@ -180,10 +184,10 @@ module _ (l : Lent) (x : ℕ) (e : callRefusal l x ≡ 0) where
 
   lent-now : l ≡ told (plan l) l b
   unfolding b
-  lent-now = lent-told l o (takes l x e .fresh)
+  lent-now = lent-told l o (tested .fresh)
 
   left : leftBy l (flipCall x) ≡ told (plan l) l (flip b x)
-  left = ap (λ m. leftBy m (flipCall x)) lent-now ∙ told-flip l o b bits-size x (takes l x e .variable)
+  left = ap (λ m. leftBy m (flipCall x)) lent-now ∙ told-flip l o b bits-size x (tested .variable) (flips l x e .1)
 
   left-size : length (flip b x) ≡ plan l .variables
   left-size = length-flip b x ∙ bits-size
@@ -204,11 +208,11 @@ module _ (l : Lent) (x : ℕ) (e : callRefusal l x ≡ 0) where
 
   again : isRefused (answer (told (plan l) l (flip b x)) (flipCall x)) ≡ false
   unfolding answer isRefused
-  again = rw (told-refusal l o (flip b x) left-size x, takes l x e .variable)
+  again = rw (told-flip-refusal l o (flip b x) left-size x, tested .variable, flips l x e .1)
 
   narrow : Narrow (plan l) x l (leftBy l (flipCall x))
   narrow =
-      let v = variable-range (plan l) x (takes l x e .variable) in
+      let v = variable-range (plan l) x (tested .variable) in
       record {
         one-byte = λ i. rw left-assignment (getD-turned (l .assignment) x i (le-trans (v .1) (assignment-room l o)));
         other-tallies = other-tallies;
@@ -217,7 +221,7 @@ module _ (l : Lent) (x : ℕ) (e : callRefusal l x ≡ 0) where
         tables-kept = unfold leftBy in refl;
         terms-kept = unfold leftBy in refl;
         accepted-again = rw left again;
-        restored = rw left (told-flip l o (flip b x) left-size x (takes l x e .variable) ∙ ap (told (plan l) l) (flip-twice b x) ∙ sym lent-now);
+        restored = rw left (told-flip l o (flip b x) left-size x (tested .variable) (flips l x e .1) ∙ ap (told (plan l) l) (flip-twice b x) ∙ sym lent-now);
       }
 
 -- A call is an accepted flip of a variable where it is a flip of it that is not refused.
@@ -226,21 +230,21 @@ unfolding isRefused
 accepted-only zero = refl
 accepted-only (suc k) = rw (eqb·suc-zero k)
 
-is-flip : (l : Lent) (x y : ℕ) → isFlipOf x (flipCall y) (answer l (flipCall y)) ≡ (eqb y x and eqb (callRefusal l y) 0)
+is-flip : (l : Lent) (x y : ℕ) → isFlipOf x (flipCall y) (answer l (flipCall y)) ≡ (eqb y x and eqb (flipRefusal l y) 0)
 unfolding isFlipOf answer
-is-flip l x y = ap (λ b. eqb y x and b) (accepted-only (callRefusal l y))
+is-flip l x y = ap (λ b. eqb y x and b) (accepted-only (flipRefusal l y))
 
 flip-step : (l : Lent) (x y : ℕ) → isFlipOf x (flipCall y) (answer l (flipCall y)) ≡ true → Narrow (plan l) x l (leftBy l (flipCall y))
 flip-step l x y h =
     let t = sym (is-flip l x y) ∙ h in
     let z : x ≡ y = sym (eqb-true y x (and-left _ _ t)) in
-    rw z (narrow l y (eqb-true (callRefusal l y) 0 (and-right _ _ t)))
+    rw z (narrow l y (eqb-true (flipRefusal l y) 0 (and-right _ _ t)))
 
 flip-refused : (l : Lent) (y : ℕ) → isFlipOf y (flipCall y) (answer l (flipCall y)) ≡ false → leftBy l (flipCall y) ≡ l
 unfolding _and_
-flip-refused l y h = go (callRefusal l y) refl
+flip-refused l y h = go (flipRefusal l y) refl
   where
-    go : (k : ℕ) → callRefusal l y ≡ k → leftBy l (flipCall y) ≡ l
+    go : (k : ℕ) → flipRefusal l y ≡ k → leftBy l (flipCall y) ≡ l
     go zero e = absurd (true≢false (sym (is-flip l y y ∙ rw (e, eq-eqb y y refl) refl) ∙ h))
     go (suc k) e = refused-left l y e
 

@@ -1,13 +1,12 @@
 -- A call is not refused exactly where each of its tests passes; a counts call and a refused flip leave all as it was, by definition.
 use Prim.Native.Nat.{ℕ, zero, suc, _≤_}
-use native.Mathlib.Nat.{le-trans, le-of-suc-le-suc}
+use native.Mathlib.Nat.{le-trans}
 use native.Mathlib.Omega.{arith}
-use mathlib.Core.Path.{_≡_, refl, _∙_}
+use mathlib.Core.Path.{_≡_, refl, ap, _∙_}
 use mathlib.Core.Bool.{Bool, true, false, not, cond}
-use lib.Dec.{T, ltb, eqb, ltb→lt, nltb→le, eqb·suc-zero}
+use lib.Dec.{T, eqb, nltb→le, eqb·suc-zero}
 use lib.ListN.{length, take}
-use Rattle.plpb.specs.Lists.{_and_}
-use Rattle.plpb.specs.Plan.{Plan, isVariable}
+use Rattle.plpb.specs.Plan.{Plan, isVariable, isLocked}
 use Rattle.plpb.specs.Book.{flipCall, countsCall}
 use Rattle.plpb.proofs.Lists.{and-left, and-right, is-true, not-not, not-or}
 use Rattle.format.specs.File.{refuse}
@@ -15,7 +14,7 @@ use Rattle.format.specs.Limits.{lawful}
 use Rattle.format.specs.Tables.{isLoaded, sameBytes}
 use Rattle.format.proofs.Lawful.{plan-parts}
 use Rattle.tallies.specs.Layout.{assignmentSize, tallySize, areBits}
-use Rattle.tallies.specs.Calls.{Lent, plan, tooSmall, freshBytes, openRefusal, callRefusal, flipAssignment, flipTallies, leftBy}
+use Rattle.tallies.specs.Calls.{Lent, plan, tooSmall, freshBytes, openRefusal, callRefusal, flipRefusal, flipAssignment, flipTallies, leftBy}
 use Rattle.tallies.proofs.TallyBytes.{Fits, lawful-fits, same-self, same-bytes}
 
 -- ---- what is not refused
@@ -39,11 +38,10 @@ pub either : {A : Type 0} (c : Bool) → (c ≡ true → A) → (c ≡ false →
 either true f g = f refl
 either false f g = g refl
 
-pub variable-range : (p : Plan) (x : ℕ) → isVariable p x ≡ true → (1 ≤ x) × (x ≤ p .variables)
-unfolding isVariable
-variable-range p x e =
-    let t : T (ltb 0 x and ltb x (suc (p .variables))) = rw e tt in
-    (ltb→lt 0 x (and-left _ _ t), le-of-suc-le-suc (ltb→lt x (suc (p .variables)) (and-right _ _ t)))
+-- A number that a flip gets is that of a free variable, of a locked one, or of none.
+pub one-of : {A : Type 0} (p : Plan) (x : ℕ) → (isVariable p x ≡ true → isLocked p x ≡ false → A) → (isVariable p x ≡ true → isLocked p x ≡ true → A)
+    → (isVariable p x ≡ false → A) → A
+one-of p x free locked none = either (isVariable p x) (λ v. either (isLocked p x) (locked v) (free v)) none
 
 -- What an accepted opening has tested.
 pub record Opens (l : Lent) : Type 0 where
@@ -100,13 +98,34 @@ only-variable l x o e =
     (refuse-pass (not (sameBytes (freshBytes l) (freshBytes l))) 25 _ (rw not-not (same-self (freshBytes l)))
     ∙ refuse-unless (isVariable (plan l) x) 23)
 
+-- ---- flips: a locked variable too
+
+is-false : (c : Bool) → T (not c) → c ≡ false
+is-false true t = absurd t
+is-false false t = refl
+
+-- What an accepted flip has tested.
+pub flips : (l : Lent) (x : ℕ) → flipRefusal l x ≡ 0 → (callRefusal l x ≡ 0) × (isLocked (plan l) x ≡ false)
+unfolding flipRefusal
+flips l x e =
+    let s = stop-first (callRefusal l x) _ e in
+    (s .0, is-false _ (refuse-none (isLocked (plan l) x) 25 0 (s .1) .0))
+
+-- What a flip answers where only its variable can be at fault.
+abbrev pub flipFault : Plan → ℕ → ℕ
+flipFault p x = cond (isVariable p x) (cond (isLocked p x) 26 0) 23
+
+pub only-flip : (l : Lent) (x : ℕ) → callRefusal l x ≡ cond (isVariable (plan l) x) 0 23 → flipRefusal l x ≡ flipFault (plan l) x
+unfolding flipRefusal refuse
+only-flip l x e = either (isVariable (plan l) x) (λ v. rw (e, v)) (λ v. rw (e, v))
+
 -- ---- what is left as it was
 
 pub counts-left : (l : Lent) (x : ℕ) → leftBy l (countsCall x) ≡ l
 unfolding leftBy
 counts-left l x = refl
 
-pub refused-left : (l : Lent) (x : ℕ) {k : ℕ} → callRefusal l x ≡ suc k → leftBy l (flipCall x) ≡ l
+pub refused-left : (l : Lent) (x : ℕ) {k : ℕ} → flipRefusal l x ≡ suc k → leftBy l (flipCall x) ≡ l
 unfolding leftBy flipAssignment flipTallies
 refused-left l x {k} e = rw (e, eqb·suc-zero k) refl
 

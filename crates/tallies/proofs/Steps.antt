@@ -1,23 +1,24 @@
 -- After an accepted opening all that is lent is told by the bits alone, and each call's answer and bits are the book's: so a list's are.
 use Prim.Native.Nat.{ℕ}
 use mathlib.Core.Path.{_≡_, refl, sym, ap, ap₂, _∙_}
-use mathlib.Core.Bool.{true, cond}
+use mathlib.Core.Bool.{true, false, cond}
 use mathlib.Core.List.{List, [], _∷_, _++_}
 use lib.Dec.{ltb}
 use lib.ListN.{length, take, drop, take-append-drop}
 use lib.Seq.{length-take-le, length-front}
 use Rattle.plpb.specs.Lists.{_or_}
-use Rattle.plpb.specs.Plan.{Plan, Assignment, flip, isVariable}
+use Rattle.plpb.specs.Plan.{Plan, Assignment, flip, isVariable, isLocked}
 use Rattle.plpb.specs.Tallies.{freshCount}
-use Rattle.plpb.specs.Book.{Call, flipCall, countsCall, entry, book}
+use Rattle.plpb.specs.Book.{Call, flipCall, countsCall, refusal, entry, book}
 use Rattle.plpb.proofs.Flip.{length-flip}
+use Rattle.plpb.proofs.Locks.{variable-range}
 use Rattle.format.specs.Tables.{tableSize, termSize}
 use Rattle.tallies.specs.Layout.{assignmentSize, tallySize, bitsOf, bitBytes, tallyBytes}
-use Rattle.tallies.specs.Calls.{Lent, lent, plan, bits, told, tooSmall, freshBytes, openTallies, callRefusal, turned, flipAssignment, flipTallies, countsBreak, countsMake, answer, leftBy}
+use Rattle.tallies.specs.Calls.{Lent, lent, plan, bits, told, tooSmall, freshBytes, openTallies, callRefusal, flipRefusal, turned, flipAssignment, flipTallies, countsBreak, countsMake, answer, leftBy}
 use Rattle.tallies.specs.Demand.{answers, after, opened}
 use Rattle.tallies.proofs.Bits.{length-bitBytes, bitsOf-bytes, areBits-bytes, turned-bytes, whole-bytes}
 use Rattle.tallies.proofs.TallyBytes.{length-fresh, take-fresh, drop-fresh}
-use Rattle.tallies.proofs.Refusals.{either, variable-range, Opens, opens-accepted, only-variable, refused-left, counts-left, plan-fits, assignment-room, tallies-room}
+use Rattle.tallies.proofs.Refusals.{either, one-of, Opens, opens-accepted, only-variable, flipFault, only-flip, refused-left, counts-left, plan-fits, assignment-room, tallies-room}
 
 pub told-plan : (l : Lent) (b : Assignment) → plan (told (plan l) l b) ≡ plan l
 unfolding plan told
@@ -69,8 +70,12 @@ module _ (l : Lent) (o : Opens l) (b : Assignment) (size : length b ≡ plan l .
   pub told-refusal : (x : ℕ) → callRefusal (told (plan l) l b) x ≡ cond (isVariable (plan l) x) 0 23
   told-refusal x = only-variable (told (plan l) l b) x told-opens told-tallies ∙ ap (λ p. cond (isVariable p x) 0 23) (told-plan l b)
 
+  pub told-flip-refusal : (x : ℕ) → flipRefusal (told (plan l) l b) x ≡ flipFault (plan l) x
+  told-flip-refusal x =
+      only-flip (told (plan l) l b) x (only-variable (told (plan l) l b) x told-opens told-tallies) ∙ ap (λ p. flipFault p x) (told-plan l b)
+
   -- What an accepted flip leaves is told by the flipped bits.
-  module _ (x : ℕ) (v : isVariable (plan l) x ≡ true) where
+  module _ (x : ℕ) (v : isVariable (plan l) x ≡ true) (k : isLocked (plan l) x ≡ false) where
     flipped : turned (told (plan l) l b .assignment) x ≡ told (plan l) l (flip b x) .assignment
     unfolding told
     flipped =
@@ -83,28 +88,30 @@ module _ (l : Lent) (o : Opens l) (b : Assignment) (size : length b ≡ plan l .
     pub told-flip : leftBy (told (plan l) l b) (flipCall x) ≡ told (plan l) l (flip b x)
     unfolding leftBy flipAssignment flipTallies told plan
     told-flip =
-        rw (told-refusal x, v)
+        rw (told-flip-refusal x, v, k)
         (ap₂ (with-both l) flipped (ap₂ (λ c ts. tallyBytes (freshCount (plan l) c) ++ ts) flipped-bits (drop-fresh (plan l) (plan-fits l o) b (drop tallySize (l .tallies)))))
 
   pub told-left : (c : Call) → leftBy (told (plan l) l b) c ≡ told (plan l) l (entry (plan l) b c .bits)
-  unfolding entry
+  unfolding entry refusal
   told-left (flipCall x) =
-      either (isVariable (plan l) x) (λ e. rw e (told-flip x e)) (λ e. rw e (refused-left (told (plan l) l b) x {k = 22} (rw (told-refusal x, e))))
+      one-of (plan l) x (λ v k. rw (v, k) (told-flip x v k))
+      (λ v k. rw (v, k) (refused-left (told (plan l) l b) x {k = 25} (rw (told-flip-refusal x, v, k))))
+      (λ v. rw v (refused-left (told (plan l) l b) x {k = 22} (rw (told-flip-refusal x, v))))
   told-left (countsCall x) =
       either (isVariable (plan l) x) (λ e. rw e (counts-left (told (plan l) l b) x)) (λ e. rw e (counts-left (told (plan l) l b) x))
 
   pub told-answer : (c : Call) → answer (told (plan l) l b) c ≡ entry (plan l) b c .answer
-  unfolding answer entry countsBreak countsMake
+  unfolding answer entry refusal countsBreak countsMake
   told-answer (flipCall x) =
-      either (isVariable (plan l) x) (λ e. rw (told-refusal x, e)) (λ e. rw (told-refusal x, e))
+      one-of (plan l) x (λ v k. rw (told-flip-refusal x, v, k)) (λ v k. rw (told-flip-refusal x, v, k)) (λ v. rw (told-flip-refusal x, v))
   told-answer (countsCall x) =
       either (isVariable (plan l) x) (λ e. rw (told-refusal x, e, told-plan l b, told-bits l b size)) (λ e. rw (told-refusal x, e))
 
 -- ---- a list of calls
 
 entry-size : (p : Plan) (b : Assignment) (c : Call) → length (entry p b c .bits) ≡ length b
-unfolding entry
-entry-size p b (flipCall x) = either (isVariable p x) (λ e. rw e (length-flip b x)) (λ e. rw e)
+unfolding entry refusal
+entry-size p b (flipCall x) = one-of p x (λ v k. rw (v, k) (length-flip b x)) (λ v k. rw (v, k)) (λ v. rw v)
 entry-size p b (countsCall x) = either (isVariable p x) (λ e. rw e) (λ e. rw e)
 
 pub book-size : (p : Plan) (b : Assignment) (cs : List Call) → length (book p b cs .bits) ≡ length b

@@ -9,10 +9,11 @@ use lib.Dec.{T, leb, eqb, eqb·suc-zero}
 use lib.ListN.{getD, set, take}
 use lib.Seq.{take-take, take-set-lt, getD-take}
 use Rattle.plpb.specs.Lists.{_or_, all}
-use Rattle.plpb.specs.Plan.{Assignment, isVariable}
+use Rattle.plpb.specs.Plan.{Assignment, isVariable, isLocked}
 use Rattle.plpb.specs.Count.{cappedBreak, cappedMake}
 use Rattle.plpb.specs.Tallies.{freshCount}
 use Rattle.plpb.specs.Book.{flipCall, countsCall, Answer, refused, accepted, counted}
+use Rattle.plpb.proofs.Locks.{variable-range}
 use Rattle.words.specs.Writes.{SameWithin}
 use Rattle.format.specs.File.{refuse}
 use Rattle.format.specs.Tables.{tableSize, termSize, isLoaded, sameBytes}
@@ -22,11 +23,11 @@ use Rattle.format.proofs.Lawful.{plan-parts}
 use Rattle.format.proofs.Within.{short-within, loaded-within, plan-within}
 use Rattle.format.specs.Assignment.{bitsIn}
 use Rattle.tallies.specs.Layout.{assignmentSize, tallySize, bitsOf, areBits, tallyBytes, withTallies}
-use Rattle.tallies.specs.Calls.{Lent, plan, bits, tooSmall, freshBytes, openRefusal, openTallies, callRefusal, turned, flipAssignment, flipTallies, countsBreak, countsMake, answer, leftBy}
+use Rattle.tallies.specs.Calls.{Lent, plan, bits, tooSmall, freshBytes, openRefusal, openTallies, callRefusal, flipRefusal, turned, flipAssignment, flipTallies, countsBreak, countsMake, answer, leftBy}
 use Rattle.tallies.specs.Demand.{opened}
 use Rattle.tallies.specs.Within.{SameLent, OpensWithin, CallsWithin}
 use Rattle.tallies.proofs.TallyBytes.{take-fresh}
-use Rattle.tallies.proofs.Refusals.{either, Opens, opens, takes, variable-range, refused-left, plan-fits}
+use Rattle.tallies.proofs.Refusals.{either, Opens, opens, takes, flips, refused-left, plan-fits}
 
 -- ---- lists
 
@@ -105,6 +106,14 @@ module _ (l m : Lent) (s : SameLent l m) where
       go zero z = calling-both z x
       go (suc k) z = unfold callRefusal in rw (z, sym opening-both ∙ z, eqb·suc-zero k) refl
 
+  flip-both : (x : ℕ) → flipRefusal l x ≡ flipRefusal m x
+  unfolding flipRefusal
+  flip-both x = go (callRefusal l x) refl
+    where
+      go : (k : ℕ) → callRefusal l x ≡ k → flipRefusal l x ≡ flipRefusal m x
+      go zero z = rw (z, sym (call-both x) ∙ z) (ap (λ p. refuse (isLocked p x) 26 0) (plan-both (takes l x z .opening .loaded)))
+      go (suc k) z = rw (z, sym (call-both x) ∙ z, eqb·suc-zero k) refl
+
 -- ---- what is left
 
 -- Tallies of the same plan and bits are the same within their size.
@@ -122,12 +131,12 @@ opens-within l m s = (opening-both l m s, unfold opened in record { tables = s .
     go (suc k) z = unfold openTallies in rw (z, sym (opening-both l m s) ∙ z, eqb·suc-zero k) (s .tallies)
 
 -- An accepted flip of a variable, which is at most 512.
-module _ (l m : Lent) (s : SameLent l m) (x : ℕ) (z : callRefusal l x ≡ 0) where
+module _ (l m : Lent) (s : SameLent l m) (x : ℕ) (z : flipRefusal l x ≡ 0) where
   open-first : Opens l
-  open-first = takes l x z .opening
+  open-first = takes l x (flips l x z .0) .opening
 
   small : x ≤ assignmentSize
-  small = le-trans (variable-range (plan l) x (takes l x z .variable) .1) (variables-few l m s (open-first .loaded))
+  small = le-trans (variable-range (plan l) x (takes l x (flips l x z .0) .variable) .1) (variables-few l m s (open-first .loaded))
 
   turned-within : SameWithin assignmentSize (turned (l .assignment) x) (turned (m .assignment) x)
   turned-within =
@@ -145,7 +154,7 @@ module _ (l m : Lent) (s : SameLent l m) (x : ℕ) (z : callRefusal l x ≡ 0) w
   flip-within : SameLent (leftBy l (flipCall x)) (leftBy m (flipCall x))
   unfolding leftBy flipAssignment flipTallies
   flip-within =
-      rw (z, sym (call-both l m s x) ∙ z)
+      rw (z, sym (flip-both l m s x) ∙ z)
       record {
         tables = s .tables;
         terms = s .terms;
@@ -154,11 +163,11 @@ module _ (l m : Lent) (s : SameLent l m) (x : ℕ) (z : callRefusal l x ≡ 0) w
       }
 
 flips-within : (l m : Lent) → SameLent l m → (x : ℕ) → SameLent (leftBy l (flipCall x)) (leftBy m (flipCall x))
-flips-within l m s x = go (callRefusal l x) refl
+flips-within l m s x = go (flipRefusal l x) refl
   where
-    go : (k : ℕ) → callRefusal l x ≡ k → SameLent (leftBy l (flipCall x)) (leftBy m (flipCall x))
+    go : (k : ℕ) → flipRefusal l x ≡ k → SameLent (leftBy l (flipCall x)) (leftBy m (flipCall x))
     go zero z = flip-within l m s x z
-    go (suc k) z = rw (refused-left l x z, refused-left m x (sym (call-both l m s x) ∙ z)) s
+    go (suc k) z = rw (refused-left l x z, refused-left m x (sym (flip-both l m s x) ∙ z)) s
 
 -- The counts of an accepted call are those of the one plan and the same bits.
 counts-within : (l m : Lent) → SameLent l m → (x : ℕ) → (countsBreak l x ≡ countsBreak m x) × (countsMake l x ≡ countsMake m x)
@@ -175,7 +184,7 @@ counts-within l m s x = go (callRefusal l x) refl
 
 pub calls-within : CallsWithin
 unfolding answer
-calls-within l m (flipCall x) s = (ap (λ k. cond (eqb k 0) accepted (refused k)) (call-both l m s x), flips-within l m s x)
+calls-within l m (flipCall x) s = (ap (λ k. cond (eqb k 0) accepted (refused k)) (flip-both l m s x), flips-within l m s x)
 calls-within l m (countsCall x) s =
     let n = counts-within l m s x in
     (ap₂ (λ (k : ℕ) (c : Answer). cond (eqb k 0) c (refused k)) (call-both l m s x) (ap₂ counted (n .0) (n .1)), unfold leftBy in s)

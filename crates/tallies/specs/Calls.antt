@@ -7,7 +7,7 @@ use mathlib.Core.List.{List}
 use lib.Dec.{ltb, eqb}
 use lib.ListN.{length, getD, set, take}
 use Rattle.plpb.specs.Lists.{_or_}
-use Rattle.plpb.specs.Plan.{Plan, Assignment, isVariable}
+use Rattle.plpb.specs.Plan.{Plan, Assignment, isVariable, isLocked}
 use Rattle.plpb.specs.Count.{cappedBreak, cappedMake}
 use Rattle.plpb.specs.Tallies.{freshCount}
 use Rattle.plpb.specs.Book.{Call, flipCall, countsCall, Answer, refused, accepted, counted}
@@ -62,18 +62,22 @@ callRefusal l x =
     (refuse (not (sameBytes (take tallySize (l .tallies)) (freshBytes l))) 25 (refuse (not (isVariable (plan l) x)) 23 0))
     (openRefusal l)
 
+-- "26 for a flip of a locked variable, after 23" (T-01). Counts has no such refusal, and opening takes values other than those of the locks.
+unfoldable pub flipRefusal : Lent → ℕ → ℕ
+flipRefusal l x = cond (eqb (callRefusal l x) 0) (refuse (isLocked (plan l) x) 26 0) (callRefusal l x)
+
 -- "An accepted flip turns over one assignment byte"
 unfoldable pub turned : List ℕ → ℕ → List ℕ
 turned bytes zero = bytes
 turned bytes (suc i) = set bytes i (1 - getD bytes i 0)
 
 unfoldable pub flipAssignment : Lent → ℕ → List ℕ
-flipAssignment l x = cond (eqb (callRefusal l x) 0) (turned (l .assignment) x) (l .assignment)
+flipAssignment l x = cond (eqb (flipRefusal l x) 0) (turned (l .assignment) x) (l .assignment)
 
 -- .. and leaves the fresh count of what is then the assignment.
 unfoldable pub flipTallies : Lent → ℕ → List ℕ
 flipTallies l x =
-    cond (eqb (callRefusal l x) 0)
+    cond (eqb (flipRefusal l x) 0)
     (withTallies (plan l) (bitsOf (plan l .variables) (turned (l .assignment) x)) (l .tallies))
     (l .tallies)
 
@@ -86,7 +90,7 @@ countsMake l x = cond (eqb (callRefusal l x) 0) (cappedMake (plan l) (bits l) x)
 
 -- One call of a list, on what is lent: what it answers.
 unfoldable pub answer : Lent → Call → Answer
-answer l (flipCall x) = cond (eqb (callRefusal l x) 0) accepted (refused (callRefusal l x))
+answer l (flipCall x) = cond (eqb (flipRefusal l x) 0) accepted (refused (flipRefusal l x))
 answer l (countsCall x) = cond (eqb (callRefusal l x) 0) (counted (countsBreak l x) (countsMake l x)) (refused (callRefusal l x))
 
 -- .. and what it leaves: "each handed what the last one left".

@@ -47,7 +47,8 @@ abbrev pub account : Plan → Lent → List Call → Account
 account p l calls = book p (bitsOf (p .variables) (l .assignment)) calls
 
 -- "After the list, the answers are the book's, the first n assignment bytes its bits, the tallies their fresh count with 0 in unused
--- entries, and the tables, all other assignment bytes and every place past the full limits as lent to opening."
+-- entries, and the tables, all other assignment bytes and every place past the full limits as lent to opening." "In the tally statement a flip of
+-- a locked variable is one of the refused calls" (T-01).
 pub record Agrees (p : Plan) (l : Lent) (calls : List Call) : Type 0 where
   pub same-answers : answers (opened l) calls ≡ account p l calls .answers
   pub same-state : end l calls ≡ told p l (account p l calls .bits)
