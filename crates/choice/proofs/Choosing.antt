@@ -10,8 +10,8 @@ use lib.Dec.{T, ltb, eqb}
 use lib.ListN.{length, getD, drop, List·getD-append}
 use lib.Seq.{drop-at}
 use borrow.Author.Tests.{eq-eqb, ne-eqb}
-use Rattle.plpb.specs.Lists.{keep, isEmpty, row}
-use Rattle.plpb.specs.Plan.{Clause, Plan, Assignment, names}
+use Rattle.plpb.specs.Lists.{_and_, keep, isEmpty}
+use Rattle.plpb.specs.Plan.{Bound, absent, present, isPresent, Clause, Plan, Assignment, lockOf, isLocked, names}
 use Rattle.plpb.specs.Count.{cap, cappedBreak}
 use Rattle.plpb.specs.Numbers.{takePick}
 use Rattle.plpb.specs.Walk.{Walk, at, ends, run}
@@ -19,9 +19,10 @@ use Rattle.plpb.specs.Settings.{Settings}
 use Rattle.plpb.specs.Try.{Try}
 use Rattle.plpb.specs.Choice.{choosable, pickFrom, leastBreak, withBreak, noisyChoice, choice}
 use Rattle.words.specs.Words.{wordAt}
-use Rattle.format.specs.Tables.{planOfTables}
+use Rattle.format.specs.Tables.{lockWord, planOfTables}
+use Rattle.format.proofs.LockWords.{lock-word}
 use Rattle.recount.specs.Core.{Laid}
-use Rattle.recount.proofs.Laid.{variables-word}
+use Rattle.recount.proofs.Laid.{parts, variables-word}
 use Rattle.numbers.specs.declared.Picked.{Picked}
 use Rattle.numbers.specs.declared.Picked.the-variants as picked
 use Rattle.numbers.specs.Numbers.{numbersOf}
@@ -33,7 +34,7 @@ use Rattle.numbers.proofs.Finding.{marked-by}
 use Rattle.numbers.proofs.Runs.{pickFrom-taken, pickFrom-short, empty-by-length, noisy-least, noisy-any, noisy-short, choice-free, choice-noisy}
 use Rattle.choice.specs.declared.choose.Chosen.{Chosen}
 use Rattle.choice.specs.declared.choose.Chosen.the-variants as chosen
-use Rattle.free.specs.Marks.{clauseMarks, hasBreak, Parted}
+use Rattle.free.specs.Marks.{markBy, clauseMarks, hasBreak, Parted}
 use Rattle.choice.specs.Outcome.{outcomeOf, usedBy, Among, Chooses, PickMarked, MarksChoosable, ToChoose}
 use Rattle.free.proofs.Marking.{length-marks, mark-at}
 use Rattle.choice.proofs.Least.{count-small}
@@ -173,30 +174,39 @@ keep-candidates q (x ∷ xs) h = at (q x) h (keep-candidates q xs)
     at true k ih = absurd (omega arith)
     at false k ih = ap (λ ys. x ∷ ys) (ih k)
 
-one-marked : (b : Bool) → eqb (cond b 1 0) 1 ≡ b
-one-marked true = refl
-one-marked false = refl
+-- A variable is marked 1 where the clause names it and no lock has it.
+one-marked : (b : Bool) (k : Bound Bool) → eqb (cond b (cond (eqb (lockWord k) 0) 1 0) 0) 1 ≡ b and not (isPresent k)
+unfolding _and_ lockWord isPresent
+one-marked true absent = refl
+one-marked true (present true) = refl
+one-marked true (present false) = refl
+one-marked false k = refl
 
-module _ (c : Clause) (n : ℕ) (s : List ℕ) {t : List ℕ} (h : t ≡ clauseMarks c n ++ drop n s) where
-  pub clause-beyond : drop n t ≡ drop n s
-  clause-beyond = rw h (drop-at (clauseMarks c n) (drop n s) n (length-marks n c))
+module _ {tables terms : List ℕ} (y : Laid tables terms) (c : Clause) (s : List ℕ) {t : List ℕ}
+    (h : t ≡ clauseMarks (markBy tables) c (planOfTables tables terms .variables) ++ drop (planOfTables tables terms .variables) s) where
+  abbrev here : Plan
+  here = planOfTables tables terms
 
-  clause-told : marked t n 1 ≡ keep (names c) (row 1 n)
-  clause-told = marked-by t n 1 (names c) each
+  clause-beyond : drop (here .variables) t ≡ drop (here .variables) s
+  clause-beyond = rw h (drop-at (clauseMarks (markBy tables) c (here .variables)) (drop (here .variables) s) (here .variables) (length-marks (markBy tables) (here .variables) c))
+
+  clause-told : marked t (here .variables) 1 ≡ choosable here c
+  unfolding choosable isLocked markBy
+  clause-told = marked-by t (here .variables) 1 (λ x. names c x and not (isLocked here x)) each
     where
-      each : (i : ℕ) → i < n → eqb (getD t i 0) 1 ≡ names c (suc i)
+      each : (i : ℕ) → i < here .variables → eqb (getD t i 0) 1 ≡ names c (suc i) and not (isPresent (lockOf here (suc i)))
       each i l =
+          let marks = clauseMarks (markBy tables) c (here .variables) in
+          let word = lock-word here tables terms (y .room) (y .holds) (suc i) (omega arith) (omega (arith, parts tables terms y .high)) in
           rw h
-          (ap (λ m. eqb m 1) (List·getD-append (clauseMarks c n) (drop n s) 0 i (rw (length-marks n c) l) ∙ mark-at n c i l)
-          ∙ one-marked (names c (suc i)))
+          (ap (λ m. eqb m 1) (List·getD-append marks (drop (here .variables) s) 0 i (rw (length-marks (markBy tables) (here .variables) c) l) ∙ mark-at (markBy tables) (here .variables) c i l)
+          ∙ ap (λ w. eqb (cond (names c (suc i)) (cond (eqb w 0) 1 0) 0) 1) word
+          ∙ one-marked (names c (suc i)) (lockOf here (suc i)))
 
--- The variables of a clause are marked 1, and none other.
-pub choosable-marked : (p : Plan) (c : Clause) (s : List ℕ) {t : List ℕ} {n k : ℕ} → n ≡ p .variables
-    → t ≡ clauseMarks c (p .variables) ++ drop (p .variables) s → k ≡ length (marked t n 1) → MarksChoosable p c s t k
-unfolding choosable
-choosable-marked p c s {t} e h k =
-    let told = clause-told c (p .variables) s h in
-    record { marks = told; counted = k ∙ ap (λ m. length (marked t m 1)) e ∙ ap length told; beyond = clause-beyond c (p .variables) s h }
+  -- The unlocked variables of a clause are marked 1, and none other.
+  pub choosable-marked : {n k : ℕ} → n ≡ planOfTables tables terms .variables → k ≡ length (marked t n 1) → MarksChoosable (planOfTables tables terms) c s t k
+  choosable-marked e k =
+      record { marks = clause-told; counted = k ∙ ap (λ m. length (marked t m 1)) e ∙ ap length clause-told; beyond = clause-beyond }
 
 -- ---- the choice
 

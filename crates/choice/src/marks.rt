@@ -8,12 +8,14 @@ ghost use Rattle.plpb.specs.Count.{cappedBreak};
 ghost use Rattle.plpb.specs.Choice.{leastBreak};
 ghost use Rattle.words.specs.Words.{wordAt};
 ghost use Rattle.format.specs.Tables.{ruleOf, planOfTables};
-ghost use Rattle.rules.specs.Terms.{termsAt, Readable};
+ghost use Rattle.rules.specs.Terms.{termsAt};
+ghost use Rattle.format.specs.Limits.{maxVariables};
+ghost use Rattle.format.specs.Layout.{tableSize};
 ghost use Rattle.recount.specs.Core.{Ready};
 ghost use Rattle.numbers.specs.Finding.{marked};
 ghost use Rattle.breaks.specs.Breaks.{lentBits};
 ghost use Rattle.choice.specs.Outcome.{MarksChoosable};
-ghost use Rattle.free.specs.Marks.{markTerms, markRules, clauseMarks, hasBreak, parting, lowering, Written, Parted, LeastSoFar};
+ghost use Rattle.free.specs.Marks.{markBy, markTerms, markRules, clauseMarks, Markable, hasBreak, parting, lowering, Written, Parted, LeastSoFar};
 use counting::count::Count;
 use exact::counts_core;
 use free::free_marks;
@@ -23,16 +25,29 @@ use recount::clause::rules_of;
 use words::clear;
 use words::index;
 
+// The mark of a variable that a clause names: 1, or 0 where it is locked.
+fn mark_of(tables: &[u8], x: usize) -> u8
+    requires { ⌜ (x ≤ maxVariables) × (tableSize ≤ length (now tables)) ⌝ }
+    ensures { λ r. ⌜ r ≡ markBy (now (tables .entry)) x ⌝ }
+{
+    if index(tables, format::LOCKS + x) == 0 {
+        1
+    } else {
+        0
+    }
+}
+
 // Marks the variables of a run of terms.
-fn mark_terms(terms: &[u8], first: usize, count: usize, marks: &mut [u8])
-    requires { ⌜ Readable (now terms) (now marks) first count ⌝ }
-    ensures { λ _. ⌜ now (marks .exit) ≡ markTerms (termsAt (wordAt (now (terms .entry))) first count) (now (marks .entry)) ⌝ }
+fn mark_terms(tables: &[u8], terms: &[u8], first: usize, count: usize, marks: &mut [u8])
+    requires { ⌜ Markable (now tables) (now terms) (now marks) first count ⌝ }
+    ensures { λ _. ⌜ now (marks .exit)
+        ≡ markTerms (markBy (now (tables .entry))) (termsAt (wordAt (now (terms .entry))) first count) (now (marks .entry)) ⌝ }
 {
     let end = first + count;
     let mut i = first;
     while i < end {
         let x = index(terms, 2 * i);
-        marks[x - 1] = 1;
+        marks[x - 1] = mark_of(tables, x);
         i += 1;
     }
 }
@@ -40,17 +55,19 @@ fn mark_terms(terms: &[u8], first: usize, count: usize, marks: &mut [u8])
 fn mark_rule(tables: &[u8], terms: &[u8], r: usize, marks: &mut [u8])
     requires { ⌜ Ready (now tables) (now terms) (now marks) × (r < wordAt (now tables) 2) ⌝ }
     ensures { λ _. ⌜ now (marks .exit)
-        ≡ markTerms (ruleOf (wordAt (now (tables .entry))) (wordAt (now (terms .entry))) r .terms) (now (marks .entry)) ⌝ }
+        ≡ markTerms (markBy (now (tables .entry))) (ruleOf (wordAt (now (tables .entry))) (wordAt (now (terms .entry))) r .terms)
+        (now (marks .entry)) ⌝ }
 {
     let first = index(tables, format::RULES + 5 * r);
     let count = index(tables, format::RULE_COUNT + 5 * r);
-    mark_terms(terms, first, count, marks);
+    mark_terms(tables, terms, first, count, marks);
 }
 
 fn mark_rules(tables: &[u8], terms: &[u8], first: usize, end: usize, marks: &mut [u8])
     requires { ⌜ Ready (now tables) (now terms) (now marks) × (end ≤ wordAt (now tables) 2) ⌝ }
     ensures { λ _. ⌜ now (marks .exit)
-        ≡ markRules (map (ruleOf (wordAt (now (tables .entry))) (wordAt (now (terms .entry)))) (row first (end - first))) (now (marks .entry)) ⌝ }
+        ≡ markRules (markBy (now (tables .entry)))
+        (map (ruleOf (wordAt (now (tables .entry))) (wordAt (now (terms .entry)))) (row first (end - first))) (now (marks .entry)) ⌝ }
 {
     let mut r = first;
     while r < end {
@@ -59,11 +76,11 @@ fn mark_rules(tables: &[u8], terms: &[u8], first: usize, end: usize, marks: &mut
     }
 }
 
-// Marks the variables that a clause names with 1 and the others with 0: each once, however many of its rules name it.
+// Marks the unlocked variables that a clause names with 1 and the others with 0: each once, however many of its rules name it.
 fn mark_clause(tables: &[u8], terms: &[u8], c: usize, marks: &mut [u8])
     requires { ⌜ Ready (now tables) (now terms) (now marks) × (c < wordAt (now tables) 1) ⌝ }
     ensures { λ _. ⌜ now (marks .exit)
-        ≡ clauseMarks (getD (planOfTables (now (tables .entry)) (now (terms .entry)) .clauses) c [])
+        ≡ clauseMarks (markBy (now (tables .entry))) (getD (planOfTables (now (tables .entry)) (now (terms .entry)) .clauses) c [])
         (planOfTables (now (tables .entry)) (now (terms .entry)) .variables) ++ drop (planOfTables (now (tables .entry)) (now (terms .entry)) .variables)
         (now (marks .entry)) ⌝ }
 {

@@ -19,14 +19,15 @@ use mir.Syntax.{w64}
 use mir.Val.{SFits, toZ, ofZ}
 use borrow.Author.Tests.{ltb-true}
 use Rattle.plpb.specs.Lists.{keep, row}
-use Rattle.plpb.specs.Plan.{Term, value, total, negativePart, leastTotal}
+use Rattle.plpb.specs.Plan.{Term, value, total, negativePart}
 use Rattle.words.specs.Words.{wordAt, signed}
 use Rattle.format.specs.Tables.{objectiveOf, sparse, named, isSome}
 use Rattle.format.proofs.Bounds.{natAbs-zero}
 use Rattle.format.proofs.Objective.{sparse-skip, sparse-hold}
 use Rattle.counting.proofs.Signed.{small-fits, size-sum}
 use Rattle.format.specs.Assignment.{bitsIn, bitsOf}
-use Rattle.costs.specs.Sums.{costIn, floorIn, weightAt, shareAt, leastAt, sumFrom}
+use Rattle.costs.specs.Sums.{costIn, leastBy, leastIn, floorIn, weightAt, shareAt, leastAt, sumFrom}
+use Rattle.format.specs.Layout.{locksAt, lockAt}
 
 -- ---- a sum over terms, and over coefficients
 
@@ -57,6 +58,10 @@ module _
 pub place : (i : ℕ) → 3 + suc i ≡ 4 + i
 place i = omega arith
 
+-- Its lock at word 6,667 + i.
+pub lock-place : (i : ℕ) → lockAt (suc i) ≡ locksAt + i
+lock-place i = omega arith
+
 -- The bit of variable i + 1.
 bit-at : (n : ℕ) (bytes : List ℕ) (i : ℕ) → i < n → value (bitsOf n bytes) (suc i) ≡ eqb (getD bytes i 0) 1
 unfolding value bitsOf bitsIn
@@ -66,9 +71,14 @@ no-share : (b : Bool) (w : ℤ) → w ≡ pos 0 → cond b w (pos 0) ≡ pos 0
 no-share true w e = e
 no-share false w e = refl
 
-no-least : (w : ℤ) → w ≡ pos 0 → negativePart w ≡ pos 0
-unfolding negativePart
-no-least w e = rw e
+no-least : (lock : ℕ) (w : ℤ) → w ≡ pos 0 → leastBy lock w ≡ pos 0
+unfolding negativePart leastBy
+no-least lock w e = rw e (either (eqb lock 0) (eqb lock 1))
+  where
+    either : (b c : Bool) → cond b (pos 0) (cond c (pos 0) (pos 0)) ≡ pos 0
+    either true c = refl
+    either false true = refl
+    either false false = refl
 
 -- What an assignment costs is what its variables cost; l(O) what they cost at least.
 pub cost-summed :
@@ -83,12 +93,12 @@ cost-summed tables bytes =
     ∙ sumFrom-same _ _ n 0 n (omega arith) (λ i h. rw (bit-at n bytes i h, place i))
 
 pub floor-summed : (tables : List ℕ) → floorIn tables ≡ sumFrom (leastAt tables) 0 (wordAt tables 0)
-unfolding floorIn objectiveOf leastAt weightAt leastTotal sparse named isSome
+unfolding floorIn leastIn objectiveOf leastAt weightAt sparse named isSome
 floor-summed tables =
     let n = wordAt tables 0 in
-    terms-summed leastTotal (λ t. negativePart (t .weight)) refl (λ t ts. refl) (λ t. no-least (t .weight))
-    (λ x. signed (wordAt tables (3 + x))) 0 n
-    ∙ sumFrom-same _ _ n 0 n (omega arith) (λ i h. rw (place i))
+    terms-summed (leastIn tables) (λ t. leastBy (wordAt tables (lockAt (t .variable))) (t .weight)) refl (λ t ts. refl)
+    (λ t. no-least (wordAt tables (lockAt (t .variable))) (t .weight)) (λ x. signed (wordAt tables (3 + x))) 0 n
+    ∙ sumFrom-same _ _ n 0 n (omega arith) (λ i h. rw (place i, lock-place i))
 
 -- ---- summing up one after the other
 
@@ -147,8 +157,13 @@ negative-small (pos n) h = zero-le
 negative-small (negsuc n) h = h
 
 pub least-small : (tables : List ℕ) (i : ℕ) → natAbs (weightAt tables i) ≤ 1_000_000 → natAbs (leastAt tables i) ≤ 1_000_000
-unfolding leastAt
-least-small tables i h = negative-small (weightAt tables i) h
+unfolding leastAt leastBy
+least-small tables i h = either (eqb (wordAt tables (locksAt + i)) 0) (eqb (wordAt tables (locksAt + i)) 1)
+  where
+    either : (b c : Bool) → natAbs (cond b (negativePart (weightAt tables i)) (cond c (pos 0) (weightAt tables i))) ≤ 1_000_000
+    either true c = negative-small (weightAt tables i) h
+    either false true = zero-le
+    either false false = h
 
 -- What the test `weight < 0` tells.
 pub negative-taken : (w : ℤ) → ltZ w (pos 0) ≡ true → w ≡ negativePart w

@@ -3,27 +3,30 @@
 -- Assumes nothing.
 use Prim.Native.Nat.{ℕ, suc, _+_, _*_, _/_, _≤_, _<_, zero-le}
 use native.Mathlib.Omega.{arith}
-use mathlib.Core.Path.{_≡_, ap}
+use mathlib.Core.Path.{_≡_, refl, ap, _∙_}
 use mathlib.Core.Bool.{Bool, true, false, cond}
 use mathlib.Core.List.{List, [], _∷_}
 use lib.Dec.{T}
+use borrow.Author.Tests.{ltb-true, leb-true}
 use lib.IntN.{ℤ, pos, negsuc, natAbs, _+ℤ_, _*ℤ_}
 use lib.ListN.{length, take, length-take}
 use lib.Signed.{leZ}
 use Rattle.plpb.specs.Lists.{_and_, all}
-use Rattle.plpb.specs.Plan.{Term, Plan, Assignment, value, total, cost, negativePart, leastTotal, floorCost, rising}
+use Rattle.plpb.specs.Plan.{Bound, absent, present, Term, Plan, Assignment, value, lockOf, total, cost, leastOf, leastCost, floorCost, risingAbove, rising}
 use Rattle.plpb.specs.Search.{third, lbsBound, linearBound, atFloor}
 use Rattle.words.specs.Words.{wordBytes, wordAt}
 use Rattle.words.proofs.Words.{length-wordBytes}
 use Rattle.format.specs.Limits.{roomy}
-use Rattle.format.specs.Tables.{tableWords, termWords, tableSize, termSize, Holds, objectiveOf, planIn, planOfTables}
+use Rattle.format.specs.Tables.{tableWords, termWords, tableSize, termSize, Holds, lockWord, objectiveOf, planIn, planOfTables}
+use Rattle.format.specs.Layout.{lockAt}
 use Rattle.format.proofs.Bools.{and-left, and-right}
 use Rattle.format.proofs.Lawful.{termWithin, weight-small, terms-short, roomy-parts}
 use Rattle.format.proofs.Sections.{Sections, length-tableWords, length-termWords}
 use Rattle.format.proofs.ReadBack.{holds-sections, cost-back, read-back}
 use Rattle.format.proofs.WordBounds.{coefficient-small}
+use Rattle.format.proofs.LockWords.{lock-word}
 use Rattle.counting.proofs.Signed.{size-sum, size-double}
-use Rattle.costs.specs.Sums.{costIn, floorIn, weightAt, Summable}
+use Rattle.costs.specs.Sums.{costIn, leastBy, leastIn, floorIn, weightAt, Summable}
 use Rattle.costs.proofs.Coefficients.{place, negative-small}
 
 -- ---- tables that hold a plan
@@ -31,6 +34,24 @@ use Rattle.costs.proofs.Coefficients.{place, negative-small}
 -- A list of which the first n elements are that many has room for them.
 pub room-of : (n : ℕ) (s ws : List ℕ) → take n s ≡ ws → length ws ≡ n → n ≤ length s
 room-of n s ws e l = omega (arith, length-take n s, ap length e)
+
+-- What a coefficient counts by the word of its variable's lock is what it counts in l(O).
+by-word : (k : Bound Bool) (w : ℤ) → leastBy (lockWord k) w ≡ leastOf k w
+unfolding leastBy lockWord leastOf
+by-word absent w = refl
+by-word (present true) w = refl
+by-word (present false) w = refl
+
+module _
+    (p : Plan) (tables : List ℕ) (word : (x : ℕ) → 1 ≤ x → x ≤ 512 → wordAt tables (lockAt x) ≡ lockWord (lockOf p x)) (high : p .variables ≤ 512)
+  where
+    least-told : (v : ℕ) (ts : List Term) → risingAbove v ts ≡ true → all (termWithin (p .variables)) ts ≡ true → leastIn tables ts ≡ leastCost p ts
+    unfolding leastIn leastCost risingAbove all termWithin
+    least-told v [] a b = refl
+    least-told v (t ∷ ts) a b =
+        let low = ltb-true v (t .variable) (and-left _ _ a) in
+        let most = leb-true (t .variable) (p .variables) (and-left _ _ (and-left _ _ b)) in
+        rw (word (t .variable) (omega arith) (omega arith), by-word (lockOf p (t .variable)) (t .weight), least-told (t .variable) ts (and-right _ _ a) (and-right _ _ b))
 
 module _ (p : Plan) (tables terms : List ℕ) (r : T (roomy p)) (h : Holds p tables terms) where
   pub table-room : tableSize ≤ length tables
@@ -69,8 +90,11 @@ module _ (p : Plan) (tables terms : List ℕ) (r : T (roomy p)) (h : Holds p tab
   cost-in a = ap (total a) objective-in
 
   pub floor-in : floorIn tables ≡ floorCost p
-  unfolding floorIn floorCost
-  floor-in = ap leastTotal objective-in
+  unfolding floorIn floorCost rising
+  floor-in =
+      let l = roomy-parts p r in
+      ap (leastIn tables) objective-in
+      ∙ least-told p tables (lock-word p tables terms r h) (l .high) 0 (p .objective) (l .objective .rise) (l .objective .within)
 
 -- ---- how large
 
@@ -86,12 +110,17 @@ module _ (n : ℕ) where
       let w = share-size (value a (t .variable)) (t .weight) (weight-small (t .weight) (and-right _ _ (and-left _ _ h))) in
       omega (arith, w, total-size a ts (and-right _ _ h), size-sum (cond (value a (t .variable)) (t .weight) (pos 0)) (total a ts))
 
-  least-size : (ts : List Term) → all (termWithin n) ts ≡ true → natAbs (leastTotal ts) ≤ 1_000_000 * length ts
-  unfolding all termWithin leastTotal
-  least-size [] h = zero-le
-  least-size (t ∷ ts) h =
-      let w = negative-small (t .weight) (weight-small (t .weight) (and-right _ _ (and-left _ _ h))) in
-      omega (arith, w, least-size ts (and-right _ _ h), size-sum (negativePart (t .weight)) (leastTotal ts))
+  part-size : (k : Bound Bool) (w : ℤ) → natAbs w ≤ 1_000_000 → natAbs (leastOf k w) ≤ 1_000_000
+  unfolding leastOf
+  part-size absent w h = negative-small w h
+  part-size (present v) w h = share-size v w h
+
+  least-size : (p : Plan) (ts : List Term) → all (termWithin n) ts ≡ true → natAbs (leastCost p ts) ≤ 1_000_000 * length ts
+  unfolding all termWithin leastCost
+  least-size p [] h = zero-le
+  least-size p (t ∷ ts) h =
+      let w = part-size (lockOf p (t .variable)) (t .weight) (weight-small (t .weight) (and-right _ _ (and-left _ _ h))) in
+      omega (arith, w, least-size p ts (and-right _ _ h), size-sum (leastOf (lockOf p (t .variable)) (t .weight)) (leastCost p ts))
 
 module _ (p : Plan) (r : T (roomy p)) where
   pub objective-short : length (p .objective) ≤ p .variables
@@ -109,17 +138,17 @@ module _ (p : Plan) (r : T (roomy p)) where
 
   pub floor-size : natAbs (floorCost p) ≤ 512_000_000
   unfolding floorCost
-  floor-size = omega (arith, few, least-size (p .variables) (p .objective) (roomy-parts p r .objective .within))
+  floor-size = omega (arith, few, least-size (p .variables) p (p .objective) (roomy-parts p r .objective .within))
 
 -- A cost above l(O) has a term to come from.
-some-terms : (a : Assignment) (ts : List Term) → (leZ (total a ts) (leastTotal ts) and leZ (leastTotal ts) (total a ts)) ≡ false → 0 < length ts
-unfolding total leastTotal _and_
-some-terms a [] e = absurd (let z : _≡_ {A = ℕ} 0 1 = cc in omega arith)
-some-terms a (t ∷ ts) e = omega arith
+some-terms : (p : Plan) (a : Assignment) (ts : List Term) → (leZ (total a ts) (leastCost p ts) and leZ (leastCost p ts) (total a ts)) ≡ false → 0 < length ts
+unfolding total leastCost _and_
+some-terms p a [] e = absurd (let z : _≡_ {A = ℕ} 0 1 = cc in omega arith)
+some-terms p a (t ∷ ts) e = omega arith
 
 pub some-objective : (p : Plan) (a : Assignment) → atFloor p a ≡ false → 0 < length (p .objective)
 unfolding atFloor cost floorCost
-some-objective p a e = some-terms a (p .objective) e
+some-objective p a e = some-terms p a (p .objective) e
 
 third-size : (z : ℤ) → natAbs (third z) ≤ natAbs z / 3 + 1
 unfolding third

@@ -8,7 +8,9 @@ ghost use lib.ListN.{length};
 ghost use Rattle.plpb.specs.Plan.{negativePart};
 ghost use Rattle.words.specs.Words.{wordAt};
 ghost use Rattle.format.specs.Assignment.{bitsOf};
-ghost use Rattle.costs.specs.Sums.{costIn, floorIn, weightAt, shareAt, leastAt, Summable};
+ghost use Rattle.format.specs.Limits.{maxVariables};
+ghost use Rattle.format.specs.Layout.{tableSize};
+ghost use Rattle.costs.specs.Sums.{costIn, floorIn, weightAt, shareAt, leastBy, leastAt, Summable};
 
 // A signed number in 64 bits.
 fn wide(v: i32) -> i64
@@ -47,11 +49,27 @@ fn negative(weight: i64) -> i64
     if weight < 0 { weight } else { 0 }
 }
 
+// .. or what it costs at the value that it is locked at: 0 for free, 1 for locked at 0, 2 for locked at 1.
+fn least_by(lock: usize, weight: i64) -> i64
+    ensures { λ r. ⌜ r ≡ leastBy lock weight ⌝ }
+{
+    if lock == 0 {
+        return negative(weight);
+    }
+    if lock == 1 {
+        return 0;
+    }
+    weight
+}
+
 fn least(tables: &[u8], i: usize) -> i64
-    requires { ⌜ 4 * (4 + i) + 4 ≤ length (now tables) ⌝ }
+    requires { ⌜ (i < maxVariables) × (tableSize ≤ length (now tables)) ⌝ }
     ensures { λ r. ⌜ r ≡ leastAt (now (tables .entry)) i ⌝ }
 {
-    negative(coefficient(tables, i))
+    least_by(
+        words::index(tables, format::RULES_END + i),
+        coefficient(tables, i),
+    )
 }
 
 // What an assignment costs.

@@ -1,6 +1,6 @@
 -- Marks of variables: those of a clause, and those to choose from parted by a test.
 -- Assumes nothing.
-use Prim.Native.Nat.{ℕ, suc, _+_, _-_, _≤_, _<_, min}
+use Prim.Native.Nat.{ℕ, suc, _+_, _*_, _-_, _≤_, _<_, min}
 use mathlib.Core.Path.{_≡_}
 use mathlib.Core.Bool.{Bool, cond, not}
 use mathlib.Core.List.{List, [], _∷_, map}
@@ -10,20 +10,34 @@ use Rattle.plpb.specs.Lists.{keep, row}
 use Rattle.plpb.specs.Plan.{Term, Rule, Clause, Plan, Assignment, names}
 use Rattle.plpb.specs.Count.{cap, cappedBreak}
 use Rattle.plpb.specs.Choice.{leastBreak}
+use Rattle.words.specs.Words.{wordAt}
+use Rattle.format.specs.Limits.{maxVariables}
+use Rattle.format.specs.Layout.{tableSize, lockAt}
+use Rattle.rules.specs.Terms.{Readable}
 use Rattle.numbers.specs.Finding.{marked}
 
--- Terms and rules mark their variables one after another.
-unfoldable pub markTerms : List Term → List ℕ → List ℕ
-markTerms [] s = s
-markTerms (t ∷ ts) s = markTerms ts (set s (t .variable - 1) 1)
+-- "Only unlocked variables of a clause may be chosen": the mark of a variable, by the word of its lock.
+unfoldable pub markBy : List ℕ → ℕ → ℕ
+markBy tables x = cond (eqb (wordAt tables (lockAt x)) 0) 1 0
 
-unfoldable pub markRules : List Rule → List ℕ → List ℕ
-markRules [] s = s
-markRules (q ∷ qs) s = markRules qs (markTerms (q .terms) s)
+-- Terms and rules mark their variables one after another, each with its own mark.
+unfoldable pub markTerms : (ℕ → ℕ) → List Term → List ℕ → List ℕ
+markTerms m [] s = s
+markTerms m (t ∷ ts) s = markTerms m ts (set s (t .variable - 1) (m (t .variable)))
 
--- The marks of n variables: 1 for those that a clause names.
-unfoldable pub clauseMarks : Clause → ℕ → List ℕ
-clauseMarks c n = map (λ x. cond (names c x) 1 0) (row 1 n)
+unfoldable pub markRules : (ℕ → ℕ) → List Rule → List ℕ → List ℕ
+markRules m [] s = s
+markRules m (q ∷ qs) s = markRules m qs (markTerms m (q .terms) s)
+
+-- The marks of n variables: its own for each that a clause names.
+unfoldable pub clauseMarks : (ℕ → ℕ) → Clause → ℕ → List ℕ
+clauseMarks m c n = map (λ x. cond (names c x) (m x) 0) (row 1 n)
+
+-- What marking the variables of some terms needs: each has a mark, and a word in the section of locks.
+pub record Markable (tables terms marks : List ℕ) (first count : ℕ) : Type 0 where
+  pub body : Readable terms marks first count
+  pub few : (i : ℕ) → first ≤ i → i < first + count → wordAt terms (2 * i) ≤ maxVariables
+  pub room : tableSize ≤ length tables
 
 -- The first marks are written one after another, each from its variable and what it was.
 pub record Written (k : ℕ → ℕ → ℕ) (i : ℕ) (entry exit : List ℕ) : Type 0 where

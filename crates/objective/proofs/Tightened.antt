@@ -11,14 +11,14 @@ use lib.IntN.{ℤ, natAbs}
 use lib.ListN.{length, replicate, length-append, length-map}
 use borrow.Author.Tests.{le-leb}
 use Rattle.plpb.specs.Lists.{_and_, _or_, all, concat, sumBy, row}
-use Rattle.plpb.specs.Plan.{absent, present, Rule, Clause, Plan, rising}
+use Rattle.plpb.specs.Plan.{absent, present, Rule, Clause, Plan, isVariable, lockOf, rising}
 use Rattle.plpb.specs.Search.{tightened}
 use Rattle.plpb.specs.Tallies.{rulesOf}
 use Rattle.words.specs.Words.{unsigned}
 use Rattle.words.specs.Writes.{front, put}
 use Rattle.format.specs.Limits.{termCount, boundLawful, isPresent}
 use Rattle.format.specs.Writer.{mode, boundNumber}
-use Rattle.format.specs.Tables.{coefficient, padTo, padWith, clauseEntries, ruleEntries, termEntries, allTerms, tableWords, termWords}
+use Rattle.format.specs.Tables.{coefficient, padTo, padWith, clauseEntries, ruleEntries, termEntries, allTerms, lockWord, tableWords, termWords}
 use Rattle.format.proofs.Bools.{and-join}
 use Rattle.format.proofs.Bounds.{bothLawful}
 use Rattle.format.proofs.Lists.{all-append, sumBy-append, length-row}
@@ -110,6 +110,7 @@ module _ (p : Plan) (l : LawfulPlan p) (some : 0 < length (p .objective)) (m : �
         low = l .low;
         high = l .high;
         objective = l .objective;
+        locks = l .locks;
         clauses = all-append (clauseLawful (p .variables)) (p .clauses) _ (l .clauses) (and-join _ _ lawfulClause refl);
         clauseCount = omega (arith, l .clauseCount);
         ruleCount = omega (arith, l .ruleCount, ap length (rules-last p m));
@@ -118,27 +119,29 @@ module _ (p : Plan) (l : LawfulPlan p) (some : 0 < length (p .objective)) (m : �
 
 -- ---- the words
 
--- The sections of a table: four counts, 512 coefficients, the clauses' and the rules' entries.
-module _ (a b c d i : ℕ) (os xs ys ws : List ℕ) (coefficients : length os ≡ 512) where
+-- The sections of a table: four counts, 512 coefficients, the clauses' entries, the rules' and the locks.
+module _ (a b c d i : ℕ) (os xs ys ks ws : List ℕ) (coefficients : length os ≡ 512) where
   put-clause :
       i + length ws ≤ length xs
-      → put (clausesAt + i) ws (a ∷ b ∷ c ∷ d ∷ (os ++ (xs ++ ys))) ≡ a ∷ b ∷ c ∷ d ∷ (os ++ (put i ws xs ++ ys))
+      → put (clausesAt + i) ws (a ∷ b ∷ c ∷ d ∷ (os ++ (xs ++ (ys ++ ks)))) ≡ a ∷ b ∷ c ∷ d ∷ (os ++ (put i ws xs ++ (ys ++ ks)))
   unfolding put
   put-clause h =
       let e : clausesAt + i ≡ suc (suc (suc (suc (512 + i)))) = omega arith in
       rw e
       (ap (λ zs. a ∷ b ∷ c ∷ d ∷ zs)
-      (put-behind 512 i ws os (xs ++ ys) coefficients ∙ ap (λ zs. os ++ zs) (put-inside i ws xs ys h)))
+      (put-behind 512 i ws os (xs ++ (ys ++ ks)) coefficients ∙ ap (λ zs. os ++ zs) (put-inside i ws xs (ys ++ ks) h)))
 
   put-rule :
       length xs ≡ clauseWordCount
-      → put (rulesAt + i) ws (a ∷ b ∷ c ∷ d ∷ (os ++ (xs ++ ys))) ≡ a ∷ b ∷ c ∷ d ∷ (os ++ (xs ++ put i ws ys))
+      → i + length ws ≤ length ys
+      → put (rulesAt + i) ws (a ∷ b ∷ c ∷ d ∷ (os ++ (xs ++ (ys ++ ks)))) ≡ a ∷ b ∷ c ∷ d ∷ (os ++ (xs ++ (put i ws ys ++ ks)))
   unfolding put
-  put-rule h =
+  put-rule h room =
       let e : rulesAt + i ≡ suc (suc (suc (suc (512 + (clauseWordCount + i))))) = omega arith in
       rw e
       (ap (λ zs. a ∷ b ∷ c ∷ d ∷ zs)
-      (put-behind 512 (clauseWordCount + i) ws os (xs ++ ys) coefficients ∙ ap (λ zs. os ++ zs) (put-behind clauseWordCount i ws xs ys h)))
+      (put-behind 512 (clauseWordCount + i) ws os (xs ++ (ys ++ ks)) coefficients
+      ∙ ap (λ zs. os ++ zs) (put-behind clauseWordCount i ws xs (ys ++ ks) h ∙ ap (λ zs. xs ++ zs) (put-inside i ws ys ks room))))
 
 put-counts : (a b c d x y z : ℕ) (ws : List ℕ) → put 1 (x ∷ y ∷ z ∷ []) (a ∷ b ∷ c ∷ d ∷ ws) ≡ a ∷ x ∷ y ∷ z ∷ ws
 unfolding put front
@@ -153,6 +156,9 @@ module _ (p : Plan) (l : LawfulPlan p) where
 
   abbrev second : List ℕ
   second = ruleEntries 0 (rulesOf p)
+
+  abbrev locked : List ℕ
+  locked = map (λ x. lockWord (lockOf p x)) (row 1 512)
 
   -- The words of the added clause's entry, of its rule's and of the counts.
   abbrev pub clauseWords : List ℕ
@@ -175,6 +181,10 @@ module _ (p : Plan) (l : LawfulPlan p) where
 
   length-firstPart : (ws : List ℕ) → length ws ≤ 2 → length (padTo clauseWordCount (first ++ ws)) ≡ clauseWordCount
   length-firstPart ws h = length-padTo clauseWordCount (first ++ ws) (omega (arith, length-append first ws, length-first, l .clauseCount))
+
+  -- One rule more fits its section.
+  rule-room : (ws : List ℕ) → length ws ≡ 5 * length (rulesOf p) → 5 * length (rulesOf p) + 5 ≤ length (padTo ruleWordCount ws)
+  rule-room ws e = omega (arith, length-padTo ruleWordCount ws (omega (arith, l .ruleCount)), l .ruleCount)
 
   module _ (m : ℤ) where
     clause-count : length (tightened p m .clauses) ≡ length (p .clauses) + 1
@@ -203,14 +213,14 @@ module _ (p : Plan) (l : LawfulPlan p) where
         ∷ (length (p .clauses) + 1)
         ∷ (length (rulesOf p) + 1)
         ∷ (termCount p + length (p .objective))
-        ∷ (costs ++ (padTo clauseWordCount (first ++ clauseWords) ++ padTo ruleWordCount (second ++ ruleWords m)))
-    unfolding tableWords tightened
+        ∷ (costs ++ (padTo clauseWordCount (first ++ clauseWords) ++ (padTo ruleWordCount (second ++ ruleWords m) ++ locked)))
+    unfolding tableWords tightened lockOf isVariable
     spelt =
         λ i. p .variables
         ∷ clause-count i
         ∷ rule-count i
         ∷ count-last p m i
-        ∷ (costs ++ (padTo clauseWordCount (clause-entries i) ++ padTo ruleWordCount (rule-entries i)))
+        ∷ (costs ++ (padTo clauseWordCount (clause-entries i) ++ (padTo ruleWordCount (rule-entries i) ++ locked)))
 
     -- Three writes make them of the plan's own.
     pub new-table :
@@ -222,12 +232,12 @@ module _ (p : Plan) (l : LawfulPlan p) where
         let room : 2 * n + 2 ≤ length (padTo clauseWordCount first) =
         omega (arith, length-padTo clauseWordCount first (omega (arith, length-first, l .clauseCount)), l .clauseCount) in
         ap (λ t. put 1 countWords (put (rulesAt + 5 * length (rulesOf p)) (ruleWords m) t))
-        (put-clause (p .variables) n (length (rulesOf p)) (termCount p) (2 * n) costs (padTo clauseWordCount first) (padTo ruleWordCount second) clauseWords length-costs room
-        ∙ ap (λ xs. p .variables ∷ n ∷ length (rulesOf p) ∷ termCount p ∷ (costs ++ (xs ++ padTo ruleWordCount second))) (pad-more clauseWordCount (2 * n) first clauseWords length-first))
+        (put-clause (p .variables) n (length (rulesOf p)) (termCount p) (2 * n) costs (padTo clauseWordCount first) (padTo ruleWordCount second) locked clauseWords length-costs room
+        ∙ ap (λ xs. p .variables ∷ n ∷ length (rulesOf p) ∷ termCount p ∷ (costs ++ (xs ++ (padTo ruleWordCount second ++ locked)))) (pad-more clauseWordCount (2 * n) first clauseWords length-first))
         ∙ ap (put 1 countWords)
-        (put-rule (p .variables) n (length (rulesOf p)) (termCount p) (5 * length (rulesOf p)) costs (padTo clauseWordCount (first ++ clauseWords)) (padTo ruleWordCount second) (ruleWords m) length-costs
-        (length-firstPart clauseWords (omega arith))
-        ∙ ap (λ ys. p .variables ∷ n ∷ length (rulesOf p) ∷ termCount p ∷ (costs ++ (padTo clauseWordCount (first ++ clauseWords) ++ ys)))
+        (put-rule (p .variables) n (length (rulesOf p)) (termCount p) (5 * length (rulesOf p)) costs (padTo clauseWordCount (first ++ clauseWords)) (padTo ruleWordCount second) locked (ruleWords m) length-costs
+        (length-firstPart clauseWords (omega arith)) (rule-room second length-second)
+        ∙ ap (λ ys. p .variables ∷ n ∷ length (rulesOf p) ∷ termCount p ∷ (costs ++ (padTo clauseWordCount (first ++ clauseWords) ++ (ys ++ locked))))
         (pad-more ruleWordCount (5 * length (rulesOf p)) second (ruleWords m) length-second))
         ∙ put-counts _ _ _ _ _ _ _ _
         ∙ sym spelt
@@ -255,17 +265,23 @@ module _ (p : Plan) (l : LawfulPlan p) where
       (put-behind (5 * length (rulesOf p)) 4 (unsigned m ∷ []) second (ruleWords k) length-second ∙ ap (λ ws. second ++ ws) (upper-word m k))
       ∙ ap (λ n. second ++ ruleWords m ++ replicate (ruleWordCount - n) 0) e
 
+  last-room : (k : ℤ) → 5 * length (rulesOf p) + 4 + 1 ≤ length (padTo ruleWordCount (second ++ ruleWords k))
+  last-room k =
+      let a = length-append second (ruleWords k) in
+      omega (arith, length-second, length-padTo ruleWordCount (second ++ ruleWords k) (omega (arith, length-second, l .ruleCount)), l .ruleCount)
+
   pub other-table : (m k : ℤ) → put (ruleUpperAt (length (rulesOf p))) (unsigned m ∷ []) (tableWords (tightened p k)) ≡ tableWords (tightened p m)
   other-table m k =
       let e : ruleUpperAt (length (rulesOf p)) ≡ rulesAt + (5 * length (rulesOf p) + 4) = omega arith in
       ap₂ (λ i t. put i (unsigned m ∷ []) t) e (spelt k)
-      ∙ put-rule _ _ _ _ (5 * length (rulesOf p) + 4) costs (padTo clauseWordCount (first ++ clauseWords)) _ (unsigned m ∷ []) length-costs (length-firstPart clauseWords (omega arith))
+      ∙ put-rule _ _ _ _ (5 * length (rulesOf p) + 4) costs (padTo clauseWordCount (first ++ clauseWords)) _ locked (unsigned m ∷ []) length-costs (length-firstPart clauseWords (omega arith))
+      (last-room k)
       ∙ ap
       (λ ys. p .variables
       ∷ (length (p .clauses) + 1)
       ∷ (length (rulesOf p) + 1)
       ∷ (termCount p + length (p .objective))
-      ∷ (costs ++ (padTo clauseWordCount (first ++ clauseWords) ++ ys)))
+      ∷ (costs ++ (padTo clauseWordCount (first ++ clauseWords) ++ (ys ++ locked))))
       (upper-padded m k)
       ∙ sym (spelt m)
 

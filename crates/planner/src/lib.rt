@@ -1,7 +1,7 @@
 // The planner's C interface: numbers and byte slices in, numbers out. include/planner.h declares it.
 // Each function promises what the function that it calls promises.
 ghost use mathlib.Core.Path.{_≡_};
-ghost use Rattle.tallies.specs.Calls.{openRefusal, openTallies, callRefusal, flipAssignment, flipTallies, countsBreak, countsMake, lent};
+ghost use Rattle.tallies.specs.Calls.{openRefusal, openTallies, callRefusal, flipRefusal, flipAssignment, flipTallies, countsBreak, countsMake, lent};
 ghost use Rattle.search.specs.Calls.{Searches, HandsOut, lentAll};
 ghost use Rattle.tables.specs.Load.{refusalOf, offsetOf, loading, tablesAfter, termsAfter};
 use calls::counts::counts;
@@ -74,7 +74,7 @@ pub extern "C" fn planner_flip(
     tallies: &mut [u8],
     variable: u32,
 ) -> u32
-    ensures { λ r. ⌜ r ≡ callRefusal (lent (now (tables .entry)) (now (terms .entry)) (now (assignment .entry)) (now (tallies .entry))) variable ⌝ }
+    ensures { λ r. ⌜ r ≡ flipRefusal (lent (now (tables .entry)) (now (terms .entry)) (now (assignment .entry)) (now (tallies .entry))) variable ⌝ }
     ensures { λ _. ⌜ now (assignment .exit)
         ≡ flipAssignment (lent (now (tables .entry)) (now (terms .entry)) (now (assignment .entry)) (now (tallies .entry))) variable ⌝ }
     ensures { λ _. ⌜ now (tallies .exit)

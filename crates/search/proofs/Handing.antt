@@ -12,7 +12,7 @@ use mir.Facts.{toZ-ofZ}
 use mir.Syntax.{w64}
 use mir.Val.{toZ, ofZ, SFits}
 use Rattle.plpb.specs.Lists.{_and_, _or_, all, isEmpty}
-use Rattle.plpb.specs.Plan.{Plan, Assignment, satisfies, cost}
+use Rattle.plpb.specs.Plan.{Plan, Assignment, obeys, satisfies, cost}
 use Rattle.plpb.specs.Settings.{Settings}
 use Rattle.plpb.specs.Search.{reached, Ending, floor, ended, none, short-found, short-none, lastFind, costOf, search}
 use Rattle.plpb.specs.Sound.{findsOf, noPlan}
@@ -45,26 +45,27 @@ plan-told none t = absurd t
 plan-told short-found t = refl
 plan-told short-none t = absurd t
 
-last-satisfies : (p : Plan) (fs : List Assignment) → isEmpty fs ≡ false → T (all (λ a. satisfies a p) fs)
-    → (a : Assignment) × (lastFind fs ≡ reached a) × T (satisfies a p)
+last-lawful : (p : Plan) (fs : List Assignment) → isEmpty fs ≡ false → T (all (λ a. satisfies a p) fs) → T (all (λ a. obeys a p) fs)
+    → (a : Assignment) × (lastFind fs ≡ reached a) × T (satisfies a p) × T (obeys a p)
 unfolding isEmpty all lastFind
-last-satisfies p [] e t = absurd (let z : _≡_ {A = ℕ} 0 1 = cc in omega arith)
-last-satisfies p (a ∷ fs) e t = (a, refl, and-left _ _ t)
+last-lawful p [] e t o = absurd (let z : _≡_ {A = ℕ} 0 1 = cc in omega arith)
+last-lawful p (a ∷ fs) e t o = (a, refl, and-left _ _ t, and-left _ _ o)
 
--- "A plan handed out satisfies every clause", and the cost is its cost.
+-- "A plan handed out satisfies every clause", obeys the locks, and the cost is its cost.
 pub handed-out : {s : Settings} {p : Plan} {numbers : List ℕ} {r : Searched} {entry exit : List ℕ} {w v : Work} → Whole s p numbers r entry exit w v
     → T (hasPlan (endingNumber (endingOf (r .ending))))
-    → T (satisfies (bitsOf (p .variables) exit) p) × (r .progress .cost ≡ cost p (bitsOf (p .variables) exit))
+    → T (satisfies (bitsOf (p .variables) exit) p) × T (obeys (bitsOf (p .variables) exit) p) × (r .progress .cost ≡ cost p (bitsOf (p .variables) exit))
 unfolding answerOf costOf
 handed-out {s} {p} {numbers} {r} {entry} {exit} {w} {v} h t =
     let ns = numbersOf numbers in
     let o = search-sound s p ns in
     let same : search s p ns .ending ≡ endingOf (r .ending) = ap (λ x. x .ending) (h .answers) in
     let some : isEmpty (findsOf s p ns) ≡ false = sym (o .none-found) ∙ ap noPlan same ∙ plan-told _ t in
-    let l = last-satisfies p (findsOf s p ns) some (o .each-satisfies) in
+    let l = last-lawful p (findsOf s p ns) some (o .each-satisfies) (o .each-obeys) in
     let is : search s p ns .assignment ≡ reached (l .0) = o .handed-out ∙ l .1 in
     let bits = h .last (l .0) is in (
       subst (λ a. T (satisfies a p)) (sym bits) (l .2),
+      subst (λ a. T (obeys a p)) (sym bits) (l .3),
       sym (ap (λ x. x .cost) (h .answers)) ∙ o .cost-stated ∙ ap (costOf p) is ∙ ap (cost p) (sym bits),
     )
 
@@ -124,4 +125,4 @@ module _ (l : Lent) (k : Asked) (z : searchRefusal l k ≡ 0) {r : Searched} {ex
 
     pub hands : HandsOut l (record { refusal = 0; ending = n; cost = toZ w64 (ofZ w64 (r .progress .cost)); finds = r .progress .finds; flips = r .progress .flips; used = r .progress .used }) exit
     unfolding HandsOut
-    hands t = let o = handed-out h (subst (λ x. T (hasPlan x)) e t) in (o .0, toZ-ofZ f ∙ o .1)
+    hands t = let o = handed-out h (subst (λ x. T (hasPlan x)) e t) in (o .0, o .1, toZ-ofZ f ∙ o .2)

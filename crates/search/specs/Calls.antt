@@ -8,7 +8,7 @@ use lib.Dec.{T, ltb, eqb}
 use lib.IntN.{pos}
 use lib.ListN.{length, drop, replicate}
 use Rattle.plpb.specs.Lists.{_or_}
-use Rattle.plpb.specs.Plan.{satisfies, cost}
+use Rattle.plpb.specs.Plan.{obeys, satisfies, cost}
 use Rattle.plpb.specs.Search.{Ending, floor, ended, none, short-found, short-none, Answer, search}
 use Rattle.format.specs.File.{refuse}
 use Rattle.format.specs.Tables.{tableSize, termSize, planOfTables, isLoaded}
@@ -112,9 +112,9 @@ pub record Searches (l : Lent) (k : Asked) (r : Answered) (left : Lent) : Type 0
 unfoldable pub hasPlan : ℕ → Bool
 hasPlan e = eqb e 1 or eqb e 2 or eqb e 4
 
--- What a crew relies on: "A plan handed out satisfies every clause", and the cost is its cost.
+-- What a crew relies on: "A plan handed out satisfies every clause", gives each locked variable its value, and the cost is its cost.
 unfoldable pub HandsOut : Lent → Answered → List ℕ → Type 0
 HandsOut l r assignment =
     let p = planOfTables (l .tables) (l .terms) in
     let a = bitsOf (p .variables) assignment in
-    T (hasPlan (r .ending)) → T (satisfies a p) × (r .cost ≡ cost p a)
+    T (hasPlan (r .ending)) → T (satisfies a p) × T (obeys a p) × (r .cost ≡ cost p a)

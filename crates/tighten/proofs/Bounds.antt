@@ -12,7 +12,9 @@ use mir.Facts.{toZ-ofZ}
 use mir.Syntax.{w64}
 use mir.Val.{toZ, ofZ, SFits}
 use Rattle.plpb.specs.Lists.{all}
-use Rattle.plpb.specs.Plan.{absent, present, Clause, Plan, Assignment, satisfies, cost}
+use Rattle.plpb.specs.Plan.{absent, present, Clause, Plan, Assignment, obeys, satisfies, cost}
+use Rattle.plpb.proofs.Costs.{tightened-obeys}
+use Rattle.plpb.proofs.Soundness.{call-obeys}
 use Rattle.plpb.specs.Walk.{ends, run}
 use Rattle.plpb.specs.Settings.{Settings}
 use Rattle.plpb.specs.Search.{Reached, reached, call, tightened}
@@ -49,7 +51,7 @@ unfolding untightened tightened
 without-added p m =
     let c : List Clause = (record { lower = absent; upper = present m; terms = p .objective } ∷ []) ∷ [] in
     let e : take (length (p .clauses ++ c) - 1) (p .clauses ++ c) ≡ p .clauses = take-at (p .clauses) c (length (p .clauses ++ c) - 1) (omega (arith, length-append (p .clauses) c)) in
-    λ j. record { variables = p .variables; objective = p .objective; clauses = e j }
+    λ j. record { variables = p .variables; objective = p .objective; locks = p .locks; clauses = e j }
 
 same-variables : (p : Plan) (m : ℤ) → tightened p m .variables ≡ p .variables
 unfolding tightened
@@ -214,6 +216,12 @@ module _ {p : Plan} {tables terms assignment : List ℕ} {w : Work} (room : Room
                 subst (λ q. T (satisfies (bitsOf (q .variables) (v .assignment)) q)) under-back (reached-finds .satisfied) in
                 subst (λ a. T (satisfies a (tightened p m))) (sym (rw (← same-variables p m) at exit-bits)) g
 
+            exit-obeys : T (obeys (bitsOf (p .variables) exit) p)
+            unfolding triedOf
+            exit-obeys =
+                subst (λ a. T (obeys a p)) (sym exit-bits)
+                (subst T (tightened-obeys p m _) (call-obeys s (tightened p m) (numbersOf numbers) (from .used) (from .flips) [] (st .flips) (under-outcome reached-by [])))
+
             pub called-found :
                 CallsUnder s p m numbers from (called.Found (record { cost = z; finds = from .finds + 1; flips = f; used = u })) assignment exit
                 × Leaves p tables terms after assignment exit w v
@@ -224,6 +232,7 @@ module _ {p : Plan} {tables terms assignment : List ℕ} {w : Work} (room : Room
                 find = (refl, exit-satisfies);
                 tracks = record {
                   bits = exit-areBits;
+                  obeyed = exit-obeys;
                   costs = exit-costs;
                   finds = omega (arith, st .finds, reached-finds .uses);
                   flips = reached-by .flipped;
@@ -244,6 +253,7 @@ module _ {p : Plan} {tables terms assignment : List ℕ} {w : Work} (room : Room
           still-tracks k l =
               record {
                 bits = st .bits;
+                obeyed = st .obeyed;
                 costs = toZ-ofZ (cost-fits (room .bounded) st) ∙ st .costs;
                 finds = omega (arith, st .finds, t .uses);
                 flips = omega (arith, t .flipped);

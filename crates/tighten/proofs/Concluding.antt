@@ -17,7 +17,7 @@ use mir.Facts.{toZ-ofZ}
 use mir.Syntax.{w64}
 use mir.Val.{toZ, ofZ, SFits}
 use Rattle.plpb.specs.Lists.{_and_, isEmpty}
-use Rattle.plpb.specs.Plan.{Plan, Assignment, satisfies, cost, floorCost}
+use Rattle.plpb.specs.Plan.{Plan, Assignment, obeys, satisfies, cost, floorCost}
 use Rattle.plpb.specs.Walk.{Walk, done, at, ends, short, run}
 use Rattle.plpb.specs.Settings.{Mode, linear, lbs, Settings}
 use Rattle.plpb.specs.Search.{reached, call, tightened, lbsBound, linearBound, boundIn, Ending, ended, short-found, atFloor, gap, descending, linearSearch, lbsSearch, tighten, lastFind, costOf, Answer, answerOf as answered, conclude}
@@ -61,12 +61,12 @@ module _ (p : Plan) (a : Assignment) where
   unfolding atFloor _and_
   above h = rw (below-not (floorCost p) (cost p a) h) refl
 
-  reaches : ltZ (floorCost p) (cost p a) ≡ false → atFloor p a ≡ true
+  reaches : T (obeys a p) → ltZ (floorCost p) (cost p a) ≡ false → atFloor p a ≡ true
   unfolding atFloor _and_
-  reaches h = rw (not-below (floorCost p) (cost p a) h, T-true (leZ (floorCost p) (cost p a)) (floor-below p a)) refl
+  reaches o h = rw (not-below (floorCost p) (cost p a) h, T-true (leZ (floorCost p) (cost p a)) (floor-below p a o)) refl
 
-  some-gap : atFloor p a ≡ false → 0 < gap p a
-  some-gap h = positive (gap p a) (λ e. above-floor p a h (sym (gap-zero p a e)))
+  some-gap : T (obeys a p) → atFloor p a ≡ false → 0 < gap p a
+  some-gap o h = positive (gap p a) (λ e. above-floor p a o h (sym (gap-zero p a o e)))
     where
       positive : (n : ℕ) → (n ≡ 0 → ⊥) → 0 < n
       positive zero f = absurd (f refl)
@@ -99,7 +99,7 @@ module _ {p : Plan} {tables terms : List ℕ} (b : Bounded p tables terms) {numb
     test-above h = above p (held p assignment) (sym tested ∙ h)
 
     pub test-floor : ltZ (toZ w64 (ofZ w64 l)) (toZ w64 (ofZ w64 (t .cost))) ≡ false → atFloor p (held p assignment) ≡ true
-    test-floor h = reaches p (held p assignment) (sym tested ∙ h)
+    test-floor h = reaches p (held p assignment) (st .obeyed) (sym tested ∙ h)
 
     -- The bound, as the code has it.
     module _ (mode : Mode) {k : ℤ} (f : SFits w64 k) (g : k ≡ boundIn mode (toZ w64 (ofZ w64 l)) (toZ w64 (ofZ w64 (t .cost)))) where
@@ -150,8 +150,8 @@ falls {p = p} {m = m} {entry = entry} {exit = exit} c h =
     let y : T (satisfies (held p exit) p and leZ (cost p (held p exit)) m) = rw (satisfies-tightened p m (held p exit)) at x in
     bound-falls p m (held p entry) (held p exit) (and-right (satisfies (held p exit) p) (leZ (cost p (held p exit)) m) y) h
 
-pub bound-under : (p : Plan) (a : Assignment) (mode : Mode) → atFloor p a ≡ false → {m : ℤ} → m ≡ boundIn mode (floorCost p) (cost p a) → T (ltZ m (cost p a))
-bound-under p a mode h e = rw e (bound-less p a mode h)
+pub bound-under : (p : Plan) (a : Assignment) (mode : Mode) → T (obeys a p) → atFloor p a ≡ false → {m : ℤ} → m ≡ boundIn mode (floorCost p) (cost p a) → T (ltZ m (cost p a))
+bound-under p a mode o h e = rw e (bound-less p a mode o h)
 
 module _ (s : Settings) (mode : Mode) (o : Plan → ℕ → Assignment → Walk Ending) (p : Plan) (numbers : List ℕ) (t : Progress) (entry : List ℕ) where
   abbrev a : Assignment
@@ -169,19 +169,19 @@ module _ (s : Settings) (mode : Mode) (o : Plan → ℕ → Assignment → Walk 
   at-the-floor c h (suc left) fs g n =
       ap (conclude p) (descending-floor s p mode (o p) ns a (at (t .used) (t .flips) (a ∷ fs)) left h) ∙ concluded p t a fs c n code.Floor
 
-  module _ (h : atFloor p (held p entry) ≡ false) {m : ℤ} (e : m ≡ boundIn mode (floorCost p) (cost p (held p entry))) {u : Progress} {exit : List ℕ} where
+  module _ (w : T (obeys (held p entry) p)) (h : atFloor p (held p entry) ≡ false) {m : ℤ} (e : m ≡ boundIn mode (floorCost p) (cost p (held p entry))) {u : Progress} {exit : List ℕ} where
     on-a-find : CallsUnder s p m numbers t (called.Found u) entry exit → (r : Answer) → Concludes walk p numbers u (held p exit) r → Concludes walk p numbers t (held p entry) r
     unfolding calledOf FindOr
-    on-a-find c r f zero fs g n = absurd (omega (arith, some-gap p a h))
+    on-a-find c r f zero fs g n = absurd (omega (arith, some-gap p a w h))
     on-a-find c r f (suc left) fs g n =
-        let less = falls c (bound-under p a mode h e) in
+        let less = falls c (bound-under p a mode w h e) in
         ap (conclude p) (descending-found s p mode (o p) ns a (at (t .used) (t .flips) (a ∷ fs)) left h (called-under c e (a ∷ fs)))
         ∙ f left (a ∷ fs) (omega arith) (omega (arith, c .find .0))
 
     -- What follows the first failure.
     on-a-failure : CallsUnder s p m numbers t (called.Failed u) entry exit → (r : Answer) → Concludes o p numbers u (held p exit) r → Concludes walk p numbers t (held p entry) r
     unfolding calledOf FindOr
-    on-a-failure c r f zero fs g n = absurd (omega (arith, some-gap p a h))
+    on-a-failure c r f zero fs g n = absurd (omega (arith, some-gap p a w h))
     on-a-failure c r f (suc left) fs g n =
         let same : held p exit ≡ a = ap (held p) (c .find .1) in
         let l : Concludes o p numbers u a r = rw same at f in
@@ -190,7 +190,7 @@ module _ (s : Settings) (mode : Mode) (o : Plan → ℕ → Assignment → Walk 
 
     where-short : CallsUnder s p m numbers t (called.Short u) entry exit → Concludes walk p numbers t (held p entry) (answerOf code.ShortFound u (reached (held p exit)))
     unfolding calledOf FindOr progressIn
-    where-short c zero fs g n = absurd (omega (arith, some-gap p a h))
+    where-short c zero fs g n = absurd (omega (arith, some-gap p a w h))
     where-short c (suc left) fs g n =
         let same : held p exit ≡ a = ap (held p) (c .find .1) in
         ap (conclude p) (descending-short s p mode (o p) ns a (at (t .used) (t .flips) (a ∷ fs)) left h (called-under c e (a ∷ fs)))
@@ -314,7 +314,7 @@ module _ {s : Settings} {mode : Mode} {p : Plan} {terms numbers tables₀ assign
         turn-found k = subst (λ q. CallsUnder s p m numbers t q assignment assignment') k turn-calls
 
         pub descent-falls : {u : Progress} → r ≡ called.Found u → gap p (bitsOf (p .variables) assignment') < gap p (bitsOf (p .variables) assignment)
-        descent-falls k = falls (turn-found k) (bound-under p (bitsOf (p .variables) assignment) mode h e)
+        descent-falls k = falls (turn-found k) (bound-under p (bitsOf (p .variables) assignment) mode (i .tracks .obeyed) h e)
 
         pub descent-again : {u : Progress} → r ≡ called.Found u → Long tables tables' assignment assignment' v v'
             → Since s mode p terms numbers tables₀ assignment₀ w from tables' assignment' v' u
@@ -325,15 +325,15 @@ module _ {s : Settings} {mode : Mode} {p : Plan} {terms numbers tables₀ assign
               tracks = turn-found k .tracks;
               leaves = turn-leaves;
               long = long-then (i .long) l;
-              comes = λ o q g. i .comes o q (on-a-find s mode o p numbers t assignment h e (turn-found k) q g);
+              comes = λ o q g. i .comes o q (on-a-find s mode o p numbers t assignment (i .tracks .obeyed) h e (turn-found k) q g);
             }
 
         descent-stop : (r : Called) → Unfound r → CallsUnder s p m numbers t r assignment assignment'
             → Descends s mode p numbers from (bitsOf (p .variables) assignment₀) (bitsOf (p .variables) assignment') r
         unfolding Descends
         descent-stop (called.Found u) z d = absurd z
-        descent-stop (called.Failed u) z d = λ o q g. i .comes o q (on-a-failure s mode o p numbers t assignment h e d q g)
-        descent-stop (called.Short u) z d = λ o. i .comes o _ (where-short s mode o p numbers t assignment h e d)
+        descent-stop (called.Failed u) z d = λ o q g. i .comes o q (on-a-failure s mode o p numbers t assignment (i .tracks .obeyed) h e d q g)
+        descent-stop (called.Short u) z d = λ o. i .comes o _ (where-short s mode o p numbers t assignment (i .tracks .obeyed) h e d)
 
         pub descent-stops : OneOf (1 ∷ 2 ∷ []) (tagOf the-type r)
             → Descends s mode p numbers from (bitsOf (p .variables) assignment₀) (bitsOf (p .variables) assignment') r

@@ -6,7 +6,7 @@ use mathlib.Core.List.{List, _∷_}
 use lib.Dec.{T}
 use lib.IntN.{ℤ, natAbs}
 use lib.ListN.{length, take, drop}
-use Rattle.plpb.specs.Plan.{Plan, Assignment, satisfies, cost}
+use Rattle.plpb.specs.Plan.{Plan, Assignment, obeys, satisfies, cost}
 use Rattle.plpb.specs.Walk.{Walk, Outcome, ends, short, run}
 use Rattle.plpb.specs.Settings.{Mode, Settings}
 use Rattle.plpb.specs.Search.{Reached, failed, reached, call, tightened, Ending, floor, ended, none, short-found, short-none, gap, descending, tighten, Answer, conclude}
@@ -27,7 +27,7 @@ use Rattle.format.specs.Layout.{tallySize}
 -- A plan without the added last clause.
 unfoldable pub untightened : Plan → Plan
 untightened q =
-    record { variables = q .variables; objective = q .objective; clauses = take (length (q .clauses) - 1) (q .clauses) }
+    record { variables = q .variables; objective = q .objective; locks = q .locks; clauses = take (length (q .clauses) - 1) (q .clauses) }
 
 -- The plan that is searched, in tables that hold it with an added clause.
 unfoldable pub basis : List ℕ → List ℕ → Plan
@@ -41,9 +41,10 @@ pub record Bounded (p : Plan) (tables terms : List ℕ) : Type 0 where
   pub within : natAbs bound ≤ maxBound
   pub holds : Holds (tightened p bound) tables terms
 
--- Where a search stands after a find: its cost, and numbers enough were used for what is counted.
+-- Where a search stands after a find: it obeys the locks, its cost, and numbers enough were used for what is counted.
 pub record Tracks (p : Plan) (numbers assignment : List ℕ) (t : Progress) : Type 0 where
   pub bits : T (areBits (p .variables) assignment)
+  pub obeyed : T (obeys (bitsOf (p .variables) assignment) p)
   pub costs : t .cost ≡ cost p (bitsOf (p .variables) assignment)
   pub finds : t .finds ≤ t .used
   pub flips : t .flips ≤ t .used

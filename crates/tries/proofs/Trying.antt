@@ -1,7 +1,7 @@
 -- Laws of flips, tries and calls: what a loop has come to, and how it ends. Assumes nothing.
 use Prim.Native.Nat.{ℕ, suc, _+_, _-_, _/_, _≤_, _<_}
 use native.Mathlib.Omega.{arith}
-use mathlib.Core.Path.{_≡_, refl, sym, ap, _∙_, subst}
+use mathlib.Core.Path.{_≡_, refl, sym, ap, ap₂, _∙_, subst}
 use mathlib.Core.Bool.{Bool, true, false, cond, true≢false}
 use mathlib.Core.Logic.{_≢_}
 use mathlib.Core.List.{List, [], _∷_, _++_}
@@ -10,7 +10,8 @@ use lib.ListN.{length, take, drop}
 use borrow.Author.Tests.{eq-eqb, ne-eqb}
 use types.Run.{OneOf, miss}
 use denote.Enum.Declared.{tagOf}
-use Rattle.plpb.specs.Plan.{Plan, Assignment, satisfies}
+use Rattle.plpb.specs.Plan.{Plan, Assignment, hold, satisfies}
+use Rattle.plpb.proofs.Locks.{length-hold}
 use Rattle.plpb.specs.Tallies.{freshCount}
 use Rattle.plpb.specs.Numbers.{Taken, taken, tooFew, takeWords, startWords, startOf}
 use Rattle.plpb.specs.Walk.{at, ends, short, run}
@@ -22,7 +23,7 @@ use Rattle.format.specs.Tables.{planOfTables}
 use Rattle.tallies.specs.Layout.{tallySize, bitsOf, bitBytes}
 use Rattle.recount.specs.Core.{Ready, recounted}
 use Rattle.tallies.proofs.Bits.{length-bitBytes, drop-bytes, bitsOf-bytes, areBits-bytes}
-use Rattle.recount.proofs.Laid.{parts, variables-word}
+use Rattle.recount.proofs.Laid.{parts, tables-long, variables-word}
 use Rattle.tallies.proofs.TallyBytes.{roomy-fits, take-fresh, drop-fresh}
 use Rattle.numbers.specs.declared.Started.{Started}
 use Rattle.numbers.specs.declared.Started.the-variants as started
@@ -39,7 +40,9 @@ use Rattle.tries.proofs.Tried.{the-type}
 use Rattle.tries.specs.declared.Tried.the-variants as tried
 use Rattle.tries.specs.Steps.{Work, bitsIn, tryIn, Startable, Walking, Beyond, movedOf, usedIn, IfMade, Moves, triedOf, stoppedAt, usedBy, flipsBy, IfReached, Tries}
 use Rattle.tries.proofs.Moving.{unsatisfied-word}
-use Rattle.format.specs.Layout.{unsatisfiedAt}
+use Rattle.format.specs.Layout.{tableSize, unsatisfiedAt}
+use Rattle.locks.specs.Held.{heldBytes}
+use Rattle.locks.proofs.Holding.{bytes-held}
 
 pub beyond-same : (n : ℕ) (w : Work) → Beyond n w w
 beyond-same n w = record { assignment = refl; tallies = refl; marks = refl }
@@ -197,11 +200,15 @@ module _ {tables terms : List ℕ} (numbers : List ℕ) {used made : ℕ} {w : W
     abbrev drew : (ws : List ℕ) × (takeWords (startWords n) (numbersOf numbers) used ≡ taken ws after) × (bytes ≡ bitBytes (startOf n ws) ++ drop n (w .assignment))
     drew = started-taken (takeWords (startWords n) (numbersOf numbers) used) h e
 
+    abbrev begin : Assignment
+    begin = beginning q (drew .0) .bits
+
     start-size : length (startOf n (drew .0)) ≡ n
     start-size = sym (length-bitBytes (startOf n (drew .0))) ∙ length-start n (drew .0)
 
-    started-bits : bitsOf (q .variables) bytes ≡ startOf n (drew .0)
-    started-bits = ap (λ m. bitsOf m bytes) (sym named) ∙ ap (bitsOf n) (drew .2) ∙ bitsOf-bytes n (startOf n (drew .0)) (drop n (w .assignment)) start-size
+    begin-size : length begin ≡ n
+    unfolding beginning
+    begin-size = length-hold q _ ∙ sym named
 
     pub started-uses : (used + 1 ≤ after) × (after ≤ length numbers / 4) × (made ≤ after)
     unfolding startWords
@@ -210,41 +217,58 @@ module _ {tables terms : List ℕ} (numbers : List ℕ) {used made : ℕ} {w : W
         let low : 1 ≤ n = omega (arith, named, parts tables terms (k .ready .laid) .low) in
         (omega (arith, u .0), omega (arith, u .1, length-numbersOf numbers), omega (arith, u .0))
 
-    pub started-ready : length bytes ≡ length (w .assignment) → Ready tables terms bytes
-    started-ready l = record { laid = k .ready .laid; bytes = omega (arith, k .ready .bytes) }
+    -- What holding the locks needs.
+    pub started-holdable : length bytes ≡ length (w .assignment) → (n ≤ 512) × (n ≤ length bytes) × (tableSize ≤ length tables)
+    started-holdable l =
+        (omega (arith, named, parts tables terms (k .ready .laid) .high), omega (arith, named, k .ready .bytes), tables-long tables terms (k .ready .laid))
 
-    module _ {tallies : List ℕ} (l : length bytes ≡ length (w .assignment)) (y : tallies ≡ recounted tables terms bytes (w .tallies)) where
-      abbrev begun : Work
-      begun = record { assignment = bytes; tallies = tallies; marks = w .marks }
-
-      pub started-walking : Walking tables terms begun
-      started-walking =
-          record {
-            ready = started-ready l;
-            bits = rw (← named, drew .2) (areBits-bytes n (startOf n (drew .0)) (drop n (w .assignment)) start-size);
-            fresh = rw y (take-fresh q (roomy-fits q (k .ready .laid .room)) _ _);
-            marks = k .marks;
-          }
-
-      pub tried-once : (s : Settings) {t : Tried} {v : Work} → Tries (flipping s q (s .flips) (tryIn tables terms begun)) tables terms numbers after made after t begun v
-          → Tries (try s q) tables terms numbers used made (used + 1) t w v
+    module _ {kept : List ℕ} (o : kept ≡ heldBytes tables n bytes) where
+      -- The locked variables have their value.
+      held-start : kept ≡ bitBytes begin ++ drop n (w .assignment)
       unfolding beginning
-      tried-once s {t} {v} g =
-          let u = started-uses in
-          record {
-            outcome = λ fs. try-started s q (numbersOf numbers) (at used made fs) (ap (λ m. takeWords (startWords m) (numbersOf numbers) used) (sym named) ∙ drew .1)
-                ∙ ap (λ a. run (flipping s q (s .flips) (record { bits = a })) (numbersOf numbers) (at after made fs)) (ap (λ m. startOf m (drew .0)) (sym named) ∙ sym started-bits)
-                ∙ g .outcome fs;
-            finds = if-reached t (λ f. record { bits = f .bits; satisfied = f .satisfied; uses = omega (arith, f .uses, u .0) }) (g .finds);
-            uses = omega (arith, g .uses, u .0);
-            within = g .within;
-            flipped = g .flipped;
-            beyond = beyond-on (record {
-              assignment = rw (← named, drew .2) (drop-bytes n (startOf n (drew .0)) (drop n (w .assignment)) start-size);
-              tallies = rw y (drop-fresh q (roomy-fits q (k .ready .laid .room)) _ _);
-              marks = refl;
-            }) (g .beyond);
-          }
+      held-start =
+          let y = k .ready .laid in
+          o ∙ ap₂ (heldBytes tables) named (drew .2)
+          ∙ bytes-held q tables terms (y .room) (y .holds) (parts tables terms y .high) (startOf n (drew .0)) (drop n (w .assignment)) (start-size ∙ named)
+          ∙ ap (λ m. bitBytes (hold q (startOf m (drew .0))) ++ drop n (w .assignment)) named
+
+      started-bits : bitsOf (q .variables) kept ≡ begin
+      started-bits = ap (λ m. bitsOf m kept) (sym named) ∙ ap (bitsOf n) held-start ∙ bitsOf-bytes n begin (drop n (w .assignment)) begin-size
+
+      pub started-ready : length kept ≡ length bytes → length bytes ≡ length (w .assignment) → Ready tables terms kept
+      started-ready m l = record { laid = k .ready .laid; bytes = omega (arith, k .ready .bytes) }
+
+      module _ {tallies : List ℕ} (l : length kept ≡ length bytes) (l′ : length bytes ≡ length (w .assignment)) (y : tallies ≡ recounted tables terms kept (w .tallies)) where
+        abbrev begun : Work
+        begun = record { assignment = kept; tallies = tallies; marks = w .marks }
+
+        pub started-walking : Walking tables terms begun
+        started-walking =
+            record {
+              ready = started-ready l l′;
+              bits = rw (← named, held-start) (areBits-bytes n begin (drop n (w .assignment)) begin-size);
+              fresh = rw y (take-fresh q (roomy-fits q (k .ready .laid .room)) _ _);
+              marks = k .marks;
+            }
+
+        pub tried-once : (s : Settings) {t : Tried} {v : Work} → Tries (flipping s q (s .flips) (tryIn tables terms begun)) tables terms numbers after made after t begun v
+            → Tries (try s q) tables terms numbers used made (used + 1) t w v
+        tried-once s {t} {v} g =
+            let u = started-uses in
+            record {
+              outcome = λ fs. try-started s q (numbersOf numbers) (at used made fs) (ap (λ m. takeWords (startWords m) (numbersOf numbers) used) (sym named) ∙ drew .1)
+                  ∙ ap (λ a. run (flipping s q (s .flips) (record { bits = a })) (numbersOf numbers) (at after made fs)) (sym started-bits)
+                  ∙ g .outcome fs;
+              finds = if-reached t (λ f. record { bits = f .bits; satisfied = f .satisfied; uses = omega (arith, f .uses, u .0) }) (g .finds);
+              uses = omega (arith, g .uses, u .0);
+              within = g .within;
+              flipped = g .flipped;
+              beyond = beyond-on (record {
+                assignment = rw (← named, held-start) (drop-bytes n begin (drop n (w .assignment)) begin-size);
+                tallies = rw y (drop-fresh q (roomy-fits q (k .ready .laid .room)) _ _);
+                marks = refl;
+              }) (g .beyond);
+            }
 
   pub no-start : (s : Settings) {after : ℕ} {v : Work} → used ≤ length numbers / 4 → r ≡ started.Short after
       → v .assignment ≡ bytes → v .tallies ≡ w .tallies → v .marks ≡ w .marks

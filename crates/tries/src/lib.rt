@@ -11,6 +11,7 @@ mod moves;
 
 use crate::moves::Moved;
 use crate::moves::make_move;
+use locks::hold_locks;
 use numbers::Started;
 use numbers::start;
 use recount::open::open_core;
@@ -75,7 +76,7 @@ fn make_flips(
     Tried::Failed(used, made)
 }
 
-// One try: its start, the tallies of that, its flips.
+// One try: its start, in which locked variables take their value, the tallies of that, its flips.
 fn try_once(
     tables: &[u8],
     terms: &[u8],
@@ -97,6 +98,7 @@ fn try_once(
     let Started::Taken(after) = start(numbers, used, n, assignment) else {
         return Tried::Short(used, made);
     };
+    hold_locks(tables, n, assignment);
     open_core(tables, terms, assignment, tallies);
     make_flips(
         tables,

@@ -14,7 +14,8 @@ use mir.Facts.{toZ-ofZ}
 use mir.Syntax.{w64}
 use mir.Val.{toZ, ofZ, SFits}
 use Rattle.plpb.specs.Lists.{_and_, _or_, isEmpty}
-use Rattle.plpb.specs.Plan.{Plan, Assignment, satisfies, cost, floorCost}
+use Rattle.plpb.specs.Plan.{Plan, Assignment, obeys, satisfies, cost, floorCost}
+use Rattle.plpb.proofs.Soundness.{call-obeys}
 use Rattle.plpb.specs.Walk.{Mark, ends, short, run}
 use Rattle.plpb.specs.Settings.{Mode, linear, lbs, Settings}
 use Rattle.plpb.specs.Search.{Reached, failed, reached, call, tightened, floor, none, atFloor, gap, linearSearch, lbsSearch, tighten, searchWalk, lastFind, costOf, answerOf as answered, conclude, begin, search}
@@ -142,7 +143,7 @@ module _ {tables terms numbers : List ℕ} {used flips : ℕ} {assignment : List
       unfolding atFloor _and_
       from-floor s t =
           let low : leZ (cost here find) (floorCost here) ≡ true = sym (ap₂ leZ costs floored) ∙ t in
-          let ground : atFloor here find ≡ true = rw (low, T-true (leZ (floorCost here) (cost here find)) (floor-below here find)) in
+          let ground : atFloor here find ≡ true = rw (low, T-true (leZ (floorCost here) (cost here find)) (floor-below here find (h .obeyed))) in
           record {
             answers =
                 ap (conclude here) (floor-ends s here (numbersOf numbers) find (at used flips (find ∷ [])) ground (s .mode) (gap here find))
@@ -197,6 +198,7 @@ module _ {tables terms numbers : List ℕ} {used flips : ℕ} {assignment : List
                 },
                 record {
                   bits = kept-areBits;
+                  obeyed = subst (λ a. T (obeys a here)) (sym kept-bits) (h .obeyed);
                   costs = costs ∙ ap (cost here) (sym kept-bits);
                   finds = h .some;
                   flips = h .few;
@@ -354,7 +356,7 @@ module _ {plan planTerms assignment tables terms : List ℕ} {w : Work} (h : Sea
       made-as x e = subst (λ y. Tries (call s copy) tables′ terms′ numbers 0 0 1 y w v) e made
 
       pub core-first : {used flips : ℕ} → t ≡ tried.Reached used flips → Roomy v → FirstFind tables′ terms′ numbers used flips assignment v
-      unfolding IfReached usedBy flipsBy
+      unfolding IfReached usedBy flipsBy triedOf
       core-first {used} {flips} e y =
           let k = made-as (tried.Reached used flips) e in
           record {
@@ -363,6 +365,7 @@ module _ {plan planTerms assignment tables terms : List ℕ} {w : Work} (h : Sea
             room = h .room;
             work = y;
             bits = k .finds .bits;
+            obeyed = call-obeys s copy (numbersOf numbers) 0 0 [] (omega arith) (k .outcome []);
             some = k .finds .uses;
             few = k .flipped;
             within = k .within;

@@ -7,7 +7,7 @@ use lib.Dec.{T}
 use lib.IntN.{pos}
 use lib.ListN.{length, drop}
 use Rattle.plpb.specs.Lists.{_or_}
-use Rattle.plpb.specs.Plan.{Plan, Assignment}
+use Rattle.plpb.specs.Plan.{Plan, Assignment, obeys}
 use Rattle.plpb.specs.Walk.{run}
 use Rattle.plpb.specs.Settings.{Settings}
 use Rattle.plpb.specs.Search.{Reached, failed, reached, gap, tighten, conclude, search}
@@ -49,6 +49,7 @@ pub record FirstFind (tables terms numbers : List ℕ) (used flips : ℕ) (assig
   pub room : assignmentSize ≤ length assignment
   pub work : Roomy w
   pub bits : T (areBits (planOfTables tables terms .variables) (w .assignment))
+  pub obeyed : T (obeys (bitsIn tables terms w) (planOfTables tables terms))
   pub some : 1 ≤ used
   pub few : flips ≤ used
   pub within : used ≤ length numbers / 4

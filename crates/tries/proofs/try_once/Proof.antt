@@ -4,13 +4,12 @@ use borrow.Author.Needs.{needs}
 use native.Mathlib.Omega.{arith}
 use mathlib.Core.Path.{refl}
 use Rattle.recount.proofs.Laid.{tables-long, variables-word}
-use Rattle.tries.proofs.Trying.{started-uses, started-ready, started-walking, tried-once, no-start}
+use Rattle.tries.proofs.Trying.{started-uses, started-holdable, started-ready, started-walking, tried-once, no-start}
 use Rattle.tries.proofs.try_once.Statement.{statement}
 use Rattle.tries.proofs.try_once.Tie as tie
 
 index-requires : tie.Need-index-requires
-index-requires c κs =
-    let at = c .before .before .before .before .before .before in omega (arith, tables-long _ _ (at .pre .0 .ready .laid))
+index-requires c κs = let at = c .before .before .before .before .before .before in omega (arith, tables-long _ _ (at .pre .0 .ready .laid))
 
 start-requires : tie.Need-start-requires
 start-requires c κs =
@@ -24,36 +23,34 @@ returns c =
     let at = i .before .before .before .before .before .before .before in
     no-start _ (at .pre .0) (at .pre .2) (i .index .ensures) (b .start .ensures) _ (at .pre .1) (c .enum-told .given .1) refl refl refl
 
+hold-locks-requires : tie.Need-hold-locks-requires
+hold-locks-requires c κs =
+    let at = c .before .before .before .before .before .before .before .before .before .before .before .before .before .before .before in
+    started-holdable _ (at .pre .0) (at .pre .2) (c .before .before .before .before .before .before .before .before .index .ensures) (c .before .before .before .before .before .before .start .ensures) (c .before .before .after .given .1) (c .before .before .before .before .before .assignment .given)
+
 open-core-requires : tie.Need-open-core-requires
 open-core-requires c κs =
-    let t = c .before .before .before in
-    let b = t .before .before .before .before in
-    let i = b .before .before in
-    let at = i .before .before .before .before .before .before .before in
-    (started-ready _ (at .pre .0) (at .pre .2) (i .index .ensures) (b .start .ensures) (t .after .given .1) (t .before .before .before .assignment .given), at .pre .0 .room)
+    let at = c .before .before .before .before .before .before .before .before .before .before .before .before .before .before .before .before .before .before .before .before in (
+      started-ready _ (at .pre .0) (at .pre .2) (c .before .before .before .before .before .before .before .before .before .before .before .before .before .index .ensures) (c .before .before .before .before .before .before .before .before .before .before .before .start .ensures) (c .before .before .before .before .before .before .before .after .given .1) (c .before .before .before .before .hold-locks .ensures) (c .before .before .before .assignment2 .given)
+          (c .before .before .before .before .before .before .before .before .before .before .assignment .given),
+      at .pre .0 .room,
+    )
 
 make-flips-requires : tie.Need-make-flips-requires
 make-flips-requires c κs =
-    let o = c .before .before .before .before .before in
-    let t = o .before .before .before .before in
-    let b = t .before .before .before .before in
-    let i = b .before .before in
-    let at = i .before .before .before .before .before .before .before in
-    let u = started-uses _ (at .pre .0) (at .pre .2) (i .index .ensures) (b .start .ensures) (t .after .given .1) in (
-      started-walking _ (at .pre .0) (at .pre .2) (i .index .ensures) (b .start .ensures) (t .after .given .1) (t .before .before .before .assignment .given) (o .open-core .ensures),
+    let at = c .before .before .before .before .before .before .before .before .before .before .before .before .before .before .before .before .before .before .before .before .before .before .before .before .before .before in
+    let u = started-uses _ (at .pre .0) (at .pre .2) (c .before .before .before .before .before .before .before .before .before .before .before .before .before .before .before .before .before .before .before .index .ensures) (c .before .before .before .before .before .before .before .before .before .before .before .before .before .before .before .before .before .start .ensures) (c .before .before .before .before .before .before .before .before .before .before .before .before .before .after .given .1) in (
+      started-walking _ (at .pre .0) (at .pre .2) (c .before .before .before .before .before .before .before .before .before .before .before .before .before .before .before .before .before .before .before .index .ensures) (c .before .before .before .before .before .before .before .before .before .before .before .before .before .before .before .before .before .start .ensures) (c .before .before .before .before .before .before .before .before .before .before .before .before .before .after .given .1) (c .before .before .before .before .before .before .before .before .before .before .hold-locks .ensures) (c .before .before .before .before .before .before .before .before .before .assignment2 .given)
+          (c .before .before .before .before .before .before .before .before .before .before .before .before .before .before .before .before .assignment .given) (c .before .before .before .before .before .open-core .ensures),
       u .1,
       u .2,
     )
 
 returns-2 : tie.Need-returns-2
 returns-2 c =
-    let g = c .before .before .before .before .before .before in
-    let o = g .before .before .before .before .before .before in
-    let t = o .before .before .before .before in
-    let b = t .before .before .before .before in
-    let i = b .before .before in
-    let at = i .before .before .before .before .before .before .before in
-    tried-once _ (at .pre .0) (at .pre .2) (i .index .ensures) (b .start .ensures) (t .after .given .1) (t .before .before .before .assignment .given) (o .open-core .ensures) _ (g .make-flips .ensures)
+    let at = c .before .before .before .before .before .before .before .before .before .before .before .before .before .before .before .before .before .before .before .before .before .before .before .before .before .before .before .before .before .before .before .before .before in
+    tried-once _ (at .pre .0) (at .pre .2) (c .before .before .before .before .before .before .before .before .before .before .before .before .before .before .before .before .before .before .before .before .before .before .before .before .before .before .index .ensures) (c .before .before .before .before .before .before .before .before .before .before .before .before .before .before .before .before .before .before .before .before .before .before .before .before .start .ensures) (c .before .before .before .before .before .before .before .before .before .before .before .before .before .before .before .before .before .before .before .before .after .given .1) (c .before .before .before .before .before .before .before .before .before .before .before .before .before .before .before .before .before .hold-locks .ensures) (c .before .before .before .before .before .before .before .before .before .before .before .before .before .before .before .before .assignment2 .given)
+    (c .before .before .before .before .before .before .before .before .before .before .before .before .before .before .before .before .before .before .before .before .before .before .before .assignment .given) (c .before .before .before .before .before .before .before .before .before .before .before .before .open-core .ensures) _ (c .before .before .before .before .before .before .make-flips .ensures)
 
 pub try-once-spec : {M : Type 1} → statement M
 try-once-spec =
@@ -65,6 +62,7 @@ try-once-spec =
     (λ c. search needs)
     (λ c. search needs)
     returns
+    hold-locks-requires
     open-core-requires
     make-flips-requires
     (λ c. search needs)

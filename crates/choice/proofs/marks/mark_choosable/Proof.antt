@@ -1,4 +1,4 @@
--- `mark_choosable` meets its contract: those marked are the clause's variables, and they are counted.
+-- `mark_choosable` meets its contract: those marked are the clause's unlocked variables, and they are counted.
 -- Assumes nothing.
 use borrow.Author.Needs.{needs}
 use native.Mathlib.Omega.{arith}
@@ -20,8 +20,8 @@ count-marked-requires c κs =
 returns : tie.Need-returns
 returns c =
     let at = c .before .before .before .before .before .before .before .before .before .before in
-    choosable-marked _ _ (at .args .marks .now) (c .before .index .ensures ∙ sym (variables-word _ _ (at .pre .0 .laid)))
-    (c .before .before .before .before .before .mark-clause .ensures) (c .count-marked .ensures)
+    choosable-marked (at .pre .0 .laid) _ (at .args .marks .now) (c .before .before .before .before .before .mark-clause .ensures)
+    (c .before .index .ensures ∙ sym (variables-word _ _ (at .pre .0 .laid))) (c .count-marked .ensures)
 
 pub mark-choosable-spec : {M : Type 1} → statement M
 mark-choosable-spec =

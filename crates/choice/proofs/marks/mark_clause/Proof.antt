@@ -38,7 +38,7 @@ returns c =
     let k = b .before .before .before in
     let i = k .before .before in
     let at = i .before .before .before .before in
-    clause-marked (at .pre .0 .laid) (at .pre .1) (at .args .marks .now) (at .pre .0 .bytes) (i .index .ensures) (k .clear .ensures) (b .rules-of .ensures .0) (b .rules-of .ensures .1) (c .before .before .mark-rules .ensures)
+    clause-marked (at .pre .0 .laid) (at .pre .1) _ (at .args .marks .now) (at .pre .0 .bytes) (i .index .ensures) (k .clear .ensures) (b .rules-of .ensures .0) (b .rules-of .ensures .1) (c .before .before .mark-rules .ensures)
 
 pub mark-clause-spec : {M : Type 1} → statement M
 mark-clause-spec =

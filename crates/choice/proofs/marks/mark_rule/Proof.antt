@@ -3,7 +3,7 @@
 use borrow.Author.Needs.{needs}
 use native.Mathlib.Omega.{arith}
 use Rattle.recount.proofs.Laid.{rules-few, entry-inside}
-use Rattle.free.proofs.Marking.{rule-body, rule-marked}
+use Rattle.free.proofs.Marking.{rule-markable, rule-marked}
 use Rattle.choice.proofs.marks.mark_rule.Statement.{statement}
 use Rattle.choice.proofs.marks.mark_rule.Tie as tie
 
@@ -28,12 +28,12 @@ index-requires-2 c κs = let at = c .before .before .before .before in omega (ar
 mark-terms-requires : tie.Need-mark-terms-requires
 mark-terms-requires c κs =
     let at = c .before .before .before .before .before .before in
-    rule-body (at .pre .0) (at .pre .1) (c .before .before .index .ensures) (c .before .index2 .ensures)
+    rule-markable (at .pre .0) (at .pre .1) (c .before .before .index .ensures) (c .before .index2 .ensures)
 
 returns : tie.Need-returns
 returns c =
     let b = c .before .before .before .before in
-    rule-marked _ _ (c .before .before .before .before .before .before .before .before .before .args .r) _ (b .before .index .ensures) (b .index2 .ensures) (c .before .before .mark-terms .ensures)
+    rule-marked _ _ _ (c .before .before .before .before .before .before .before .before .before .args .r) _ (b .before .index .ensures) (b .index2 .ensures) (c .before .before .mark-terms .ensures)
 
 pub mark-rule-spec : {M : Type 1} → statement M
 mark-rule-spec =

@@ -8,14 +8,14 @@ use lib.ListN.{length}
 use Rattle.plpb.specs.Lists.{row}
 use Rattle.words.specs.Words.{wordAt}
 use Rattle.format.specs.Tables.{ruleOf}
-use Rattle.free.specs.Marks.{markRules}
+use Rattle.free.specs.Marks.{markBy, markRules}
 use Rattle.free.proofs.Marking.{still-ready, rules-go, rules-end}
 use Rattle.choice.proofs.marks.mark_rules.Statement.{statement}
 use Rattle.choice.proofs.marks.mark_rules.Tie as tie
 
 abbrev Inv-loop : tie.InvT-loop
 Inv-loop tables terms first end marks₀ r₀ marks r =
-    (markRules (map (ruleOf (wordAt tables) (wordAt terms)) (row r (end - r))) marks ≡ markRules (map (ruleOf (wordAt tables) (wordAt terms)) (row first (end - first))) marks₀)
+    (markRules (markBy tables) (map (ruleOf (wordAt tables) (wordAt terms)) (row r (end - r))) marks ≡ markRules (markBy tables) (map (ruleOf (wordAt tables) (wordAt terms)) (row first (end - first))) marks₀)
     × (length marks ≡ length marks₀)
 
 abbrev μ-loop : tie.MeasureT-loop
@@ -29,10 +29,10 @@ mark-rule-requires c κs =
 loop-again : tie.Need-loop-again Inv-loop μ-loop
 loop-again c =
     let now = c .before .before .before .before .before .loop in
-    (rules-go _ (now .r) _ (now .marks) (c .before .before .before .before .loop-test .taken) (c .before .before .mark-rule .ensures) ∙ now .inv .0, c .before .marks .given ∙ now .inv .1)
+    (rules-go _ _ (now .r) _ (now .marks) (c .before .before .before .before .loop-test .taken) (c .before .before .mark-rule .ensures) ∙ now .inv .0, c .before .marks .given ∙ now .inv .1)
 
 returns : tie.Need-returns Inv-loop μ-loop
-returns c = let now = c .before .loop in rules-end _ (now .r) _ (now .marks) (c .loop-test .left) ∙ now .inv .0
+returns c = let now = c .before .loop in rules-end _ _ (now .r) _ (now .marks) (c .loop-test .left) ∙ now .inv .0
 
 pub mark-rules-spec : {M : Type 1} → statement M
 mark-rules-spec =

@@ -1,0 +1,2 @@
+-- Bytes of an assignment under the words of locks.
+pub mod Held
