@@ -5,6 +5,7 @@ use crate::read::{read_bytes, Text};
 use crate::report::{counted, show};
 use crate::tokens::Fault;
 use reference::file::{parse, write, write_numbers, write_settings};
+use reference::plan::value;
 use reference::program::MOST_BYTES;
 use reference::random::Random;
 use std::fs;
@@ -171,6 +172,12 @@ fn name_chosen(path: &str, digits: &str) -> Done {
         out += "\n";
     }
     out += &format!("cost {}\n", plan.cost(&assignment));
+    for lock in &plan.locks {
+        if value(&assignment, lock.variable) != lock.value {
+            let (name, value) = (text.names.called(lock.variable), lock.value as u8);
+            out += &format!("{name} is locked at {value}\n");
+        }
+    }
     for (clause, line) in plan.clauses.iter().zip(&text.lines) {
         if !clause.holds(&assignment) {
             out += &format!("the clause on line {line} is not met\n");
@@ -180,7 +187,7 @@ fn name_chosen(path: &str, digits: &str) -> Done {
     if met {
         out += "every clause is met\n";
     }
-    Ok((out, met))
+    Ok((out, met && plan.obeyed(&assignment)))
 }
 
 /// Carries out one command.

@@ -5,7 +5,15 @@
 pub struct Names(Vec<Option<String>>);
 
 /// The words that begin a statement or a rule, and so name no variable.
-pub const RESERVED: [&str; 6] = ["variable", "variables", "minimise", "clause", "or", "walk"];
+pub const RESERVED: [&str; 7] = [
+    "variable",
+    "variables",
+    "minimise",
+    "lock",
+    "clause",
+    "or",
+    "walk",
+];
 
 /// The number in x7.
 pub fn numbered(word: &str) -> Option<usize> {

@@ -104,6 +104,10 @@ pub fn text(plan: &Plan, names: &Names, settings: Option<&Settings>) -> String {
         text += "minimise ";
         text += &lines(&sum(&plan.objective, names), 4);
     }
+    for lock in &plan.locks {
+        let (name, value) = (names.called(lock.variable), lock.value as u8);
+        text += &format!("lock {name} {value}\n");
+    }
     for clause in &plan.clauses {
         // Several rules stand on lines of their own.
         let alone = clause.rules.len() == 1;

@@ -7,7 +7,7 @@ use crate::tokens::{fault, tokens, Fault, Kind, Token};
 use reference::file::{
     MOST_BOUND, MOST_CLAUSES, MOST_RULES, MOST_TERMS, MOST_VARIABLES, MOST_WEIGHT,
 };
-use reference::plan::{Clause, Plan, Rule, Term};
+use reference::plan::{Clause, Lock, Plan, Rule, Term};
 use reference::walk::{Settings, LBS, LINEAR};
 
 /// What a text says.
@@ -157,7 +157,7 @@ impl<'a> Reader<'a> {
         Ok(number as usize)
     }
 
-    /// A variable in a sum.
+    /// A variable in a sum or in a lock.
     fn named(&mut self) -> Result<usize, Fault> {
         let word = self.take_name("a variable")?;
         let names = &self.text.names;
@@ -214,6 +214,21 @@ impl<'a> Reader<'a> {
             return fault(line, "minimise stands twice");
         }
         self.text.plan.objective = self.sum()?;
+        Ok(())
+    }
+
+    /// `lock ford 1`: a variable and the value that it has in every plan found. The file wants rising
+    /// numbers, a text does not.
+    fn lock(&mut self) -> Result<(), Fault> {
+        let variable = self.named()?;
+        let Token { line, text, .. } = self.last();
+        if self.text.plan.lock(variable).is_some() {
+            return fault(line, format!("'{text}' is locked already"));
+        }
+        let value = self.number("a lock's value", 0, 1)? == 1;
+        let locks = &mut self.text.plan.locks;
+        locks.push(Lock { variable, value });
+        locks.sort_by_key(|lock| lock.variable);
         Ok(())
     }
 
@@ -324,12 +339,13 @@ impl<'a> Reader<'a> {
             "variable" => self.variable(),
             "variables" => self.variables(),
             "minimise" => self.objective(),
+            "lock" => self.lock(),
             "clause" => self.clause(),
             "walk" => self.walk(),
             other => {
                 let words = format!(
                     "'{other}' may not stand here: a statement begins with variable, variables, \
-                     minimise, clause or walk, and a clause's next rule with or"
+                     minimise, lock, clause or walk, and a clause's next rule with or"
                 );
                 fault(self.last().line, words)
             }
@@ -349,6 +365,7 @@ pub fn read(text: &str) -> Result<Text, Fault> {
             plan: Plan {
                 variables: 0,
                 objective: Vec::new(),
+                locks: Vec::new(),
                 clauses: Vec::new(),
             },
             lines: Vec::new(),

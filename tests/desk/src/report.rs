@@ -11,11 +11,12 @@ use reference::plan::Plan;
 use reference::program::MOST_BYTES;
 
 /// The largest plan file in bytes.
-pub const MOST_PLAN: usize = 52_907;
+pub const MOST_PLAN: usize = 54_446;
 
 /// The buffers of the box, in words of 4 bytes (docs/FORMAT.md). There is room for one clause, one
 /// rule and the terms of one rule more than a plan may have.
-pub const TABLES: usize = 4 * (4 + MOST_VARIABLES + 2 * (MOST_CLAUSES + 1) + 5 * (MOST_RULES + 1));
+pub const TABLES: usize =
+    4 * (4 + MOST_VARIABLES + 2 * (MOST_CLAUSES + 1) + 5 * (MOST_RULES + 1) + MOST_VARIABLES);
 pub const TERMS: usize = 4 * 2 * (MOST_TERMS + MOST_VARIABLES);
 pub const TALLIES: usize = 4 * ((MOST_RULES + 1) + (MOST_CLAUSES + 1) + 1);
 
@@ -40,7 +41,7 @@ pub fn counted(count: usize, what: &str) -> String {
 
 /// Every refusal in plain words, by its number: those of the files, of the settings, and of what a
 /// program lends. include/planner.h and docs/REFUSALS.md have the same words.
-pub const REFUSALS: [(u32, &str); 18] = [
+pub const REFUSALS: [(u32, &str); 20] = [
     (1, "the file ends in the middle of a field"),
     (2, "a field of this kind may not stand here"),
     (3, "no field of this kind has this length"),
@@ -51,8 +52,8 @@ pub const REFUSALS: [(u32, &str); 18] = [
     ),
     (
         5,
-        "a term's variable is not in the plan or not above the one before it, or its coefficient \
-         is 0 or beyond 1,000,000 either way",
+        "the variable of a term or lock is not in the plan or not above the one before it, or a \
+         coefficient is 0 or beyond 1,000,000 either way",
     ),
     (
         6,
@@ -62,6 +63,7 @@ pub const REFUSALS: [(u32, &str); 18] = [
     (7, "the file goes on after its end"),
     (8, "the list of numbers ends in the middle of a number"),
     (9, "the file has more than 65,536 bytes"),
+    (10, "a lock's value is neither 0 nor 1"),
     (11, "the noise is not from 0 to 1,000"),
     (12, "the number of tries is not from 1 to 1,000"),
     (13, "the number of flips is not from 1 to 1,000,000"),
@@ -71,6 +73,7 @@ pub const REFUSALS: [(u32, &str); 18] = [
     (23, "the plan has no such variable"),
     (24, "the assignment has a byte other than 0 and 1"),
     (25, "the tallies are not those of this assignment"),
+    (26, "the plan has locked this variable"),
 ];
 
 /// What a refusal means.

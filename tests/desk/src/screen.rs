@@ -4,7 +4,7 @@
 use crate::report::plain;
 use reference::book::{Answer, Book, Call};
 use reference::file::{parse, parse_numbers, parse_settings, Refusal};
-use reference::plan::{flipped, Plan};
+use reference::plan::Plan;
 use reference::program::{contents, MOST_BYTES};
 use reference::tallies::Tallies;
 use reference::walk::{self, Ending, Settings};
@@ -20,7 +20,7 @@ const LONG_LIST: usize = 1_024;
 
 const HELP: &str = "\
 show             what is chosen
-all              every site, chosen or not
+all              every site, chosen or not, and which are locked
 unmet            the clauses that are not met
 try SITE         what turning a site over would do
 flip SITE        turn it over
@@ -84,7 +84,7 @@ struct Files {
 fn refused(what: &str, refusal: Refusal) -> Vec<u8> {
     let Refusal { number, offset } = refusal;
     let place = match number {
-        1..=7 => format!(", at byte {offset}"),
+        1..=7 | 10 => format!(", at byte {offset}"),
         _ => String::new(),
     };
     format!("{what} is refused ({number}): {}{place}.\n", plain(number)).into_bytes()
@@ -138,6 +138,14 @@ impl Screen<'_> {
         }
     }
 
+    /// What follows a site's name, up to the line's end.
+    fn locked(&self, variable: usize) -> &'static str {
+        match self.files.plan.lock(variable) {
+            Some(_) => " (locked)\n",
+            None => "\n",
+        }
+    }
+
     fn standing(&self, bits: &[bool]) -> String {
         let plan = &self.files.plan;
         let (cost, clauses) = (plan.cost(bits), plan.clauses.len());
@@ -151,8 +159,8 @@ impl Screen<'_> {
         let mut chosen = 0;
         for variable in 1..=self.bits.len() {
             if self.bits[variable - 1] {
-                let name = self.name(variable);
-                self.say_with(&format!("{variable:5}  "), &name, "\n");
+                let (name, locked) = (self.name(variable), self.locked(variable));
+                self.say_with(&format!("{variable:5}  "), &name, locked);
                 chosen += 1;
             }
         }
@@ -166,8 +174,8 @@ impl Screen<'_> {
     fn all(&mut self) {
         for variable in 1..=self.bits.len() {
             let answer = if self.bits[variable - 1] { "yes" } else { "no" };
-            let name = self.name(variable);
-            self.say_with(&format!("{variable:5}  {answer:3}  "), &name, "\n");
+            let (name, locked) = (self.name(variable), self.locked(variable));
+            self.say_with(&format!("{variable:5}  {answer:3}  "), &name, locked);
         }
     }
 
@@ -234,7 +242,8 @@ impl Screen<'_> {
         self.say(&format!(
             "{finds} found, {flips} flips, {used} of {count} numbers used.\n"
         ));
-        let none = vec![false; plan.variables];
+        // With nothing found the sites that are locked at yes are chosen, and no other.
+        let none = plan.locked(&vec![false; plan.variables]);
         self.bits = answer.found().map_or(none, <[bool]>::to_vec);
         self.show();
     }
@@ -255,8 +264,11 @@ impl Screen<'_> {
             Answer::Refused(number) => return self.refuse("This", number),
             Answer::Flipped => unreachable!(),
         };
+        if let Answer::Refused(number) = book.call(Call::Flip(variable)) {
+            return self.refuse("The flip", number);
+        }
         let variable = variable as usize;
-        let (before, after) = (self.bits.clone(), flipped(&self.bits, variable));
+        let (before, after) = (self.bits.clone(), book.bits().to_vec());
         let [stands, with] = match before[variable - 1] {
             true => ["chosen", "Without"],
             false => ["not chosen", "With"],

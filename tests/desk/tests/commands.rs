@@ -89,10 +89,10 @@ fn a_plan_is_shown() {
     let folder = folder("show");
     fs::write(folder.join("plan.txt"), TEXT).unwrap();
     desk(&folder, &["write", "plan.txt", ".", "7", "100"]);
-    let about = "\n# plan.bin: 83 bytes of at most 52,907\n\
+    let about = "\n# plan.bin: 83 bytes of at most 54,446\n\
         # 3 variables of at most 512, 2 clauses of at most 512, \
         2 rules of at most 1,024, 4 terms of at most 6,000\n\
-        # on the box: tables 26,668 bytes, terms 52,096 bytes, tallies 6,156 bytes, \
+        # on the box: tables 28,716 bytes, terms 52,096 bytes, tallies 6,156 bytes, \
         whatever the plan\n";
     // With names, from the folder: the text itself.
     let out = format!("{TEXT}{about}# numbers.bin: 100 numbers\n");
@@ -138,6 +138,17 @@ fn chosen_sites_by_name() {
     assert_eq!(name("101"), printed(0, out));
     let out = "ford\ncost 300\nthe clause on line 5 is not met\nthe clause on line 6 is not met\n";
     assert_eq!(name("010"), printed(1, out));
+    // What is locked, and has another value, is told.
+    fs::write(
+        folder.join("plan.txt"),
+        format!("{TEXT}lock ford 0 lock bridge 1 lock x1 1"),
+    )
+    .unwrap();
+    let out = "start\nbridge\ncost -10\nevery clause is met\n";
+    assert_eq!(name("101"), printed(0, out));
+    let out = "start\nford\ncost 310\nford is locked at 0\nbridge is locked at 1\n\
+               every clause is met\n";
+    assert_eq!(name("110"), printed(1, out));
     for digits in ["", "-", "10", "1011", "1 1", "102"] {
         let words = "an assignment of this plan is a row of 3 digits, each 0 or 1, not";
         assert_eq!(name(digits), said(1, &format!("{words} '{digits}'")));

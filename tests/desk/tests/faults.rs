@@ -41,7 +41,7 @@ fn signs_and_numbers() {
 #[test]
 fn statements() {
     let why = "may not stand here: a statement begins with variable, variables, minimise, \
-               clause or walk, and a clause's next rule with or";
+               lock, clause or walk, and a clause's next rule with or";
     for (text, line, word) in [
         ("minimize a", 4, "minimize"),
         ("\nor a <= 1", 5, "or"),
@@ -58,6 +58,39 @@ fn statements() {
             "walk noise 1 tries 1 flips 1 mode lbs\n\nwalk noise 1",
             6,
             "walk stands twice",
+        ),
+    ]);
+}
+
+#[test]
+fn locks() {
+    faults(&[
+        ("lock e 1", 4, "no variable is called 'e'"),
+        (
+            "\nlock x4 1",
+            5,
+            "there is no variable x4: so far there are 3",
+        ),
+        ("lock", 4, "expected a variable after 'lock', found the end"),
+        ("lock 1 1", 4, "expected a variable after 'lock', found '1'"),
+        (
+            "lock a\nclause a <= 1",
+            4,
+            "expected a lock's value after 'a', found 'clause'",
+        ),
+        ("lock a 2", 4, "a lock's value is from 0 to 1, not 2"),
+        ("lock a 255", 4, "a lock's value is from 0 to 1, not 255"),
+        (
+            "lock a -1",
+            4,
+            "expected a lock's value after 'a', found '-'",
+        ),
+        ("lock a 1\nlock b 0\nlock x1 1", 6, "'x1' is locked already"),
+        ("lock a 1\nlock a 0", 5, "'a' is locked already"),
+        (
+            "variable 4 lock",
+            4,
+            "expected a name after '4', found 'lock'",
         ),
     ]);
 }

@@ -120,6 +120,23 @@ fn statements_in_any_order_and_over_any_lines() {
 }
 
 #[test]
+fn locks_of_a_text() {
+    let text = "variable 1 a lock a 1 variables 3 variable 4 d\nlock d 0 lock x2 1 clause a <= 1";
+    let read = accepted(text);
+    let locks: Vec<(usize, bool)> = read
+        .plan
+        .locks
+        .iter()
+        .map(|lock| (lock.variable, lock.value))
+        .collect();
+    assert_eq!(locks, [(1, true), (2, true), (4, false)]);
+    let printed = "variable 1 a\nvariables 3\nvariable 4 d\nlock a 1\nlock x2 1\nlock d 0\n\
+                   clause a <= 1\n";
+    assert_eq!(print::text(&read.plan, &read.names, None), printed);
+    assert_eq!(accepted(printed).plan, read.plan);
+}
+
+#[test]
 fn the_least_text() {
     let text = accepted("variables 1");
     assert!(text.plan.objective.is_empty() && text.plan.clauses.is_empty());

@@ -3,7 +3,7 @@
 use desk::report::{plain, show, MOST_PLAN, REFUSALS, TABLES, TALLIES, TERMS};
 use reference::file::{write, write_field, write_settings, CLAUSE};
 use reference::plan::{Clause, Plan, Rule, Term};
-use reference::random::{full_plan, Random};
+use reference::random::{locked_full_plan, Random};
 use reference::walk::Settings;
 
 /// Two clauses: x1 + x2 ≥ 1, and (x1 ≤ 0 or x2 ≤ 0).
@@ -22,6 +22,7 @@ fn plan() -> Plan {
     Plan {
         variables: 2,
         objective: Vec::new(),
+        locks: Vec::new(),
         clauses: vec![
             Clause {
                 rules: vec![rule(Some(1), None, &[1, 2])],
@@ -42,17 +43,18 @@ fn shown(plan: &[u8]) -> String {
 
 #[test]
 fn sizes_of_the_buffers() {
-    assert_eq!((TABLES, TERMS, TALLIES), (26_668, 52_096, 6_156));
-    assert_eq!(write(&full_plan(&mut Random::new(1))).len(), MOST_PLAN);
+    assert_eq!((TABLES, TERMS, TALLIES), (28_716, 52_096, 6_156));
+    let largest = locked_full_plan(&mut Random::new(1), 512);
+    assert_eq!(write(&largest).len(), MOST_PLAN);
 }
 
 #[test]
 fn an_accepted_plan() {
     let expected = "variables 2\nclause x1 + x2 >= 1\nclause\n  x1 <= 0\n  or x2 <= 0\n\n\
-        # plan.bin: 77 bytes of at most 52,907\n\
+        # plan.bin: 77 bytes of at most 54,446\n\
         # 2 variables of at most 512, 2 clauses of at most 512, \
         3 rules of at most 1,024, 4 terms of at most 6,000\n\
-        # on the box: tables 26,668 bytes, terms 52,096 bytes, tallies 6,156 bytes, \
+        # on the box: tables 28,716 bytes, terms 52,096 bytes, tallies 6,156 bytes, \
         whatever the plan\n";
     assert_eq!(shown(&write(&plan())), expected);
 }
@@ -157,5 +159,5 @@ fn every_refusal_has_words_of_its_own() {
     words.sort_unstable();
     words.dedup();
     assert_eq!(words.len(), REFUSALS.len());
-    assert!(!words.contains(&plain(10)) && plain(10) == plain(99));
+    assert!(!words.contains(&plain(20)) && plain(20) == plain(99));
 }

@@ -1,5 +1,6 @@
 //! Opening, flip and counts on any tables, assignment and tallies.
 
+use crate::figures::Figures;
 use crate::making;
 use harness::guarded::Guarded;
 use harness::layout::{self, ASSIGNMENT, TABLES, TALLIES, TERM_TABLE};
@@ -83,9 +84,12 @@ fn lent(random: &mut Random, plan: &Plan) -> [Guarded; 4] {
 }
 
 /// One call by its name; the refusal that it gave.
-pub fn case(random: &mut Random, name: &str) -> u32 {
+pub fn case(random: &mut Random, name: &str, figures: &mut Figures) -> u32 {
     let plan = making::plan(random);
     let mut lent = lent(random, &plan);
+    let tables = layout::tables(&plan).0;
+    let same = |bytes: &[u8], end: usize| bytes.get(..end) == Some(&tables[..end]);
+    let only_locks = same(lent[0].bytes(), layout::SECTIONS[2]) && !same(lent[0].bytes(), TABLES);
     let variable = match random::call(random, plan.variables) {
         Call::Flip(variable) | Call::Counts(variable) => variable,
     };
@@ -94,7 +98,10 @@ pub fn case(random: &mut Random, name: &str) -> u32 {
     let mut counted = [0, 0];
     if name == "open" {
         match opened(&lent) {
-            Ok((plan, bits)) => write(&mut wanted, &plan, &bits),
+            Ok((plan, bits)) => {
+                figures.note("opened against locks", !plan.obeyed(&bits));
+                write(&mut wanted, &plan, &bits);
+            }
             Err(number) => refusal = number,
         }
     } else {
@@ -104,6 +111,8 @@ pub fn case(random: &mut Random, name: &str) -> u32 {
         };
         match booked(&lent, call) {
             Ok((plan, bits, both)) => {
+                let locked = plan.lock(variable as usize).is_some();
+                figures.note("counts of a locked variable", locked);
                 write(&mut wanted, &plan, &bits);
                 counted = both;
             }
@@ -131,5 +140,6 @@ pub fn case(random: &mut Random, name: &str) -> u32 {
         lent == wanted,
         "{name} of {variable} left other bytes: {refusal}"
     );
+    figures.note("changed locks refused", refusal == 22 && only_locks);
     refusal
 }

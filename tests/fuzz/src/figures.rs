@@ -1,4 +1,4 @@
-//! How often each call gave each refusal, and each search its ending.
+//! How often each call gave each refusal, each search its ending, and what else came up.
 
 use crate::CALLS;
 use std::collections::BTreeMap;
@@ -7,7 +7,17 @@ use std::fmt;
 pub struct Figures {
     refusals: [BTreeMap<u32, u64>; CALLS.len()],
     endings: [u64; 6],
+    cases: [u64; CASES.len()],
 }
+
+/// What a fuzz run of plans with locks is to come upon.
+pub const CASES: [&str; 5] = [
+    "stuck",
+    "found with locks",
+    "opened against locks",
+    "counts of a locked variable",
+    "changed locks refused",
+];
 
 /// By the numbers of the C interface.
 const ENDINGS: [&str; 6] = [
@@ -24,6 +34,7 @@ impl Figures {
         Figures {
             refusals: Default::default(),
             endings: [0; 6],
+            cases: [0; CASES.len()],
         }
     }
 
@@ -33,6 +44,18 @@ impl Figures {
 
     pub fn end(&mut self, ending: u32) {
         self.endings[ending as usize] += 1;
+    }
+
+    /// Counts one of the cases where it came up.
+    pub fn note(&mut self, case: &str, came_up: bool) {
+        let case = CASES.iter().position(|&name| name == case).unwrap();
+        self.cases[case] += came_up as u64;
+    }
+
+    /// How often one of the cases came up.
+    pub fn noted(&self, case: &str) -> u64 {
+        let case = CASES.iter().position(|&name| name == case).unwrap();
+        self.cases[case]
     }
 
     /// How often a call gave a refusal, or 0 for none.
@@ -69,6 +92,10 @@ impl fmt::Display for Figures {
         }
         write!(f, "endings of searches:")?;
         for (name, count) in ENDINGS.iter().zip(self.endings) {
+            write!(f, " {name}: {count}")?;
+        }
+        write!(f, "\nlocks:")?;
+        for (name, count) in CASES.iter().zip(self.cases) {
             write!(f, " {name}: {count}")?;
         }
         writeln!(f)

@@ -22,11 +22,14 @@ fn case(random: &mut Random, figures: &mut Figures) {
     match CALLS[call] {
         "load" => figures.count(call, loading::case(random)),
         "search" => {
-            let answer = searching::case(random);
+            let answer = searching::case(random, figures);
             figures.count(call, answer.refusal);
             figures.end(answer.ending);
         }
-        name => figures.count(call, calls::case(random, name)),
+        name => {
+            let refusal = calls::case(random, name, figures);
+            figures.count(call, refusal);
+        }
     }
 }
 

@@ -19,8 +19,8 @@ fn bytes(random: &mut Random) -> Vec<u8> {
         1 => {
             bytes.clear();
             for tag in [1, 2].into_iter().chain((0..random.below(8)).map(|_| 3)) {
-                let tag = [tag, tag, tag, 4, random.number() as u8 % 7][random.below(5)];
-                let length = [0, 2, 6, 12, 15, 21, random.below(40)][random.below(7)];
+                let tag = [tag, tag, tag, 4, random.number() as u8 % 8][random.below(5)];
+                let length = [0, 2, 3, 6, 12, 15, 21, random.below(40)][random.below(8)];
                 let body: Vec<u8> = (0..length).map(|_| random.number() as u8 % 4).collect();
                 bytes.extend(write_field(tag, &body));
             }

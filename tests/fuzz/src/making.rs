@@ -6,7 +6,10 @@ use reference::random::{self, Random};
 
 pub fn plan(random: &mut Random) -> Plan {
     match random.below(60) {
-        0 => random::full_plan(random),
+        0 => {
+            let locks = [0, 1, 100, 512][random.below(4)];
+            random::locked_full_plan(random, locks)
+        }
         1..=9 => random::race_plan(random),
         10..=19 => random::heavy_plan(random),
         20..=39 => random::small_plan(random),
@@ -75,8 +78,8 @@ pub fn spoil(random: &mut Random, bytes: &mut [u8], sections: &[usize]) {
     }
 }
 
-/// Where the sections of the tables begin: counts, clauses, rules (docs/FORMAT.md).
-const TABLE_SECTIONS: [usize; 3] = [0, 2_064, 6_168];
+/// Where the sections of the tables begin: counts, clauses, rules, locks (docs/FORMAT.md).
+const TABLE_SECTIONS: [usize; 4] = [0, 2_064, 6_168, 26_668];
 
 /// Two tables: those of a plan, most often; else spoiled in a place or some, or the two of
 /// different plans.

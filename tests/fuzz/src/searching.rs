@@ -1,6 +1,8 @@
 //! Searches on any tables, under any settings, over lists of any length.
 
+use crate::figures::Figures;
 use crate::making;
+use harness::layout;
 use harness::planner::Searched;
 use harness::searching::{Lent, SIZES};
 use reference::file::write_numbers;
@@ -46,10 +48,15 @@ fn list(random: &mut Random) -> Vec<u8> {
     bytes
 }
 
-pub fn case(random: &mut Random) -> Searched {
+pub fn case(random: &mut Random, figures: &mut Figures) -> Searched {
     let plan = making::plan(random);
     let (tables, terms) = making::tables(random, &plan);
     let lengths = SIZES.map(|size| making::length(random, size));
     let numbers = list(random);
-    Lent::sized(random, &tables, &terms, &numbers, lengths).check(&settings(random))
+    let lent = Lent::sized(random, &tables, &terms, &numbers, lengths);
+    let (answer, seen) = lent.check_seen(&settings(random));
+    figures.note("stuck", seen.stuck > 0);
+    let locked = || layout::loaded(&tables, &terms).is_some_and(|plan| !plan.locks.is_empty());
+    figures.note("found with locks", answer.finds > 0 && locked());
+    answer
 }

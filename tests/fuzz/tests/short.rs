@@ -1,12 +1,14 @@
 //! A short run with a fixed seed, in which everything comes up.
 
+use fuzz::figures::CASES;
+
 #[test]
 fn a_short_run() {
     let figures = fuzz::run(2026, |number| number < 40_000);
     let calls: [(&str, &[u32]); 5] = [
-        ("load", &[0, 1, 2, 3, 4, 5, 6, 7, 21]),
+        ("load", &[0, 1, 2, 3, 4, 5, 6, 7, 10, 21]),
         ("open", &[0, 21, 22, 24]),
-        ("flip", &[0, 21, 22, 23, 24, 25]),
+        ("flip", &[0, 21, 22, 23, 24, 25, 26]),
         ("counts", &[0, 21, 22, 23, 24, 25]),
         ("search", &[0, 11, 12, 13, 14, 21, 22]),
     ];
@@ -20,4 +22,9 @@ fn a_short_run() {
         let met = figures.ended(ending);
         assert!(met > 0, "no search came to {ending}");
     }
+    for case in CASES {
+        assert!(figures.noted(case) > 20, "{case}: {}", figures.noted(case));
+    }
+    // Counts know no 26.
+    assert_eq!(figures.met("counts", 26), 0);
 }

@@ -1,7 +1,8 @@
 //! Tables, assignments and tallies in bytes, written from docs/FORMAT.md and not from the library.
 
 use reference::file::{self, MOST_CLAUSES, MOST_RULES, MOST_TERMS, MOST_VARIABLES};
-use reference::plan::{Clause, Plan, Rule, Term};
+use reference::plan::{Clause, Lock, Plan, Rule, Term};
+use reference::random::Random;
 use reference::tallies::Tallies;
 
 /// One clause and rule more than a plan may have, with its terms.
@@ -9,7 +10,14 @@ const CLAUSES: usize = MOST_CLAUSES + 1;
 const RULES: usize = MOST_RULES + 1;
 const TERMS: usize = MOST_TERMS + MOST_VARIABLES;
 
-pub const TABLES: usize = 4 * (4 + MOST_VARIABLES + 2 * CLAUSES + 5 * RULES);
+/// The first word of each section of the tables behind the objective's.
+const CLAUSE_WORDS: usize = 4 + MOST_VARIABLES;
+const RULE_WORDS: usize = CLAUSE_WORDS + 2 * CLAUSES;
+const LOCK_WORDS: usize = RULE_WORDS + 5 * RULES;
+
+/// Where the words of clauses, rules and locks begin, in bytes.
+pub const SECTIONS: [usize; 3] = [4 * CLAUSE_WORDS, 4 * RULE_WORDS, 4 * LOCK_WORDS];
+pub const TABLES: usize = 4 * (LOCK_WORDS + MOST_VARIABLES);
 pub const TERM_TABLE: usize = 4 * (2 * TERMS);
 pub const ASSIGNMENT: usize = MOST_VARIABLES;
 pub const TALLIES: usize = 4 * (RULES + CLAUSES + 1);
@@ -61,7 +69,7 @@ pub fn tables(plan: &Plan) -> (Vec<u8>, Vec<u8>) {
         words.push(clause.rules.len() as i64);
         first += clause.rules.len() as i64;
     }
-    words.fill(4 + MOST_VARIABLES + 2 * CLAUSES);
+    words.fill(RULE_WORDS);
     let mut terms = Words(Vec::new());
     let mut first = 0;
     for rule in rules {
@@ -76,7 +84,10 @@ pub fn tables(plan: &Plan) -> (Vec<u8>, Vec<u8>) {
             terms.push(term.weight);
         }
     }
-    words.fill(TABLES / 4);
+    words.fill(LOCK_WORDS);
+    for variable in 1..=MOST_VARIABLES {
+        words.push(plan.lock(variable).map_or(0, |value| 1 + value as i64));
+    }
     terms.fill(TERM_TABLE / 4);
     (words.0, terms.0)
 }
@@ -107,7 +118,7 @@ fn word(bytes: &[u8], index: usize) -> Option<u32> {
 }
 
 /// The plan that two tables seem to hold, where every place they point at is inside and every mode
-/// is one.
+/// and lock is one.
 pub fn plan(tables: &[u8], terms: &[u8]) -> Option<Plan> {
     let signed = |word: u32| word as i32 as i64;
     let variables = word(tables, 0)? as usize;
@@ -118,15 +129,25 @@ pub fn plan(tables: &[u8], terms: &[u8]) -> Option<Plan> {
             objective.push(Term { variable, weight });
         }
     }
+    let mut locks = Vec::new();
+    for variable in 1..=variables.min(MOST_VARIABLES) {
+        let value = match word(tables, LOCK_WORDS + variable - 1)? {
+            0 => continue,
+            1 => false,
+            2 => true,
+            _ => return None,
+        };
+        locks.push(Lock { variable, value });
+    }
     let mut clauses = Vec::new();
     for clause in 0..word(tables, 1)? as usize {
         let (first, count) = (
-            word(tables, 516 + 2 * clause)?,
-            word(tables, 517 + 2 * clause)?,
+            word(tables, CLAUSE_WORDS + 2 * clause)?,
+            word(tables, CLAUSE_WORDS + 2 * clause + 1)?,
         );
         let mut rules = Vec::new();
         for rule in first..first.checked_add(count)? {
-            let at = 4 + MOST_VARIABLES + 2 * CLAUSES + 5 * rule as usize;
+            let at = RULE_WORDS + 5 * rule as usize;
             let (first, count, mode) = (
                 word(tables, at)?,
                 word(tables, at + 1)?,
@@ -153,6 +174,7 @@ pub fn plan(tables: &[u8], terms: &[u8]) -> Option<Plan> {
     Some(Plan {
         variables,
         objective,
+        locks,
         clauses,
     })
 }
@@ -166,14 +188,53 @@ pub fn loaded(tables: &[u8], terms: &[u8]) -> Option<Plan> {
     (tables == tables_now && terms == terms_now).then_some(plan)
 }
 
+/// Turns over one bit of a plan's tables, most often among the words in use. It gives whether that
+/// was a bit of the locks.
+pub fn turn_a_bit(random: &mut Random, plan: &Plan, tables: &mut [u8], terms: &mut [u8]) -> bool {
+    let [_, _, locks] = SECTIONS;
+    let place = match random.below(6) {
+        0 => random.below(16 + 4 * plan.variables),
+        1 => TABLES + random.below(8 * plan.clauses.len()),
+        2 => locks + random.below(4 * plan.variables),
+        // The lowest two bits of a lock.
+        3 => locks + 4 * random.below(plan.variables),
+        _ => random.below(TABLES + TERM_TABLE),
+    };
+    let in_locks = (locks..TABLES).contains(&place);
+    let change = 1 << random.below(if in_locks && place % 4 == 0 { 2 } else { 8 });
+    match place.checked_sub(TABLES) {
+        None => tables[place] ^= change,
+        Some(place) => terms[place] ^= change,
+    }
+    in_locks
+}
+
 #[cfg(test)]
 mod tests {
     use super::*;
+    use reference::making::{locking, plan};
 
     /// The sizes that docs/FORMAT.md names.
     #[test]
     fn sizes() {
-        assert_eq!((TABLES, TERM_TABLE, TALLIES), (26_668, 52_096, 6_156));
+        assert_eq!((TABLES, TERM_TABLE, TALLIES), (28_716, 52_096, 6_156));
+        assert_eq!(SECTIONS, [2_064, 6_168, 26_668]);
         assert!(TABLES.max(TERM_TABLE) <= 65_536);
+    }
+
+    /// "0 free, 1 locked at 0, 2 locked at 1", and 0 beyond n.
+    #[test]
+    fn words_of_locks() {
+        let locked = locking(plan(3, &[], &[]), &[(1, 1), (3, 0)]);
+        let (tables, terms) = tables(&locked);
+        assert_eq!(tables[26_668..26_680], [2, 0, 0, 0, 0, 0, 0, 0, 1, 0, 0, 0]);
+        assert!(tables[26_680..].iter().all(|&byte| byte == 0));
+        assert_eq!(loaded(&tables, &terms), Some(locked));
+        // A word above 2, and one that is not 0 beyond n.
+        for (place, word) in [(26_672, 3), (26_671, 1), (26_680, 1), (28_712, 2)] {
+            let mut tables = tables.clone();
+            tables[place] = word;
+            assert_eq!(loaded(&tables, &terms), None, "byte {place}");
+        }
     }
 }

@@ -5,7 +5,7 @@ use crate::layout::{self, ASSIGNMENT, MARKS, TABLES, TALLIES, TERM_TABLE};
 use crate::planner::{self, Searched};
 use reference::plan::Plan;
 use reference::random::Random;
-use reference::walk::{self, Ending, Settings};
+use reference::walk::{self, Ending, Seen, Settings};
 
 /// The sizes of tables, terms and assignment, then of the work buffers.
 pub const SIZES: [usize; 8] = [
@@ -106,18 +106,18 @@ impl Lent {
         settings.refusal().map_or(Ok(plan), Err)
     }
 
-    /// The answer of the reference, and what must be lent after it.
-    pub fn wanted(&self, settings: &Settings) -> (Searched, Lent) {
+    /// The answer of the reference, what must be lent after it, and what came up in the search.
+    pub fn wanted(&self, settings: &Settings) -> (Searched, Lent, Seen) {
         let mut left = self.clone();
         let plan = match self.judged(settings) {
             Ok(plan) => plan,
-            Err(refusal) => return (refused(refusal), left),
+            Err(refusal) => return (refused(refusal), left, Seen::default()),
         };
         let words = self.numbers.bytes().chunks_exact(4);
         let numbers: Vec<u32> = words
             .map(|word| u32::from_le_bytes(word.try_into().unwrap()))
             .collect();
-        let answer = walk::search(&plan, settings, &numbers).unwrap();
+        let (answer, seen) = walk::search_seen(&plan, settings, &numbers).unwrap();
         if let Some(found) = answer.found() {
             left.assignment.lend()[..found.len()].copy_from_slice(&layout::bits(found));
         }
@@ -132,14 +132,19 @@ impl Lent {
             flips: answer.flips as usize,
             used: answer.used,
         };
-        (searched, left)
+        (searched, left, seen)
     }
 
     /// Searches, and compares the answer and every byte, the guards too, with the reference.
-    pub fn check(mut self, settings: &Settings) -> Searched {
-        let (wanted, left) = self.wanted(settings);
+    pub fn check(self, settings: &Settings) -> Searched {
+        self.check_seen(settings).0
+    }
+
+    /// The same, and what came up in the search.
+    pub fn check_seen(mut self, settings: &Settings) -> (Searched, Seen) {
+        let (wanted, left, seen) = self.wanted(settings);
         assert_eq!(self.search(settings), wanted, "{settings:?}");
         assert!(self == left, "a search left other bytes: {wanted:?}");
-        wanted
+        (wanted, seen)
     }
 }

@@ -122,12 +122,19 @@ struct Met {
     /// Counts calls with a count at the cap.
     capped: u32,
     refused: u32,
+    /// Flips of locked variables.
+    locked: u32,
+    /// Lists opened with an assignment that disagrees with the locks.
+    disagreeing: u32,
+    /// Counts of locked variables.
+    counts_of_locked: u32,
 }
 
 impl Met {
     fn count(&mut self, answer: Answer) {
         match answer {
             Answer::Flipped => self.flips += 1,
+            Answer::Refused(26) => self.locked += 1,
             Answer::Refused(_) => self.refused += 1,
             Answer::Counts {
                 break_count,
@@ -145,6 +152,7 @@ fn check_list(random: &mut Random, plan: &Plan, length: usize, met: &mut Met) {
     let bits = random.assignment(plan.variables);
     let mut lent = Lent::new(random, plan, &bits);
     let opened = lent.holding(plan, &bits);
+    met.disagreeing += !plan.obeyed(&bits) as u32;
     assert_eq!(lent.open(), 0);
     assert!(lent == opened, "opening left other bytes");
     let mut book = Book::open(plan, &bits);
@@ -153,6 +161,9 @@ fn check_list(random: &mut Random, plan: &Plan, length: usize, met: &mut Met) {
         let wanted = book.call(call);
         assert_eq!(lent.call(call), wanted, "{call:?}");
         met.count(wanted);
+        if let Call::Counts(variable) = call {
+            met.counts_of_locked += plan.lock(variable as usize).is_some() as u32;
+        }
         assert!(
             lent == opened.holding(plan, book.bits()),
             "{call:?} left other bytes"
@@ -169,7 +180,8 @@ fn lists_of_calls_on_small_plans() {
         check_list(&mut random, &plan, 12, &mut met);
     }
     let least = met.flips.min(met.counts).min(met.refused);
-    assert!(least > 500, "{met:?}");
+    let locks = met.locked.min(met.counts_of_locked);
+    assert!(least.min(locks) > 500 && met.disagreeing > 200, "{met:?}");
 }
 
 #[test]
@@ -179,7 +191,7 @@ fn lists_of_calls_on_large_plans() {
     for round in 0..60 {
         match round % 3 {
             0 => {
-                let plan = random::full_plan(&mut random);
+                let plan = random::locked_full_plan(&mut random, [0, 100, 512][round % 9 / 3]);
                 check_list(&mut random, &plan, 40, &mut met);
             }
             1 => {
@@ -192,7 +204,7 @@ fn lists_of_calls_on_large_plans() {
             }
         };
     }
-    assert!(met.flips.min(met.counts) > 100, "{met:?}");
+    assert!(met.flips.min(met.counts).min(met.locked) > 100, "{met:?}");
     // On both sides of the cap.
     assert!(
         heavy.capped > 30 && heavy.counts - heavy.capped > 30,
@@ -232,8 +244,8 @@ fn shorten(buffer: &mut Guarded, length: usize) {
 }
 
 /// Ways to spoil tables so that no accepted loading leaves them.
-fn spoil_tables(lent: &mut Lent, way: usize) {
-    let rules = 4 * (4 + 512 + 2 * 513);
+fn spoil_tables(lent: &mut Lent, n: usize, way: usize) {
+    let [clauses, rules, locks] = layout::SECTIONS;
     match way {
         // The counts of variables, clauses, rules and terms.
         0 => lent.tables.lend()[3] ^= 0x80,
@@ -241,32 +253,39 @@ fn spoil_tables(lent: &mut Lent, way: usize) {
         2 => lent.tables.lend()[11] ^= 0x80,
         3 => lent.tables.lend()[15] ^= 0x80,
         // The first clause's first rule, the first rule's mode, the first term's variable.
-        4 => lent.tables.lend()[4 * 516] ^= 1,
+        4 => lent.tables.lend()[clauses] ^= 1,
         5 => lent.tables.lend()[rules + 8] = 0,
         6 => lent.terms.lend()[1] ^= 0x80,
         // The last entry of each section, which no plan uses.
         7 => lent.tables.lend()[rules - 1] ^= 1,
-        8 => lent.tables.lend()[TABLES - 1] ^= 1,
+        8 => lent.tables.lend()[locks - 1] ^= 1,
+        9 => lent.tables.lend()[TABLES - 1] ^= 1,
+        // A lock above 2 of the first and of the last variable, and one beyond the last.
+        10 => lent.tables.lend()[locks] = 3,
+        11 => lent.tables.lend()[locks + 4 * n - 1] = 1,
+        12 => lent.tables.lend()[locks + 4 * n] = 1,
         _ => lent.terms.lend()[TERM_TABLE - 1] ^= 1,
     }
     let spoiled = layout::loaded(lent.tables.bytes(), lent.terms.bytes());
     assert!(spoiled.is_none(), "way {way}");
 }
 
-const CONDITIONS: [u32; 5] = [21, 22, 24, 25, 23];
+const CONDITIONS: [u32; 6] = [21, 22, 24, 25, 23, 26];
 
 /// How many ways there are to meet each condition.
-const WAYS: [usize; 5] = [8, 10, 3, 3, 3];
+const WAYS: [usize; 6] = [8, 14, 3, 3, 3, 3];
 
-/// Brings one condition about, in one of its ways; 21 is to be the last of several.
+/// Brings one condition about, in one of its ways; the first in their order is to be the last of
+/// several.
 fn bring_about(
     random: &mut Random,
     lent: &mut Lent,
     variable: &mut u32,
-    n: usize,
+    plan: &Plan,
     condition: u32,
     way: usize,
 ) {
+    let n = plan.variables;
     match (condition, way) {
         (21, way) => {
             let (buffer, size) = match way / 2 {
@@ -277,7 +296,7 @@ fn bring_about(
             };
             shorten(buffer, if way % 2 == 0 { size - 1 } else { 0 });
         }
-        (22, way) => spoil_tables(lent, way),
+        (22, way) => spoil_tables(lent, n, way),
         (24, way) => {
             let place = [0, n - 1, random.below(n)][way];
             lent.assignment.lend()[place] = 2 + random.below(254) as u8;
@@ -286,54 +305,70 @@ fn bring_about(
             let place = [0, TALLIES - 1, random.below(TALLIES)][way];
             lent.tallies.lend()[place] ^= 1 << random.below(8);
         }
-        (_, way) => *variable = [0, n as u32 + 1, u32::MAX][way],
+        (23, way) => *variable = [0, n as u32 + 1, u32::MAX][way],
+        (_, way) => {
+            let last = plan.locks.len() - 1;
+            let lock = [0, last, random.below(last + 1)][way];
+            *variable = plan.locks[lock].variable as u32;
+        }
     }
 }
 
-/// Every set of the five conditions: the first in the order 21, 22, 24, 25, 23 is answered, and no
-/// byte changes.
+/// A plan with locked and unlocked variables, and one of the latter.
+fn partly_locked(random: &mut Random) -> (Plan, u32) {
+    loop {
+        let plan = random::race_plan(random);
+        let variable = 1 + random.below(plan.variables);
+        if !plan.locks.is_empty() && plan.lock(variable).is_none() {
+            return (plan, variable as u32);
+        }
+    }
+}
+
+/// Every set of the six conditions: a flip answers the first in the order 21, 22, 24, 25, 23, 26,
+/// counts the first but 26, and no byte changes.
 #[test]
 fn refusals_in_their_order() {
     let mut random = Random::new(24);
     let mut decided = [0; CONDITIONS.len()];
     // In each set the ways are gone through side by side.
-    for (set, round) in (0..32_u32).flat_map(|set| (0..10).map(move |round| (set, round))) {
-        let plan = random::race_plan(&mut random);
+    for (set, round) in (0..64_u32).flat_map(|set| (0..14).map(move |round| (set, round))) {
+        let (plan, mut variable) = partly_locked(&mut random);
         let bits = random.assignment(plan.variables);
         let mut lent = Lent::new(&mut random, &plan, &bits);
         assert_eq!(lent.open(), 0);
-        let mut variable = 1 + random.below(plan.variables) as u32;
-        let met: Vec<usize> = (0..5).filter(|place| set >> place & 1 == 1).collect();
+        let met: Vec<usize> = (0..6).filter(|place| set >> place & 1 == 1).collect();
         for &place in met.iter().rev() {
             let (condition, way) = (CONDITIONS[place], round % WAYS[place]);
-            let n = plan.variables;
-            bring_about(&mut random, &mut lent, &mut variable, n, condition, way);
+            bring_about(&mut random, &mut lent, &mut variable, &plan, condition, way);
         }
-        let wanted = met.first().map_or(0, |&place| CONDITIONS[place]);
-        let before = lent.clone();
-        let refused = Counted {
-            refusal: wanted,
-            break_count: 0,
-            make_count: 0,
+        let first = |known: &[u32]| {
+            let mut numbers = met.iter().map(|&place| CONDITIONS[place]);
+            numbers.find(|number| known.contains(number)).unwrap_or(0)
         };
+        let before = lent.clone();
         let counted = lent.counts(variable);
-        if wanted == 0 {
-            assert_eq!(counted.refusal, 0);
-            assert_eq!(lent.flip(variable), 0);
+        assert_eq!(
+            counted.refusal,
+            first(&CONDITIONS[..5]),
+            "{met:?}, round {round}"
+        );
+        if counted.refusal != 0 {
+            assert_eq!((counted.break_count, counted.make_count), (0, 0));
+        }
+        let flipped = lent.flip(variable);
+        assert_eq!(flipped, first(&CONDITIONS), "{met:?}, round {round}");
+        if flipped == 0 {
             continue;
         }
-        assert_eq!(counted, refused, "{met:?}, round {round}");
-        assert_eq!(lent.flip(variable), wanted, "{met:?}, round {round}");
-        assert!(lent == before, "a refused call ({wanted}) changed a byte");
-        // Opening knows the first three.
-        let opening = met.iter().map(|&place| CONDITIONS[place]);
-        let opening = opening.clone().find(|number| [21, 22, 24].contains(number));
-        assert_eq!(lent.open(), opening.unwrap_or(0), "{met:?}, round {round}");
-        assert!(opening.is_none() || lent == before, "opening, {met:?}");
+        assert!(lent == before, "a refused call ({flipped}) changed a byte");
+        let opened = lent.open();
+        assert_eq!(opened, first(&[21, 22, 24]), "{met:?}, round {round}");
+        assert!(opened == 0 || lent == before, "opening, {met:?}");
         decided[met[0]] += 1;
     }
     // Each condition decided half of the sets that the ones before it left.
-    assert_eq!(decided, [160, 80, 40, 20, 10]);
+    assert_eq!(decided, [448, 224, 112, 56, 28, 14]);
 }
 
 /// Each buffer alone one byte short, or empty: 21 from each call, whatever else is wrong, and no
@@ -380,27 +415,18 @@ fn each_buffer_one_byte_short() {
 #[test]
 fn changed_tables() {
     let mut random = Random::new(25);
-    let mut met = [0; 2];
+    let (mut met, mut locks) = ([0; 2], [0; 2]);
     for _ in 0..3_000 {
         let plan = random::race_plan(&mut random);
         let bits = vec![false; ASSIGNMENT];
         let (mut tables, mut terms) = layout::tables(&plan);
-        // Half of the changes are made among the words in use.
-        let (in_tables, in_terms) = (16 + 4 * plan.variables, 8 * plan.clauses.len());
-        let place = match random.below(4) {
-            0 => random.below(in_tables),
-            1 => TABLES + random.below(in_terms),
-            _ => random.below(TABLES + TERM_TABLE),
-        };
-        let change = 1 << random.below(8);
-        match place.checked_sub(TABLES) {
-            None => tables[place] ^= change,
-            Some(place) => terms[place] ^= change,
-        }
+        let in_locks = layout::turn_a_bit(&mut random, &plan, &mut tables, &mut terms);
         let loaded = layout::loaded(&tables, &terms).is_some();
         let refusal = open(&tables, &terms, &layout::bits(&bits), &mut vec![0; TALLIES]);
         assert_eq!(refusal, if loaded { 0 } else { 22 });
         met[(refusal == 22) as usize] += 1;
+        locks[(refusal == 22) as usize] += in_locks as u32;
     }
     assert!(met.iter().all(|&count| count > 300), "{met:?}");
+    assert!(locks.iter().all(|&count| count > 100), "{locks:?}");
 }

@@ -1,12 +1,13 @@
 //! include/planner.h against what this harness declares of the library: every size, offset, limit
 //! and ending, and the five prototypes, word for word.
 
-use harness::layout::{ASSIGNMENT, MARKS, TABLES, TALLIES, TERM_TABLE};
+use harness::layout::{self, ASSIGNMENT, MARKS, SECTIONS, TABLES, TALLIES, TERM_TABLE};
 use harness::planner::{Counted, Loaded, Searched};
 use harness::program::{root, Folder};
 use harness::searching::{ending, ENDINGS};
 use reference::file::{MOST_CLAUSES, MOST_RULES, MOST_TERMS, MOST_VARIABLES};
 use reference::program::MOST_BYTES;
+use reference::random::{locked_full_plan, Random};
 use reference::walk::{Ending, LBS, LINEAR};
 use std::fs;
 use std::mem::{offset_of, size_of};
@@ -117,7 +118,10 @@ fn sizes_offsets_and_numbers() {
         ("PLANNER_MOST_CLAUSES", MOST_CLAUSES),
         ("PLANNER_MOST_RULES", MOST_RULES),
         ("PLANNER_MOST_TERMS", MOST_TERMS),
-        ("PLANNER_FILE_SIZE", 52_907),
+        ("PLANNER_FILE_SIZE", 54_446),
+        ("PLANNER_LOCKS_PLACE", SECTIONS[2]),
+        ("PLANNER_WRONG_LOCK", 10),
+        ("PLANNER_LOCKED", 26),
         ("PLANNER_INPUT_SIZE", MOST_BYTES),
         ("PLANNER_LINEAR", LINEAR as usize),
         ("PLANNER_LBS", LBS as usize),
@@ -144,6 +148,40 @@ fn texts_of_endings() {
     for (text, ending) in texts.lines().zip(ENDINGS) {
         assert!(text.starts_with(&format!("{}: ", ending.name())), "{text}");
     }
+}
+
+/// The lock of each variable, as the header reads it from tables: free, at 0, at 1; free outside the
+/// plan.
+#[test]
+fn locks_of_a_plan() {
+    let mut random = Random::new(91);
+    for count in [0, 1, 300, 512] {
+        let plan = locked_full_plan(&mut random, count);
+        let bytes: Vec<String> = layout::tables(&plan).0.iter().map(u8::to_string).collect();
+        let program = format!(
+            "#include \"planner.h\"\n#include <stdio.h>\nstatic planner_plan plan = {{{{{}}}, {{0}}}};\n\
+             int main(void) {{\n for (uint32_t i = 0; i < 600; i++)\n\
+             printf(\"%u\\n\", (unsigned)planner_plan_lock(&plan, i));\n return 0;\n}}\n",
+            bytes.join(",")
+        );
+        let locks: Vec<Option<bool>> = printed(&program)
+            .lines()
+            .map(|line| match line {
+                "0" => None,
+                "1" => Some(false),
+                "2" => Some(true),
+                other => panic!("{other}"),
+            })
+            .collect();
+        let wanted: Vec<Option<bool>> = (0..600).map(|variable| plan.lock(variable)).collect();
+        assert_eq!(locks, wanted);
+    }
+    let names = ["PLANNER_FREE", "PLANNER_LOCKED_AT_0", "PLANNER_LOCKED_AT_1"];
+    assert_eq!(in_c(&names), [0, 1, 2]);
+    assert_eq!(
+        in_c(&["planner_plan_lock(&(planner_plan){{0}, {0}}, UINT32_MAX)"]),
+        [0]
+    );
 }
 
 /// A function's answer and its parameters with their types, as Rust writes them.

@@ -92,9 +92,89 @@ fn edges_of_document_01() {
             "{count} variables"
         );
     }
-    let largest = file::write(&random::full_plan(&mut random));
-    assert_eq!(largest.len(), 52_907);
-    assert_eq!(check(&mut random, &largest, TABLES, TERM_TABLE), 0);
+    for (locks, size) in [(0, 52_907), (512, 54_446)] {
+        let largest = file::write(&random::locked_full_plan(&mut random, locks));
+        assert_eq!(largest.len(), size);
+        assert_eq!(check(&mut random, &largest, TABLES, TERM_TABLE), 0);
+    }
+}
+
+/// The example with a field of locks of these bytes at a place.
+fn with_locks(place: usize, body: &[u8]) -> Vec<u8> {
+    let mut bytes = include_bytes!("../../../examples/two-sites/plan.bin").to_vec();
+    bytes.splice(place..place, file::write_field(file::LOCKS, body));
+    bytes
+}
+
+#[test]
+fn a_field_of_locks() {
+    let mut random = Random::new(15);
+    let cases: [(usize, &[u8], u32); 17] = [
+        (20, &[1, 0, 0], 0),
+        (20, &[2, 0, 1], 0),
+        (20, &[1, 0, 1, 2, 0, 0], 0),
+        (20, &[1, 0], 3),
+        (20, &[1, 0, 1, 2], 3),
+        (20, &[0, 0, 1], 5),
+        (20, &[3, 0, 1], 5),
+        (20, &[1, 1, 1], 5),
+        (20, &[2, 0, 1, 1, 0, 1], 5),
+        (20, &[1, 0, 2], 10),
+        (20, &[2, 0, 255], 10),
+        // In an entry 5 comes first, but an entry's 10 before the next one's 5.
+        (20, &[0, 0, 2], 5),
+        (20, &[1, 0, 2, 1, 0, 0], 10),
+        // Before the count and the objective, in and after a clause.
+        (0, &[1, 0, 0], 2),
+        (5, &[1, 0, 0], 2),
+        (23, &[1, 0, 0], 2),
+        (47, &[1, 0, 0], 2),
+    ];
+    for (place, body, refusal) in cases {
+        let bytes = with_locks(place, body);
+        let answer = load(&bytes, &mut vec![0; TABLES], &mut vec![0; TERM_TABLE]);
+        let offset = if refusal == 0 { 0 } else { place };
+        assert_eq!(answer, Loaded { refusal, offset }, "{body:?} at {place}");
+        check(&mut random, &bytes, TABLES, TERM_TABLE);
+        // Every cut of it.
+        for length in place..bytes.len() {
+            check(&mut random, &bytes[..length], TABLES, TERM_TABLE);
+        }
+    }
+    // Twice, and the longest field there is, whole and cut.
+    let mut twice = with_locks(20, &[]);
+    twice.splice(20..20, file::write_field(file::LOCKS, &[1, 0, 0]));
+    assert_eq!(check(&mut random, &twice, TABLES, TERM_TABLE), 2);
+    let entries: Vec<u8> = (1..=21_845_u16)
+        .flat_map(|variable| [&variable.to_le_bytes()[..], &[1]].concat())
+        .collect();
+    let longest = with_locks(20, &entries);
+    assert_eq!(check(&mut random, &longest, TABLES, TERM_TABLE), 5);
+    let cut = &longest[..20 + 3 + 65_534];
+    assert_eq!(check(&mut random, cut, TABLES, TERM_TABLE), 1);
+}
+
+/// An empty field of locks and none leave the same tables, byte for byte.
+#[test]
+fn an_empty_field_of_locks() {
+    let mut random = Random::new(16);
+    for round in 0..40 {
+        let mut plan = match round % 4 {
+            0 => random::race_plan(&mut random),
+            _ => random::small_plan(&mut random),
+        };
+        plan.locks.clear();
+        let none = file::write(&plan);
+        let mut empty = none.clone();
+        let place = 8 + 6 * plan.objective.len();
+        empty.splice(place..place, file::write_field(file::LOCKS, &[]));
+        let tables = [none, empty].map(|bytes| {
+            let (mut tables, mut terms) = (vec![7; TABLES], vec![7; TERM_TABLE]);
+            assert_eq!(load(&bytes, &mut tables, &mut terms).refusal, 0);
+            (tables, terms)
+        });
+        assert!(tables[0] == tables[1]);
+    }
 }
 
 #[test]
@@ -141,7 +221,7 @@ fn random_and_damaged_files() {
         let refusal = check(&mut random, &bytes, TABLES, TERM_TABLE);
         seen[refusal as usize] += 1;
     }
-    for number in [0, 1, 2, 3, 4, 5, 6, 7] {
+    for number in [0, 1, 2, 3, 4, 5, 6, 7, 10] {
         assert!(
             seen[number] > 20,
             "refusal {number} came up {} times",

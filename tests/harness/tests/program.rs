@@ -374,7 +374,7 @@ fn small_files(random: &mut Random) -> [Vec<u8>; 3] {
 fn random_small_plans() {
     let mut random = Random::new(61);
     let mut met = Met::default();
-    for _ in 0..500 {
+    for _ in 0..800 {
         met.add(&check_files(&small_files(&mut random).map(Some)));
     }
     met.at_least(15, &ENDINGS);
@@ -385,7 +385,7 @@ fn random_small_plans() {
 fn mutated_files() {
     let mut random = Random::new(62);
     let mut met = Met::default();
-    for _ in 0..800 {
+    for _ in 0..1_600 {
         let mut files = small_files(&mut random);
         // Most of the places at which a change matters are in the plan.
         let file = [0, 0, 0, 0, 1, 1, 2][random.below(7)];
@@ -423,6 +423,7 @@ fn mutated_files() {
             "refused 6",
             "refused 7",
             "refused 8",
+            "refused 10",
             "refused 11",
             "refused 12",
             "refused 13",
@@ -436,7 +437,7 @@ fn mutated_files() {
 fn any_files() {
     let mut random = Random::new(63);
     let mut met = Met::default();
-    for _ in 0..250 {
+    for _ in 0..400 {
         met.add(&check_files(&random::program_files(&mut random).map(Some)));
     }
     met.at_least(5, &ENDINGS);
@@ -452,11 +453,13 @@ fn the_full_limits() {
         flips: 1_000,
         mode: 1,
     };
-    let plan = write(&random::full_plan(&mut random));
-    assert_eq!(plan.len(), 52_907);
-    let numbers = write_numbers(&random.numbers(2_500));
-    let printed = check(&plan, &write_settings(&settings), &numbers);
-    assert!(!printed.starts_with("refused"));
+    for (locks, size) in [(0, 52_907), (400, 54_110), (512, 54_446)] {
+        let plan = write(&random::locked_full_plan(&mut random, locks));
+        assert_eq!(plan.len(), size);
+        let numbers = write_numbers(&random.numbers(2_500));
+        let printed = check(&plan, &write_settings(&settings), &numbers);
+        assert!(!printed.starts_with("refused"));
+    }
     // Every variable chosen, at the least and at the greatest cost there is.
     for (weight, first) in [
         (-1_000_000, "floor -512000000 1 0 16"),
@@ -465,6 +468,7 @@ fn the_full_limits() {
         let mut plan = Plan {
             variables: 512,
             objective: random.terms(512, 512, 1),
+            locks: Vec::new(),
             clauses: Vec::new(),
         };
         for term in &mut plan.objective {

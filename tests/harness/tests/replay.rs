@@ -3,13 +3,14 @@
 use harness::guarded::Guarded;
 use harness::layout::{self, ASSIGNMENT, TABLES, TALLIES, TERM_TABLE};
 use harness::replay::{answer_bytes, call_bytes, replay};
-use reference::book::{Book, Call};
+use reference::book::{Answer, Book, Call};
 use reference::plan::Plan;
 use reference::random::{self, Random};
 use reference::tallies::Tallies;
 
-/// Replays a list on noisy buffers and compares every byte with the book.
-fn check(random: &mut Random, plan: &Plan, list: &[u8], room: usize) {
+/// Replays a list on noisy buffers and compares every byte with the book. It gives how many calls
+/// were flips of locked variables.
+fn check(random: &mut Random, plan: &Plan, list: &[u8], room: usize) -> usize {
     let bits = random.assignment(plan.variables);
     let (tables, terms) = layout::tables(plan);
     let mut start = layout::bits(&bits);
@@ -20,6 +21,7 @@ fn check(random: &mut Random, plan: &Plan, list: &[u8], room: usize) {
     let mut assignment = Guarded::holding(&start, 1);
     let mut tallies = Guarded::holding(&noise[..TALLIES + 7], 2);
     let mut out = Guarded::holding(&noise[..room], 3);
+    let mut locked = 0;
     let (mut a, mut t, mut o) = (assignment.clone(), tallies.clone(), out.clone());
     let refusal = replay(
         &tables,
@@ -41,7 +43,9 @@ fn check(random: &mut Random, plan: &Plan, list: &[u8], room: usize) {
             } else {
                 Call::Counts(variable)
             };
-            o.lend()[12 * i..12 * i + 12].copy_from_slice(&answer_bytes(book.call(call)));
+            let answer = book.call(call);
+            locked += (answer == Answer::Refused(26)) as usize;
+            o.lend()[12 * i..12 * i + 12].copy_from_slice(&answer_bytes(answer));
         }
         a.lend()[..plan.variables].copy_from_slice(&layout::bits(book.bits()));
         t.lend()[..TALLIES].copy_from_slice(&layout::tallies(&Tallies::fresh(plan, book.bits())));
@@ -51,6 +55,7 @@ fn check(random: &mut Random, plan: &Plan, list: &[u8], room: usize) {
         "{} bytes of calls left other bytes",
         list.len()
     );
+    locked
 }
 
 fn list(random: &mut Random, plan: &Plan, length: usize) -> Vec<u8> {
@@ -62,9 +67,10 @@ fn list(random: &mut Random, plan: &Plan, length: usize) -> Vec<u8> {
 #[test]
 fn long_lists() {
     let mut random = Random::new(31);
+    let mut locked = 0;
     for round in 0..120 {
         let plan = match round % 4 {
-            0 => random::full_plan(&mut random),
+            0 => random::locked_full_plan(&mut random, [0, 100, 512][round % 3]),
             1 => random::heavy_plan(&mut random),
             2 => random::race_plan(&mut random),
             _ => random::small_plan(&mut random),
@@ -72,8 +78,9 @@ fn long_lists() {
         let length = [0, 1, 7, 300][random.below(4)];
         let calls = list(&mut random, &plan, length);
         let room = 12 * length + random.below(30);
-        check(&mut random, &plan, &calls, room);
+        locked += check(&mut random, &plan, &calls, room);
     }
+    assert!(locked > 500, "{locked}");
 }
 
 #[test]

@@ -1,12 +1,12 @@
 //! The search against the reference: answers, every byte of every buffer, refusals in their order.
 
-use harness::layout::{self, TABLES, TERM_TABLE};
+use harness::layout;
 use harness::planner::Searched;
 use harness::searching::{refused, Lent, ENDINGS, SIZES};
 use reference::file::{parse, parse_settings, write_numbers};
 use reference::plan::Plan;
 use reference::random::{self, Random};
-use reference::walk::{search_seen, Settings, LBS, LINEAR};
+use reference::walk::{Settings, LBS, LINEAR};
 use reference::worked::walks;
 
 /// Searches on noisy buffers and compares all with the reference.
@@ -143,7 +143,7 @@ fn running_short_at_every_place() {
 #[test]
 fn random_small_plans() {
     let mut random = Random::new(44);
-    let mut met = [0; 6];
+    let (mut met, mut stuck, mut partly, mut found) = ([0; 6], 0, 0, 0);
     for round in 0..6_000 {
         let plan = match round % 3 {
             0 => random::small_plan(&mut random),
@@ -156,10 +156,18 @@ fn random_small_plans() {
         let count = random.below(250);
         let mut numbers = list(&mut random, count);
         numbers.truncate(numbers.len().saturating_sub(random.below(4)));
-        let answer = check(&mut random, &plan, &settings, &numbers);
+        let (answer, seen) = Lent::new(&mut random, &plan, &numbers).check_seen(&settings);
         met[answer.ending as usize] += 1;
+        stuck += (seen.stuck > 0) as u32;
+        partly += (seen.partly_locked > 0) as u32;
+        found += (answer.finds > 0 && !plan.locks.is_empty()) as u32;
     }
     assert!(met[1..].iter().all(|&count| count > 100), "{met:?}");
+    // Tries that a locked clause ended, choices beside locked variables, finds that obey locks.
+    assert!(
+        stuck > 50 && partly.min(found) > 500,
+        "{stuck} {partly} {found}"
+    );
 }
 
 /// Counts on both sides of the cap, and ties at it.
@@ -173,10 +181,9 @@ fn heavy_plans() {
         if random.percent(50) {
             settings.noise = 1_000;
         }
-        let numbers = random.numbers(100);
-        let answer = check(&mut random, &plan, &settings, &write_numbers(&numbers));
+        let numbers = list(&mut random, 100);
+        let (answer, seen) = Lent::new(&mut random, &plan, &numbers).check_seen(&settings);
         met[answer.ending as usize] += 1;
-        let seen = search_seen(&plan, &settings, &numbers).unwrap().1;
         least += seen.least;
         capped += seen.capped;
         ties += seen.ties_at_the_cap;
@@ -210,8 +217,8 @@ fn race_size_plans() {
 fn the_full_limits() {
     let mut random = Random::new(47);
     let mut finds = 0;
-    for mode in [LINEAR, LBS, LINEAR, LBS] {
-        let plan = random::full_plan(&mut random);
+    for (mode, locks) in [(LINEAR, 0), (LBS, 0), (LINEAR, 300), (LBS, 60), (LBS, 512)] {
+        let plan = random::locked_full_plan(&mut random, locks);
         let numbers = list(&mut random, 2_500);
         let settings = Settings {
             noise: 800,
@@ -263,29 +270,20 @@ fn each_buffer_one_byte_short() {
 #[test]
 fn single_bits_of_tables() {
     let mut random = Random::new(49);
-    let mut met = [0; 2];
+    let (mut met, mut locks) = ([0; 2], [0; 2]);
     for _ in 0..3_000 {
         let plan = random::race_plan(&mut random);
         let (mut tables, mut terms) = layout::tables(&plan);
-        // Half of the changes are made among the words in use.
-        let (in_tables, in_terms) = (16 + 4 * plan.variables, 8 * plan.clauses.len());
-        let place = match random.below(4) {
-            0 => random.below(in_tables),
-            1 => TABLES + random.below(in_terms),
-            _ => random.below(TABLES + TERM_TABLE),
-        };
-        let change = 1 << random.below(8);
-        match place.checked_sub(TABLES) {
-            None => tables[place] ^= change,
-            Some(place) => terms[place] ^= change,
-        }
+        let in_locks = layout::turn_a_bit(&mut random, &plan, &mut tables, &mut terms);
         let settings = short_settings(&mut random);
         let numbers = list(&mut random, 20);
         let lent = Lent::sized(&mut random, &tables, &terms, &numbers, SIZES);
         let refusal = lent.check(&settings).refusal;
         met[(refusal == 22) as usize] += 1;
+        locks[(refusal == 22) as usize] += in_locks as u32;
     }
     assert!(met.iter().all(|&count| count > 300), "{met:?}");
+    assert!(locks.iter().all(|&count| count > 100), "{locks:?}");
 }
 
 #[test]

@@ -42,5 +42,5 @@ fn cases_of_a_separately_written_program() {
     }
     assert!(count >= 200, "{count} cases");
     // Every ending, and every refusal of the files but 9.
-    assert_eq!(kinds.len(), 5 + 12, "{kinds:?}");
+    assert_eq!(kinds.len(), 5 + 13, "{kinds:?}");
 }

@@ -3,7 +3,7 @@
 //! cargo run --release -p reference --example plans -- FOLDER
 
 use reference::file::{write, write_numbers};
-use reference::plan::{Clause, Plan, Rule, Term};
+use reference::plan::{Clause, Lock, Plan, Rule, Term};
 use reference::random::{full_plan, Random};
 
 /// A rule over some variables, with weights up to `most`.
@@ -45,6 +45,7 @@ fn race_day(random: &mut Random) -> Plan {
     Plan {
         variables: n,
         objective: metres(random, n),
+        locks: Vec::new(),
         clauses,
     }
 }
@@ -60,6 +61,7 @@ fn cardinality(random: &mut Random) -> Plan {
     Plan {
         variables: n,
         objective: metres(random, n),
+        locks: Vec::new(),
         clauses,
     }
 }
@@ -75,6 +77,7 @@ fn dense(random: &mut Random) -> Plan {
     Plan {
         variables: n,
         objective: metres(random, n),
+        locks: Vec::new(),
         clauses,
     }
 }
@@ -90,6 +93,7 @@ fn wide(random: &mut Random) -> Plan {
     Plan {
         variables: n,
         objective: metres(random, n),
+        locks: Vec::new(),
         clauses,
     }
 }
@@ -104,11 +108,23 @@ fn main() -> std::io::Result<()> {
         ("dense", dense(&mut random)),
         ("wide", wide(&mut random)),
     ];
+    let numbers = random.numbers(16_384);
+    // The race day with a quarter of its sites locked, and one with all of them: each try is stuck.
+    let race_day = plans[0].1.clone();
+    let locked = |every: usize| -> Plan {
+        let mut plan = race_day.clone();
+        let lock = |variable| Lock {
+            variable,
+            value: variable % 3 == 0,
+        };
+        plan.locks = (1..=plan.variables).step_by(every).map(lock).collect();
+        plan
+    };
+    let plans = plans
+        .into_iter()
+        .chain([("locked", locked(4)), ("stuck", locked(1))]);
     for (name, plan) in plans {
         std::fs::write(format!("{folder}/{name}.plan"), write(&plan))?;
     }
-    std::fs::write(
-        format!("{folder}/numbers.bin"),
-        write_numbers(&random.numbers(16_384)),
-    )
+    std::fs::write(format!("{folder}/numbers.bin"), write_numbers(&numbers))
 }

@@ -1,4 +1,4 @@
-//! The plain book of demand 3 (document 01, "Tallies").
+//! The plain book of demand 3 (document 01, "Tallies"; document 02, T-01).
 
 use crate::counts::Counter;
 use crate::plan::{flipped, Plan};
@@ -38,7 +38,8 @@ impl<'a> Book<'a> {
 
     /// "A variable outside 1 to n: 23, and no bit changes. Flip: accepted, and that bit turns
     /// over. Counts: the capped numbers of expansion clauses that turning that bit over would
-    /// spoil and mend; no bit changes."
+    /// spoil and mend; no bit changes." "A flip of a locked variable is one of the refused calls:
+    /// the book answers 26, and no bit changes", "26 for a flip of a locked variable, after 23".
     pub fn call(&mut self, call: Call) -> Answer {
         let (Call::Flip(variable) | Call::Counts(variable)) = call;
         let variable = variable as usize;
@@ -46,6 +47,7 @@ impl<'a> Book<'a> {
             return Answer::Refused(23);
         }
         match call {
+            Call::Flip(_) if self.plan.lock(variable).is_some() => Answer::Refused(26),
             Call::Flip(_) => {
                 self.bits = flipped(&self.bits, variable);
                 Answer::Flipped

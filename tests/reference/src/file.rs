@@ -1,7 +1,7 @@
 //! The plan file, walk.bin and numbers.bin (document 01, "The plan file", "Who can cause which
-//! refusal" and "The program and its two lines").
+//! refusal" and "The program and its two lines"; document 02, T-01).
 
-use crate::plan::{Clause, Plan, Rule, Term};
+use crate::plan::{Clause, Lock, Plan, Rule, Term};
 use crate::walk::Settings;
 
 pub const MOST_VARIABLES: usize = 512;
@@ -16,6 +16,7 @@ pub const OBJECTIVE: u8 = 2;
 pub const CLAUSE: u8 = 3;
 pub const RULE: u8 = 4;
 pub const END: u8 = 5;
+pub const LOCKS: u8 = 6;
 pub const WALK: u8 = 16;
 
 /// "The answer carries the number and the offset of the field's first byte."
@@ -42,6 +43,8 @@ fn lawful_length(tag: u8, length: usize) -> bool {
         COUNT => length == 2,
         OBJECTIVE => length.is_multiple_of(6),
         CLAUSE | END => length == 0,
+        // "Length a multiple of 3 or 0."
+        LOCKS => length.is_multiple_of(3),
         RULE => length >= 15 && (length - 9).is_multiple_of(6),
         WALK => length == 9,
         _ => false,
@@ -104,6 +107,27 @@ fn terms(bytes: &[u8], variables: usize, offset: usize) -> Result<Vec<Term>, Ref
     Ok(terms)
 }
 
+/// "Entries of a variable number and a byte 0 or 1": "5 for a wrong number as in terms, 10 for
+/// another value (after 5 of that entry)". Entry by entry, so that an entry's 10 comes before the
+/// next one's 5.
+fn locks(bytes: &[u8], variables: usize, offset: usize) -> Result<Vec<Lock>, Refusal> {
+    let mut locks: Vec<Lock> = Vec::new();
+    for entry in bytes.chunks(3) {
+        let variable = unsigned16(entry);
+        let before = locks.last().map_or(0, |lock| lock.variable);
+        if variable <= before || variable > variables {
+            return refuse(5, offset);
+        }
+        let value = match entry[2] {
+            0 => false,
+            1 => true,
+            _ => return refuse(10, offset),
+        };
+        locks.push(Lock { variable, value });
+    }
+    Ok(locks)
+}
+
 /// "6: mode outside 1 to 3, a bound outside ±1,000,000,000, an absent bound not 0." Mode 1 is lower
 /// only, 2 upper only, 3 both.
 fn bounds(body: &[u8], offset: usize) -> Result<(Option<i64>, Option<i64>), Refusal> {
@@ -120,16 +144,18 @@ fn bounds(body: &[u8], offset: usize) -> Result<(Option<i64>, Option<i64>), Refu
 }
 
 /// The plan of a file. "The first field at fault decides", and in a field the order is "1 for the
-/// head, 2, 3, 1 for the body, 4, 6, then 5".
+/// head, 2, 3, 1 for the body, 4, 6, then 5". An empty field of locks and none are the same plan.
 pub fn parse(bytes: &[u8]) -> Result<Plan, Refusal> {
     let mut plan = Plan {
         variables: 0,
         objective: Vec::new(),
+        locks: Vec::new(),
         clauses: Vec::new(),
     };
     let (mut rules, mut rule_terms) = (0, 0);
     let mut place = 0;
-    // "Order: 01, 02, then clauses, each 03 followed by one or more 04, then 05."
+    // "Order: 01, 02, then clauses, each 03 followed by one or more 04, then 05." "The plan file
+    // gains an optional field, tag 06, between objective and first clause": there may be no clause.
     let mut tags: &[u8] = &[COUNT];
     loop {
         let Field { tag, body, next } = field(bytes, place, tags)?;
@@ -143,6 +169,10 @@ pub fn parse(bytes: &[u8]) -> Result<Plan, Refusal> {
             }
             OBJECTIVE => {
                 plan.objective = terms(body, plan.variables, place)?;
+                tags = &[LOCKS, CLAUSE, END];
+            }
+            LOCKS => {
+                plan.locks = locks(body, plan.variables, place)?;
                 tags = &[CLAUSE, END];
             }
             CLAUSE => {
@@ -225,6 +255,16 @@ fn write_terms(terms: &[Term]) -> Vec<u8> {
     body
 }
 
+/// The body of the field of locks.
+pub fn write_locks(locks: &[Lock]) -> Vec<u8> {
+    let mut body = Vec::new();
+    for lock in locks {
+        body.extend((lock.variable as u16).to_le_bytes());
+        body.push(lock.value as u8);
+    }
+    body
+}
+
 /// The field of one rule; "an absent bound is written 0".
 pub fn write_rule(rule: &Rule) -> Vec<u8> {
     let mode = match (rule.lower, rule.upper) {
@@ -240,10 +280,14 @@ pub fn write_rule(rule: &Rule) -> Vec<u8> {
     write_field(RULE, &body)
 }
 
-/// The file of a plan. The limits are not looked at, so that files beyond them can be made.
+/// The file of a plan, with a field of locks only where it has a lock. The limits are not looked
+/// at, so that files beyond them can be made.
 pub fn write(plan: &Plan) -> Vec<u8> {
     let mut bytes = write_field(COUNT, &(plan.variables as u16).to_le_bytes());
     bytes.extend(write_field(OBJECTIVE, &write_terms(&plan.objective)));
+    if !plan.locks.is_empty() {
+        bytes.extend(write_field(LOCKS, &write_locks(&plan.locks)));
+    }
     for clause in &plan.clauses {
         bytes.extend(write_field(CLAUSE, &[]));
         for rule in &clause.rules {

@@ -1,6 +1,6 @@
 //! Short ways to write plans, assignments and settings.
 
-use crate::plan::{Clause, Plan, Rule, Term};
+use crate::plan::{Clause, Lock, Plan, Rule, Term};
 use crate::walk::Settings;
 
 pub fn terms(list: &[(usize, i64)]) -> Vec<Term> {
@@ -38,6 +38,7 @@ pub fn plan(n: usize, objective: &[(usize, i64)], clauses: &[&[Rule]]) -> Plan {
     Plan {
         variables: n,
         objective: terms(objective),
+        locks: Vec::new(),
         clauses: clauses
             .iter()
             .map(|rules| Clause {
@@ -45,6 +46,16 @@ pub fn plan(n: usize, objective: &[(usize, i64)], clauses: &[&[Rule]]) -> Plan {
             })
             .collect(),
     }
+}
+
+/// The plan with these variables locked at 0 or 1.
+pub fn locking(mut plan: Plan, locks: &[(usize, u8)]) -> Plan {
+    let lock = |&(variable, value): &(usize, u8)| Lock {
+        variable,
+        value: value == 1,
+    };
+    plan.locks = locks.iter().map(lock).collect();
+    plan
 }
 
 /// An assignment from digits, variable 1 first.

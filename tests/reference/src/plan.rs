@@ -1,4 +1,4 @@
-//! Rules, clauses and plans (document 01, "Rules and clauses").
+//! Rules, clauses and plans (document 01, "Rules and clauses"; document 02, T-01).
 
 /// A weight on a variable. Variables are numbered from 1.
 #[derive(Clone, Copy, Debug, PartialEq, Eq)]
@@ -21,11 +21,20 @@ pub struct Clause {
     pub rules: Vec<Rule>,
 }
 
-/// "A plan is any number of clauses, all to hold, none included."
+/// A control "the mapper has already fixed": "a variable number and a byte 0 or 1".
+#[derive(Clone, Copy, Debug, PartialEq, Eq)]
+pub struct Lock {
+    pub variable: usize,
+    pub value: bool,
+}
+
+/// "A plan is any number of clauses, all to hold, none included." "The plan's record carries the
+/// locks."
 #[derive(Clone, Debug, PartialEq, Eq)]
 pub struct Plan {
     pub variables: usize,
     pub objective: Vec<Term>,
+    pub locks: Vec<Lock>,
     pub clauses: Vec<Clause>,
 }
 
@@ -88,12 +97,35 @@ impl Plan {
         sum(&self.objective, assignment)
     }
 
-    /// "l(O) is the sum of its negative coefficients."
+    /// The value that a variable is locked at; None where it is free.
+    pub fn lock(&self, variable: usize) -> Option<bool> {
+        let lock = self.locks.iter().find(|lock| lock.variable == variable);
+        lock.map(|lock| lock.value)
+    }
+
+    /// "Then locked variables take their value."
+    pub fn locked(&self, assignment: &[bool]) -> Vec<bool> {
+        (1..=self.variables)
+            .map(|x| self.lock(x).unwrap_or(value(assignment, x)))
+            .collect()
+    }
+
+    /// Each locked variable has its value.
+    pub fn obeyed(&self, assignment: &[bool]) -> bool {
+        let kept = |lock: &Lock| value(assignment, lock.variable) == lock.value;
+        self.locks.iter().all(kept)
+    }
+
+    /// "l(O) is the sum of its negative coefficients." "l(O) now counts locked variables at their
+    /// value."
     pub fn least_cost(&self) -> i64 {
         self.objective
             .iter()
-            .map(|term| term.weight)
-            .filter(|&weight| weight < 0)
+            .map(|term| match self.lock(term.variable) {
+                Some(true) => term.weight,
+                Some(false) => 0,
+                None => term.weight.min(0),
+            })
             .sum()
     }
 

@@ -2,11 +2,11 @@
 
 use crate::book::Call;
 use crate::file::{
-    write, write_numbers, write_settings, MOST_BOUND, MOST_CLAUSES, MOST_RULES, MOST_TERMS,
-    MOST_VARIABLES, MOST_WEIGHT,
+    write, write_field, write_numbers, write_settings, LOCKS, MOST_BOUND, MOST_CLAUSES, MOST_RULES,
+    MOST_TERMS, MOST_VARIABLES, MOST_WEIGHT,
 };
 use crate::literals::Literals;
-use crate::plan::{sum, Clause, Plan, Rule, Term};
+use crate::plan::{sum, Clause, Lock, Plan, Rule, Term};
 use crate::walk::Settings;
 
 /// The generator xorshift64*, with a few ways to draw from it.
@@ -97,6 +97,34 @@ impl Random {
     }
 }
 
+/// Locks for n variables: none, a few, about half, or all; at the values of `hidden` if given,
+/// else at any.
+fn some_locks(random: &mut Random, n: usize, hidden: Option<&[bool]>) -> Vec<Lock> {
+    let count = match random.below(20) {
+        0..=11 => 0,
+        12..=16 => 1 + random.below(n.div_ceil(4)),
+        17..=18 => random.below(n + 1),
+        _ => n,
+    };
+    locks_of(random, n, count, hidden)
+}
+
+/// So many locks.
+fn locks_of(random: &mut Random, n: usize, count: usize, hidden: Option<&[bool]>) -> Vec<Lock> {
+    let variables = random.some_variables(n, count);
+    let mut value = |variable: usize| match hidden {
+        Some(bits) => bits[variable - 1],
+        None => random.percent(50),
+    };
+    variables
+        .into_iter()
+        .map(|variable| Lock {
+            variable,
+            value: value(variable),
+        })
+        .collect()
+}
+
 /// How large a plan is made.
 #[derive(Clone, Copy, Debug)]
 pub struct Shape {
@@ -172,11 +200,13 @@ pub fn any_plan(random: &mut Random, shape: &Shape) -> Plan {
     Plan {
         variables: n,
         objective: random.terms(n, objective_terms, shape.weight),
+        locks: some_locks(random, n, None),
         clauses,
     }
 }
 
-/// A plan with a solution: in each clause one rule is met by one hidden assignment.
+/// A plan with a solution: in each clause one rule is met by one hidden assignment, which most
+/// often has the locked values too.
 pub fn met_plan(random: &mut Random, shape: &Shape) -> Plan {
     let mut plan = any_plan(random, shape);
     let hidden = random.assignment(plan.variables);
@@ -184,6 +214,9 @@ pub fn met_plan(random: &mut Random, shape: &Shape) -> Plan {
         let place = random.below(clause.rules.len());
         let terms = clause.rules[place].terms.clone();
         clause.rules[place] = met_rule(random, terms, &hidden, shape.weight);
+    }
+    if random.percent(80) {
+        plan.locks = some_locks(random, plan.variables, Some(&hidden));
     }
     plan
 }
@@ -244,7 +277,7 @@ pub fn heavy_plan(random: &mut Random) -> Plan {
 }
 
 /// A plan of the owner's kind: zones with "between two and four marshals, or no course uses it",
-/// crossings that need a unit, and metres to carry.
+/// crossings that need a unit, metres to carry, and some sites that are fixed already.
 pub fn race_plan(random: &mut Random) -> Plan {
     let n = 20 + random.below(61);
     let objective = (1..=n)
@@ -286,15 +319,29 @@ pub fn race_plan(random: &mut Random) -> Plan {
         };
         clauses.push(Clause { rules });
     }
+    let locked = [0, 0, 1, n / 10, n / 4][random.below(5)];
     Plan {
         variables: n,
         objective,
+        locks: locks_of(random, n, locked, None),
         clauses,
     }
 }
 
-/// A plan at every limit, with one hidden solution; its file is the largest there is.
+/// A plan at every limit, with no lock and one hidden solution.
 pub fn full_plan(random: &mut Random) -> Plan {
+    full_plan_and_solution(random).0
+}
+
+/// A plan at every limit, with so many locks at the values of a hidden solution. With all 512 its
+/// file is the largest there is.
+pub fn locked_full_plan(random: &mut Random, count: usize) -> Plan {
+    let (mut plan, hidden) = full_plan_and_solution(random);
+    plan.locks = locks_of(random, plan.variables, count, Some(&hidden));
+    plan
+}
+
+fn full_plan_and_solution(random: &mut Random) -> (Plan, Vec<bool>) {
     let n = MOST_VARIABLES;
     let hidden = random.assignment(n);
     // Each clause has one rule and each rule one term; the rest is dealt out at random.
@@ -325,11 +372,13 @@ pub fn full_plan(random: &mut Random) -> Plan {
             Clause { rules }
         })
         .collect();
-    Plan {
+    let plan = Plan {
         variables: n,
         objective: random.terms(n, n, MOST_WEIGHT),
+        locks: Vec::new(),
         clauses,
-    }
+    };
+    (plan, hidden)
 }
 
 /// Lawful settings, short walks more often than long ones.
@@ -392,7 +441,7 @@ pub fn damage(random: &mut Random, file: &[u8]) -> Vec<u8> {
     let field = random.below(places.len());
     let place = places[field];
     let next = places.get(field + 1).copied().unwrap_or(bytes.len());
-    match random.below(10) {
+    match random.below(11) {
         // The file is cut.
         0 => bytes.truncate(random.below(file.len())),
         // Bytes are added.
@@ -419,6 +468,14 @@ pub fn damage(random: &mut Random, file: &[u8]) -> Vec<u8> {
         8 => {
             let at = random.below(bytes.len());
             bytes[at] = random.number() as u8;
+        }
+        // A field of locks is put in, an empty one at times.
+        9 => {
+            let entries = random.below(4);
+            let body: Vec<u8> = (1..=entries)
+                .flat_map(|variable| [variable as u8, 0, random.below(3) as u8])
+                .collect();
+            bytes.splice(place..place, write_field(LOCKS, &body));
         }
         _ => {
             let at = random.below(bytes.len());

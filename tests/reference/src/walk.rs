@@ -1,4 +1,5 @@
-//! The walk (document 01, "The walk"; paper 004, Algorithms 1 and 2; paper 000, Algorithm 1).
+//! The walk (document 01, "The walk"; document 02, T-01; paper 004, Algorithms 1 and 2; paper 000,
+//! Algorithm 1).
 
 use crate::counts::Counter;
 use crate::file::Refusal;
@@ -112,17 +113,22 @@ impl<'a> Numbers<'a> {
 }
 
 /// A try's start: "take ⌈n/32⌉ numbers; variable i gets bit (i−1) mod 32, bit 0 being the lowest,
-/// of number ⌊(i−1)/32⌋, counted from 0".
+/// of number ⌊(i−1)/32⌋, counted from 0". "A try's start still uses all its numbers, then locked
+/// variables take their value."
 pub fn start(plan: &Plan, numbers: &mut Numbers) -> Result<Vec<bool>, Short> {
     let taken = numbers.take(plan.variables.div_ceil(32))?;
-    Ok((1..=plan.variables)
+    let drawn: Vec<bool> = (1..=plan.variables)
         .map(|i| taken[(i - 1) / 32] >> ((i - 1) % 32) & 1 == 1)
-        .collect())
+        .collect();
+    Ok(plan.locked(&drawn))
 }
 
-/// The variables a clause offers to the choice: all it names, "each once".
-pub fn choosable(clause: &Clause) -> Vec<usize> {
-    clause.variables()
+/// The variables a clause offers to the choice, "each once": "Only unlocked variables of a clause
+/// may be chosen."
+pub fn choosable(plan: &Plan, clause: &Clause) -> Vec<usize> {
+    let mut variables = clause.variables();
+    variables.retain(|&variable| plan.lock(variable).is_none());
+    variables
 }
 
 /// How a variable was chosen.
@@ -154,7 +160,7 @@ pub fn choose(
     numbers: &mut Numbers,
 ) -> Result<Chosen, Short> {
     let breaks: Vec<u32> = variables.iter().map(|&v| break_count(v)).collect();
-    let least = *breaks.iter().min().expect("a clause names a variable");
+    let least = *breaks.iter().min().expect("there is one to choose");
     let with_least: Vec<usize> = (0..variables.len())
         .filter(|&place| breaks[place] == least)
         .map(|place| variables[place])
@@ -181,6 +187,10 @@ pub struct Seen {
     pub capped: u64,
     /// Of these, those with more than one variable.
     pub ties_at_the_cap: u64,
+    /// Tries that met a clause with no unlocked variable.
+    pub stuck: u64,
+    /// Choices in a clause that has locked variables too.
+    pub partly_locked: u64,
 }
 
 impl Seen {
@@ -222,7 +232,14 @@ fn call(
                 return Ok(Some(assignment));
             }
             let clause = unsatisfied[progress.numbers.pick(unsatisfied.len())?];
-            let variables = choosable(&plan.clauses[clause]);
+            let variables = choosable(plan, &plan.clauses[clause]);
+            // "If it has none, that try ends with the clause pick used."
+            if variables.is_empty() {
+                progress.seen.stuck += 1;
+                break;
+            }
+            let all = plan.clauses[clause].variables().len();
+            progress.seen.partly_locked += (variables.len() < all) as u64;
             let break_count = |variable| {
                 let counts = counter.counts(&tallies, &assignment, variable);
                 counts.break_count.capped()

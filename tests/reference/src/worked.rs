@@ -1,4 +1,4 @@
-//! Walks worked out by hand from document 01, as one table. The reference is held to it, and so is
+//! Walks worked out by hand from documents 01 and 02, as one table. The reference is held to it, and so is
 //! the library (tests/harness).
 
 use crate::making::*;
@@ -288,6 +288,139 @@ fn lbs() -> Vec<Worked> {
     table
 }
 
+/// Starts and choices with locks.
+fn locked_choices() -> Vec<Worked> {
+    let mut table = rows(
+        "A start uses all its numbers, then the locked variables take their value.",
+        locking(plan(33, &[], &[]), &[(1, 1), (33, 0)]),
+        settings(0, 1, 1, LINEAR),
+        &[
+            (&[0], "short-none 0 0 0 0 -"),
+            (&[2, 1], &format!("floor 0 1 0 2 {}", digits(33, &[1, 2]))),
+        ],
+    );
+    table.extend(rows(
+        "All three are locked, and the plan holds.",
+        locking(
+            plan(3, &[], &[&[between(2, &[(1, 1), (2, 1), (3, 1)], 2)]]),
+            &[(1, 1), (2, 0), (3, 1)],
+        ),
+        settings(0, 1, 1, LINEAR),
+        &[(&[2], "floor 0 1 0 1 101")],
+    ));
+    let any = [at_least(1, &[(1, 1), (2, 1), (3, 1)])];
+    table.extend(rows(
+        "x2 may not be chosen: offered are x1, x3, and number 1 takes x3.",
+        locking(plan(3, &[], &[&any]), &[(2, 0)]),
+        settings(0, 1, 2, LINEAR),
+        &[
+            (&[0, 0, 1], "floor 0 1 1 3 001"),
+            (&[2, 0, 2], "floor 0 1 1 3 100"),
+        ],
+    ));
+    let low = |variable| [at_most(0, &[(variable, 1)])];
+    table.extend(rows(
+        "x1 has break 0 but is locked. Of the others x2 would spoil one clause, x3 two, so that a \
+         noise number is needed; it leads to x2 alone, and that flip is the last.",
+        locking(plan(3, &[], &[&any, &low(2), &low(3), &low(3)]), &[(1, 0)]),
+        settings(1_000, 1, 1, LINEAR),
+        &[
+            (&[0, 0, 0, 1], "none 0 0 1 4 -"),
+            (&[0, 0, 0], "short-none 0 0 0 3 -"),
+        ],
+    ));
+    table.extend(rows(
+        "The added clause too: O = x1 + x2 with x1 locked at 1. Find 11 of cost 2; O ≤ 1 from 11 \
+         offers x2 alone, and 10 is at the floor, 1.",
+        locking(plan(2, &[(1, 1), (2, 1)], &[]), &[(1, 1)]),
+        settings(0, 1, 2, LINEAR),
+        &[(&[3, 3, 0, 0], "floor 1 2 1 4 10")],
+    ));
+    table
+}
+
+/// Tries that end because a clause has no unlocked variable.
+fn stuck() -> Vec<Worked> {
+    let alone = || locking(plan(2, &[], &[&[at_least(1, &[(1, 1)])]]), &[(1, 0)]);
+    let mut table = Vec::new();
+    for flips in [1, 3] {
+        table.extend(rows(
+            "x1 ≥ 1 with x1 locked at 0: each of two tries takes a start and a clause pick, no \
+             noise number, no flip.",
+            alone(),
+            settings(500, 2, flips, LINEAR),
+            &[
+                (&[], "short-none 0 0 0 0 -"),
+                (&[3], "short-none 0 0 0 1 -"),
+                (&[3, 0], "short-none 0 0 0 2 -"),
+                (&[3, 0, 3], "short-none 0 0 0 3 -"),
+                (&[3, 0, 3, 9], "none 0 0 0 4 -"),
+                (&[3, 0, 3, 9, 7], "none 0 0 0 4 -"),
+            ],
+        ));
+    }
+    table.extend(rows(
+        "x1 ≥ 1 with x1 locked at 0, and x2 ≥ 1. Try 1 from 00: pick 1 leads to x2, the flip is \
+         made; then the locked clause is picked, and the try ends with four flips left. Try 2 \
+         picks it at once.",
+        locking(
+            plan(
+                2,
+                &[],
+                &[&[at_least(1, &[(1, 1)])], &[at_least(1, &[(2, 1)])]],
+            ),
+            &[(1, 0)],
+        ),
+        settings(0, 2, 5, LBS),
+        &[
+            (&[0, 1, 0, 7, 0, 0], "none 0 0 1 6 -"),
+            (&[0, 1, 0, 7, 0], "short-none 0 0 1 5 -"),
+            (&[0, 1, 0], "short-none 0 0 1 3 -"),
+        ],
+    ));
+    table
+}
+
+/// l(O) counts locked variables at their value.
+fn locked_floors() -> Vec<Worked> {
+    let mut table = rows(
+        "A negative coefficient locked at 0 counts 0.",
+        locking(plan(2, &[(1, -3), (2, 2)], &[]), &[(1, 0)]),
+        settings(0, 1, 1, LINEAR),
+        &[(&[1], "floor 0 1 0 1 00")],
+    );
+    let mixed = || locking(plan(2, &[(1, 5), (2, -1)], &[]), &[(1, 1)]);
+    for mode in [LINEAR, LBS] {
+        table.extend(rows(
+            "A positive coefficient locked at 1 counts fully: l(O) = 5 − 1.",
+            mixed(),
+            settings(0, 1, 1, mode),
+            &[(&[2], "floor 4 1 0 1 11"), (&[0, 2], "floor 4 2 0 2 11")],
+        ));
+    }
+    let heavy = plan(3, &[(1, 6), (2, 3), (3, 1)], &[]);
+    table.extend(rows(
+        "LBS: x1 locked at 1, l(O) = 6. Find 111 of cost 10; O ≤ 8 (26/3) takes 101 of cost 7, \
+         where 20/3 would not; O ≤ 6 (20/3) takes 100.",
+        locking(heavy, &[(1, 1)]),
+        settings(0, 1, 1, LBS),
+        &[
+            (&[7, 4], "short-found 7 2 0 2 101"),
+            (&[7, 4, 0], "floor 6 3 0 3 100"),
+        ],
+    ));
+    table.extend(rows(
+        "All variables of the objective are locked: the first find is at the floor, 4 − 7.",
+        locking(
+            plan(3, &[(1, 4), (2, -7)], &[&[at_least(1, &[(3, 1)])]]),
+            &[(1, 1), (2, 1)],
+        ),
+        settings(0, 1, 2, LBS),
+        &[(&[0, 0, 0], "floor -3 1 1 3 111")],
+    ));
+    table
+}
+
 /// The whole table.
 pub fn walks() -> Vec<Worked> {
     [
@@ -298,6 +431,9 @@ pub fn walks() -> Vec<Worked> {
         picks(),
         ties(),
         lbs(),
+        locked_choices(),
+        stuck(),
+        locked_floors(),
     ]
     .into_iter()
     .flatten()

@@ -60,10 +60,39 @@ fn calls_by_hand() {
     }
 }
 
+/// "A flip of a locked variable is one of the refused calls: the book answers 26, and no bit
+/// changes." Its counts are answered, also where the bits opened disagree with the locks.
+#[test]
+fn calls_with_locks_by_hand() {
+    let free = plan(3, &[], &[&[between(1, &[(1, 1), (2, 1), (3, 1)], 1)]]);
+    let plan = locking(free, &[(1, 1), (3, 0)]);
+    let mut book = Book::open(&plan, &bits("001"));
+    let counted = |break_count, make_count| Answer::Counts {
+        break_count,
+        make_count,
+    };
+    for (call, answer, after) in [
+        (Call::Flip(1), Answer::Refused(26), "001"),
+        (Call::Flip(3), Answer::Refused(26), "001"),
+        (Call::Counts(1), counted(1, 0), "001"),
+        (Call::Counts(3), counted(1, 0), "001"),
+        (Call::Flip(4), Answer::Refused(23), "001"),
+        (Call::Flip(0), Answer::Refused(23), "001"),
+        (Call::Counts(4), Answer::Refused(23), "001"),
+        (Call::Flip(2), Answer::Flipped, "011"),
+        (Call::Counts(1), counted(2, 0), "011"),
+        (Call::Flip(3), Answer::Refused(26), "011"),
+        (Call::Flip(2), Answer::Flipped, "001"),
+    ] {
+        assert_eq!(book.call(call), answer, "{call:?}");
+        assert_eq!(book.bits(), bits(after), "{call:?}");
+    }
+}
+
 #[test]
 fn any_list_of_calls() {
     let mut random = Random::new(41);
-    let (mut flips, mut counts, mut refused) = (0, 0, 0);
+    let (mut flips, mut counts, mut refused, mut locked) = (0, 0, 0, 0);
     for _ in 0..600 {
         let plan = small_plan(&mut random);
         let Some(lists) = expansion::plan(&plan, 5_000) else {
@@ -100,6 +129,10 @@ fn any_list_of_calls() {
                     assert_eq!(given, (spoiled, mended));
                     counts += 1;
                 }
+                (Call::Flip(_), Answer::Refused(26)) => {
+                    assert!(named && plan.locks.iter().any(|lock| lock.variable == variable));
+                    locked += 1;
+                }
                 (_, answer) => {
                     assert_eq!(answer, Answer::Refused(23));
                     assert!(!named);
@@ -112,7 +145,7 @@ fn any_list_of_calls() {
             assert_eq!(differs, flipped[variable - 1] % 2 == 1);
         }
     }
-    assert!(flips > 500 && counts > 500 && refused > 200);
+    assert!(flips > 500 && counts > 500 && refused > 200 && locked > 200);
 }
 
 #[test]

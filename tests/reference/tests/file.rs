@@ -7,8 +7,8 @@ use common::*;
 use reference::file::*;
 use reference::plan::{Plan, Rule};
 use reference::random::{
-    any_plan, damage, full_plan, heavy_plan, met_plan, race_plan, small_met_plan, small_plan,
-    Random, Shape,
+    any_plan, damage, full_plan, heavy_plan, locked_full_plan, met_plan, race_plan, small_met_plan,
+    small_plan, Random, Shape,
 };
 
 fn refused<T>(number: u32, offset: usize) -> Result<T, Refusal> {
@@ -53,17 +53,17 @@ fn only_some_tags_may_stand_at_a_place() {
     let places: [(usize, &[u8]); 5] = [
         (0, &[COUNT]),
         (5, &[OBJECTIVE]),
-        (20, &[CLAUSE, END]),
+        (20, &[CLAUSE, END, LOCKS]),
         (23, &[RULE]),
         (47, &[CLAUSE, RULE, END]),
     ];
     for (place, lawful) in places {
         for tag in 0..=255 {
-            // Length 65,535 is lawful for a rule alone, and its body is missing.
+            // Length 65,535 is lawful for a rule and for locks, and the body is missing.
             let file = example_until(place, &[tag, 255, 255]);
             let number = match tag {
                 _ if !lawful.contains(&tag) => 2,
-                RULE => 1,
+                RULE | LOCKS => 1,
                 _ => 3,
             };
             assert_eq!(parse(&file), refused(number, place), "tag {tag} at {place}");
@@ -82,6 +82,11 @@ fn lengths() {
         match length {
             0 => assert_eq!(objective, refused(1, 8)),
             _ => assert_eq!(objective, refused(if length % 6 == 0 { 1 } else { 3 }, 5)),
+        }
+        let locks = parse(&example_until(20, &head(LOCKS)));
+        match length {
+            0 => assert_eq!(locks, refused(1, 23)),
+            _ => assert_eq!(locks, refused(if length % 3 == 0 { 1 } else { 3 }, 20)),
         }
         let clause = parse(&example_until(20, &head(CLAUSE)));
         let at = if length == 0 { (1, 23) } else { (3, 20) };
@@ -184,6 +189,144 @@ fn terms_of_the_objective_and_of_rules() {
     }
 }
 
+/// A field of locks, whatever its numbers and values.
+fn lock_field(entries: &[(u16, u8)]) -> Vec<u8> {
+    let body: Vec<u8> = entries
+        .iter()
+        .flat_map(|&(variable, value)| [&variable.to_le_bytes()[..], &[value]].concat())
+        .collect();
+    write_field(LOCKS, &body)
+}
+
+/// The example with a field put in at one of its places.
+fn example_plus(place: usize, field: &[u8]) -> Vec<u8> {
+    [&EXAMPLE[..place], field, &EXAMPLE[place..]].concat()
+}
+
+/// "5 for a wrong number as in terms, 10 for another value (after 5 of that entry)."
+#[test]
+fn entries_of_locks() {
+    let cases: [(&[(u16, u8)], u32); 18] = [
+        (&[], 0),
+        (&[(1, 0)], 0),
+        (&[(2, 1)], 0),
+        (&[(1, 1), (2, 0)], 0),
+        (&[(0, 0)], 5),
+        (&[(3, 1)], 5),
+        (&[(65_535, 1)], 5),
+        (&[(257, 1)], 5),
+        (&[(1, 1), (1, 1)], 5),
+        (&[(2, 1), (1, 1)], 5),
+        (&[(1, 0), (2, 0), (2, 0)], 5),
+        (&[(1, 2)], 10),
+        (&[(1, 255)], 10),
+        (&[(1, 0), (2, 2)], 10),
+        // In an entry 5 comes first.
+        (&[(0, 2)], 5),
+        (&[(1, 1), (1, 255)], 5),
+        // The first entry's 10 comes before the second one's 5.
+        (&[(1, 2), (3, 1)], 10),
+        (&[(1, 2), (1, 2)], 10),
+    ];
+    for (list, number) in cases {
+        let answer = parse(&example_plus(20, &lock_field(list)));
+        // The offset is that of the field, whichever the entry.
+        match number {
+            0 => {
+                let kept: Vec<(u16, u8)> = answer
+                    .unwrap()
+                    .locks
+                    .iter()
+                    .map(|lock| (lock.variable as u16, lock.value as u8))
+                    .collect();
+                assert_eq!(kept, list);
+            }
+            number => assert_eq!(answer, refused(number, 20), "{list:?}"),
+        }
+    }
+    for value in 0..=255 {
+        let answer = parse(&example_plus(20, &lock_field(&[(2, value)])));
+        assert_eq!(answer.is_ok(), value < 2);
+    }
+}
+
+/// "An optional field, tag 06, between objective and first clause."
+#[test]
+fn the_place_of_locks() {
+    let locks = lock_field(&[(2, 1)]);
+    let locked = locking(example_plan(), &[(2, 1)]);
+    assert_eq!(write(&locked), example_plus(20, &locks));
+    assert_eq!(parse(&example_plus(20, &locks)), Ok(locked));
+    // Before the count or the objective, in a clause and after one.
+    for place in [0, 5, 23, 47] {
+        assert_eq!(parse(&example_plus(place, &locks)), refused(2, place));
+    }
+    // Twice, the second at fault, empty ones too.
+    for (first, second) in [(&locks, &locks), (&locks, &lock_field(&[]))] {
+        let twice = [&first[..], &second[..]].concat();
+        let place = 20 + first.len();
+        assert_eq!(parse(&example_plus(20, &twice)), refused(2, place));
+        let twice = [&second[..], &first[..]].concat();
+        let place = 20 + second.len();
+        assert_eq!(parse(&example_plus(20, &twice)), refused(2, place));
+    }
+    // Right before the end: a plan without a clause.
+    let free = plan(2, &[(1, 1), (2, 2)], &[]);
+    let file = [&EXAMPLE[..20], &locks, &EXAMPLE[47..]].concat();
+    assert_eq!(parse(&file), Ok(locking(free, &[(2, 1)])));
+    // A rule may not follow, nor the end of the file.
+    let file = [&EXAMPLE[..20], &locks, &EXAMPLE[23..]].concat();
+    assert_eq!(parse(&file), refused(2, 26));
+    assert_eq!(parse(&file[..26]), refused(1, 26));
+}
+
+/// An empty field and none are one plan, whose file has none.
+#[test]
+fn an_empty_field_of_locks() {
+    let file = example_plus(20, &lock_field(&[]));
+    assert_eq!(file.len(), 53);
+    assert_eq!(parse(&file), Ok(example_plan()));
+    assert_eq!(write(&parse(&file).unwrap()), EXAMPLE);
+}
+
+/// The order in the field: 1 for the head, 2, 3, 1 for the body, then the entries.
+#[test]
+fn order_of_checks_in_a_field_of_locks() {
+    assert_eq!(parse(&example_until(20, &[LOCKS, 4])), refused(1, 20));
+    assert_eq!(parse(&example_until(5, &[LOCKS, 4, 0])), refused(2, 5));
+    let file = example_until(20, &[LOCKS, 4, 0]);
+    assert_eq!(parse(&file), refused(3, 20));
+    // The body is cut behind an entry that is at fault.
+    let file = example_until(20, &[LOCKS, 6, 0, 0, 0, 2, 1, 0]);
+    assert_eq!(parse(&file), refused(1, 20));
+    // The longest field: 1 without its body, 5 with it, as no plan has so many variables.
+    let entries: Vec<(u16, u8)> = (1..=21_845).map(|variable| (variable, 1)).collect();
+    let longest = lock_field(&entries);
+    assert_eq!(longest.len(), 3 + 65_535);
+    assert_eq!(parse(&example_plus(20, &longest)), refused(5, 20));
+    let short = &longest[..longest.len() - 1];
+    assert_eq!(parse(&example_until(20, short)), refused(1, 20));
+    // A later fault does not matter.
+    let file = example_until(20, &[&lock_field(&[(1, 2)])[..], &[9, 9, 9]].concat());
+    assert_eq!(parse(&file), refused(10, 20));
+}
+
+#[test]
+fn locks_up_to_the_last_variable() {
+    for n in [1, 2, 255, 256, 257, 511, 512] {
+        for list in [(1..=n).collect::<Vec<usize>>(), vec![n], vec![1]] {
+            let locks: Vec<(usize, u8)> = list.iter().map(|&x| (x, (x % 2) as u8)).collect();
+            let plan = locking(plan(n, &[], &[]), &locks);
+            assert_eq!(write(&plan).len(), 14 + 3 * locks.len());
+            assert_eq!(parse(&write(&plan)), Ok(plan.clone()));
+            let value = |x: usize| list.contains(&x).then_some(x % 2 == 1);
+            assert!((1..=n).all(|x| plan.lock(x) == value(x)));
+        }
+        let beyond = locking(plan(n, &[], &[]), &[(n + 1, 0)]);
+        assert_eq!(parse(&write(&beyond)), refused(5, 8));
+    }
+}
+
 #[test]
 fn modes_and_bounds() {
     const FAR: i32 = 1_000_000_000;
@@ -272,10 +415,14 @@ fn numbers_of_clauses_rules_and_terms() {
 #[test]
 fn the_largest_file_is_accepted() {
     for seed in 0..3 {
-        let plan = full_plan(&mut Random::new(seed));
-        let file = write(&plan);
-        assert_eq!(file.len(), 52_907);
-        assert_eq!(parse(&file), Ok(plan));
+        for (plan, size) in [
+            (full_plan(&mut Random::new(seed)), 52_907),
+            (locked_full_plan(&mut Random::new(seed), 512), 54_446),
+        ] {
+            let file = write(&plan);
+            assert_eq!(file.len(), size);
+            assert_eq!(parse(&file), Ok(plan));
+        }
     }
 }
 
@@ -305,7 +452,7 @@ fn a_plan_is_read_as_written() {
 #[test]
 fn damaged_files() {
     let mut random = Random::new(22);
-    let mut met = [0; 8];
+    let (mut met, mut empty) = ([0; 11], 0);
     for round in 0..60_000 {
         let plan = match round % 20 {
             0 => race_plan(&mut random),
@@ -314,9 +461,15 @@ fn damaged_files() {
         };
         let file = damage(&mut random, &write(&plan));
         match parse(&file) {
-            // Each plan has one file only.
+            // A plan has one file only, or where it has no lock one more with an empty field.
             Ok(plan) => {
-                assert_eq!(write(&plan), file);
+                if write(&plan) != file {
+                    let place = 8 + 6 * plan.objective.len();
+                    let mut other = write(&plan);
+                    other.splice(place..place, lock_field(&[]));
+                    assert!(plan.locks.is_empty() && other == file);
+                    empty += 1;
+                }
                 met[0] += 1;
             }
             Err(Refusal { number, offset }) => {
@@ -332,7 +485,10 @@ fn damaged_files() {
             }
         }
     }
-    assert!(met.iter().all(|&count| count > 100), "{met:?}");
+    assert!(empty > 20, "{empty}");
+    for number in [0, 1, 2, 3, 4, 5, 6, 7, 10] {
+        assert!(met[number] > 100, "{met:?}");
+    }
 }
 
 #[test]

@@ -4,7 +4,9 @@ mod common;
 
 use common::*;
 use reference::plan::Plan;
-use reference::random::{self, full_plan, race_plan, small_met_plan, small_plan, Random};
+use reference::random::{
+    self, full_plan, locked_full_plan, race_plan, small_met_plan, small_plan, Random,
+};
 use reference::walk::*;
 use reference::worked::walks;
 
@@ -32,7 +34,7 @@ fn walked(plan: &Plan, settings: Settings, numbers: &[u32]) -> String {
 #[test]
 fn walks_worked_out_by_hand() {
     let table = walks();
-    assert!(table.len() >= 40, "{}", table.len());
+    assert!(table.len() >= 60, "{}", table.len());
     for row in table {
         let answer = walked(&row.plan, row.settings, &row.numbers);
         assert_eq!(answer, row.answer, "{}", row.why);
@@ -90,6 +92,7 @@ fn choice_by_hand() {
 fn check(plan: &Plan, settings: &Settings, list: &[u32], answer: &Answer) {
     let costs: Vec<i64> = answer.finds.iter().map(|found| plan.cost(found)).collect();
     assert!(answer.finds.iter().all(|found| plan.satisfied(found)));
+    assert!(answer.finds.iter().all(|found| plan.obeyed(found)));
     assert!(costs.windows(2).all(|pair| pair[1] < pair[0]));
     assert_eq!(answer.cost, costs.last().copied().unwrap_or(0));
     assert!(answer.used <= list.len());
@@ -99,8 +102,59 @@ fn check(plan: &Plan, settings: &Settings, list: &[u32], answer: &Answer) {
         Ending::Ended | Ending::ShortFound => assert!(found && answer.cost > plan.least_cost()),
         Ending::None | Ending::ShortNone => assert!(!found),
     }
+    let (same, seen) = search_seen(plan, settings, list).unwrap();
+    assert_eq!(&same, answer);
+    // A clause whose variables are all locked holds always or never, so a search that meets one
+    // has no find, and each such try leaves at least one flip unmade.
+    assert!(seen.stuck == 0 || !found);
     if answer.ending == Ending::None {
-        assert_eq!(answer.flips, settings.tries as u64 * settings.flips as u64);
+        let whole = settings.tries as u64 * settings.flips as u64;
+        let most = whole - seen.stuck;
+        assert!(answer.flips <= most && (seen.stuck > 0 || answer.flips == whole));
+    }
+}
+
+/// What came up in searches of plans with locks.
+#[test]
+fn plans_with_locks() {
+    let mut random = Random::new(34);
+    let (mut stuck, mut partly, mut found, mut floors) = (0, 0, 0, 0);
+    for round in 0..4_000 {
+        let plan = match round % 3 {
+            0 => small_plan(&mut random),
+            _ => small_met_plan(&mut random),
+        };
+        let settings = random::settings(&mut random);
+        let list = random.numbers(80);
+        let (answer, seen) = search_seen(&plan, &settings, &list).unwrap();
+        check(&plan, &settings, &list, &answer);
+        if plan.locks.is_empty() {
+            assert_eq!((seen.stuck, seen.partly_locked), (0, 0));
+            continue;
+        }
+        stuck += seen.stuck;
+        partly += seen.partly_locked;
+        found += !answer.finds.is_empty() as u32;
+        let unlocked = plan.objective.iter().map(|term| term.weight.min(0)).sum();
+        let moved = plan.least_cost() != unlocked;
+        floors += (answer.ending == Ending::Floor && moved) as u32;
+    }
+    let least = stuck.min(partly).min(found.min(floors) as u64);
+    assert!(least > 100, "{stuck} {partly} {found} {floors}");
+}
+
+/// l(O) is no more than the cost of any assignment that obeys the locks, and some has that cost.
+#[test]
+fn the_floor_of_small_plans() {
+    let mut random = Random::new(35);
+    for _ in 0..2_000 {
+        let plan = small_plan(&mut random);
+        let all = (0..1_u32 << plan.variables).map(|bits| -> Vec<bool> {
+            let bit = |place| bits >> place & 1 == 1;
+            (0..plan.variables).map(bit).collect()
+        });
+        let least = all.filter(|bits| plan.obeyed(bits)).map(|b| plan.cost(&b));
+        assert_eq!(least.min(), Some(plan.least_cost()));
     }
 }
 
@@ -168,4 +222,21 @@ fn the_full_limits() {
         met[answer.ending as usize] += 1;
     }
     assert!(met[Ending::ShortFound as usize] > 0, "{met:?}");
+    // 512 locks: the first start is the one assignment that obeys them, and the floor.
+    let mut plan = locked_full_plan(&mut random, 512);
+    let (list, once) = (random.numbers(100), settings(800, 3, 1_000, LBS));
+    let answer = search(&plan, &once, &list).unwrap();
+    assert_eq!(
+        (answer.ending, answer.flips, answer.used),
+        (Ending::Floor, 0, 16)
+    );
+    // The other way round no assignment that obeys them is a solution: each try is stuck.
+    for lock in &mut plan.locks {
+        lock.value = !lock.value;
+    }
+    let answer = search(&plan, &once, &list).unwrap();
+    assert_eq!(
+        (answer.ending, answer.flips, answer.used),
+        (Ending::None, 0, 51)
+    );
 }
