@@ -91,8 +91,9 @@ static int same_answers(void) {
         planner_counted p = planner_state_counts(&state, &plan, variable);
         plain_counted q = plain_counts(&tables, &terms, assignment, &tallies, variable);
         run_proved(FLIP, variable);
+        uint32_t refusal = sink;
         run_plain(FLIP, variable);
-        if (p.refusal || p.break_count != q.breaks || p.make_count != q.makes || !same_state()) return 0;
+        if (refusal != sink || p.refusal || p.break_count != q.breaks || p.make_count != q.makes || !same_state()) return 0;
     }
     return 1;
 }

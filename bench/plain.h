@@ -16,6 +16,7 @@ typedef struct {
         uint32_t first, count, mode;
         int32_t lower, upper;
     } rule[1025];
+    uint32_t lock[512]; // 0 free, 1 locked at 0, 2 locked at 1
 } plain_tables;
 
 typedef struct {

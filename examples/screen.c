@@ -122,7 +122,7 @@ static planner_loaded read_walk(size_t length, planner_settings *settings) {
 
 static int refuse(const char *what, uint32_t refusal, size_t offset) {
     printf("%s is refused (%u): %s", what, (unsigned)refusal, planner_refusal_text(refusal));
-    if (refusal <= PLANNER_BYTES_AFTER_END) printf(", at byte %zu", offset);
+    if (refusal <= PLANNER_BYTES_AFTER_END || refusal == PLANNER_WRONG_LOCK) printf(", at byte %zu", offset);
     printf(".\n");
     return 1;
 }
@@ -140,11 +140,16 @@ static void show_standing(const planner_state *of) {
     }
 }
 
+/* What is shown behind a site's name: nobody but the mapper may change a locked one. */
+static const char *locked(unsigned variable) {
+    return planner_plan_lock(&plan, variable) == PLANNER_FREE ? "" : " (locked)";
+}
+
 static void show_chosen(void) {
     unsigned variables = planner_plan_variables(&plan), chosen = 0;
     for (unsigned i = 0; i < variables; i++) {
         if (state.assignment[i]) {
-            printf("%5u  %s\n", i + 1, names[i]);
+            printf("%5u  %s%s\n", i + 1, names[i], locked(i + 1));
             chosen++;
         }
     }
@@ -155,7 +160,7 @@ static void show_chosen(void) {
 static void show_all(void) {
     unsigned variables = planner_plan_variables(&plan);
     for (unsigned i = 0; i < variables; i++) {
-        printf("%5u  %-3s  %s\n", i + 1, state.assignment[i] ? "yes" : "no", names[i]);
+        printf("%5u  %-3s  %s%s\n", i + 1, state.assignment[i] ? "yes" : "no", names[i], locked(i + 1));
     }
 }
 
@@ -186,9 +191,13 @@ static void show_changes(const planner_state *before, const planner_state *after
 
 /* ---- the planner's calls */
 
-/* Searches with the first so many bytes of the list. */
+/* Searches with the first so many bytes of the list. Where nothing is found the sites that are locked at yes stay
+ * chosen, and no other. */
 static planner_searched search_part(planner_settings settings, size_t length) {
     memset(&state, 0, sizeof state);
+    for (unsigned i = 0; i < planner_plan_variables(&plan); i++) {
+        state.assignment[i] = planner_plan_lock(&plan, i + 1) == PLANNER_LOCKED_AT_1;
+    }
     return planner_plan_search(&plan, settings, numbers, length, &state, &work);
 }
 
@@ -211,7 +220,7 @@ static planner_searched search_list(planner_settings settings, size_t length) {
     return search_part(settings, length);
 }
 
-/* Searches and opens what was found. With nothing found nothing is chosen. */
+/* Searches and opens what was found. */
 static int search(planner_settings settings, size_t length) {
     planner_searched found = search_list(settings, length);
     if (found.refusal) return refuse("The search", found.refusal, 0);
@@ -226,7 +235,7 @@ static int search(planner_settings settings, size_t length) {
 
 static const char *or_more(uint32_t count) { return count == UINT32_MAX ? " or more" : ""; }
 
-/* What a flip would do: it is made on a copy. */
+/* What a flip would do: it is made on a copy. That of a locked site is refused, as it is in earnest. */
 static void show_flip(uint32_t variable) {
     planner_counted counted = planner_state_counts(&state, &plan, variable);
     if (counted.refusal) {
@@ -282,7 +291,7 @@ static int find_variable(const char *words, uint32_t *variable) {
 
 static void show_help(void) {
     printf("show             what is chosen\n");
-    printf("all              every site, chosen or not\n");
+    printf("all              every site, chosen or not, and which are locked\n");
     printf("unmet            the clauses that are not met\n");
     printf("try SITE         what turning a site over would do\n");
     printf("flip SITE        turn it over\n");

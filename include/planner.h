@@ -48,13 +48,16 @@ extern "C" {
 
 /* The buffers in bytes (docs/FORMAT.md). None is larger than 64 KiB. Larger ones may be lent: places past these sizes
  * are neither read nor written. */
-#define PLANNER_TABLES_SIZE 26668
+#define PLANNER_TABLES_SIZE 28716
 #define PLANNER_TERMS_SIZE 52096
 #define PLANNER_ASSIGNMENT_SIZE 512
 #define PLANNER_TALLIES_SIZE 6156
 #define PLANNER_MARKS_SIZE 512
 
-/* The most of each that a plan has. Terms are those of its rules. */
+/* The byte of the tables at which the locks begin. */
+#define PLANNER_LOCKS_PLACE 26668
+
+/* The most of each that a plan has. Terms are those of its rules. It may have a lock for each variable. */
 #define PLANNER_MOST_VARIABLES 512
 #define PLANNER_MOST_CLAUSES 512
 #define PLANNER_MOST_RULES 1024
@@ -62,7 +65,7 @@ extern "C" {
 
 /* The largest plan file that is accepted. Do not read a file into a buffer of this size: a longer one would be cut
  * there, and its start might be a plan. */
-#define PLANNER_FILE_SIZE 52907
+#define PLANNER_FILE_SIZE 54446
 /* A program takes files up to this size and gives PLANNER_FILE_TOO_LARGE for a longer one. Read so many bytes, then
  * see whether one more follows. */
 #define PLANNER_INPUT_SIZE 65536
@@ -80,9 +83,11 @@ enum planner_refusal {
     PLANNER_WRONG_TAG = 2,       /* a field stands where it may not: is this a plan file? */
     PLANNER_WRONG_LENGTH = 3,    /* a field has a length that none of its kind has */
     PLANNER_TOO_LARGE = 4,       /* variables not from 1 to 512, the 513th clause, 1,025th rule, or above 6,000 terms */
-    PLANNER_WRONG_TERM = 5,      /* a variable outside the plan or out of order, a coefficient 0 or out of range */
+    PLANNER_WRONG_TERM = 5,      /* a variable outside the plan or out of order, a coefficient 0 or out of range; in
+                                    a lock too the variable */
     PLANNER_WRONG_BOUND = 6,     /* a mode or a bound out of range, or an absent bound that is not 0 */
     PLANNER_BYTES_AFTER_END = 7, /* bytes after the end field; the offset is that of the first of them */
+    PLANNER_WRONG_LOCK = 10,     /* a lock's value is neither 0 nor 1 */
 
     /* By the files of a program that reads them. No call below gives these two. */
     PLANNER_CUT_NUMBER = 8,     /* the list of numbers is no multiple of 4 bytes: copy it again, whole */
@@ -99,7 +104,10 @@ enum planner_refusal {
     PLANNER_NOT_LOADED = 22,       /* tables that no accepted loading left: load first, and write nothing there */
     PLANNER_WRONG_VARIABLE = 23,   /* a variable outside 1 to the plan's number of them */
     PLANNER_NOT_BITS = 24,         /* one of the plan's assignment bytes is neither 0 nor 1 */
-    PLANNER_STALE_TALLIES = 25     /* tallies that are not those of this assignment: open again */
+    PLANNER_STALE_TALLIES = 25,    /* tallies that are not those of this assignment: open again */
+
+    /* By the plan: no fault of anyone's. */
+    PLANNER_LOCKED = 26 /* a flip of a variable that the plan has locked: show it, and let another be turned over */
 };
 
 /* A refusal in plain words, for a screen. */
@@ -112,14 +120,15 @@ static inline const char *planner_refusal_text(uint32_t refusal) {
     case PLANNER_TOO_LARGE:
         return "the number of variables is not from 1 to 512, or this is one clause, rule or term too many";
     case PLANNER_WRONG_TERM:
-        return "a term's variable is not in the plan or not above the one before it, "
-               "or its coefficient is 0 or beyond 1,000,000 either way";
+        return "the variable of a term or lock is not in the plan or not above the one before it, "
+               "or a coefficient is 0 or beyond 1,000,000 either way";
     case PLANNER_WRONG_BOUND:
         return "a rule's mode is not 1, 2 or 3, a bound is beyond 1,000,000,000 either way, "
                "or an absent bound is not written 0";
     case PLANNER_BYTES_AFTER_END: return "the file goes on after its end";
     case PLANNER_CUT_NUMBER: return "the list of numbers ends in the middle of a number";
     case PLANNER_FILE_TOO_LARGE: return "the file has more than 65,536 bytes";
+    case PLANNER_WRONG_LOCK: return "a lock's value is neither 0 nor 1";
     case PLANNER_WRONG_NOISE: return "the noise is not from 0 to 1,000";
     case PLANNER_WRONG_TRIES: return "the number of tries is not from 1 to 1,000";
     case PLANNER_WRONG_FLIPS: return "the number of flips is not from 1 to 1,000,000";
@@ -129,6 +138,7 @@ static inline const char *planner_refusal_text(uint32_t refusal) {
     case PLANNER_WRONG_VARIABLE: return "the plan has no such variable";
     case PLANNER_NOT_BITS: return "the assignment has a byte other than 0 and 1";
     case PLANNER_STALE_TALLIES: return "the tallies are not those of this assignment";
+    case PLANNER_LOCKED: return "the plan has locked this variable";
     default: return "no refusal has this number";
     }
 }
@@ -158,7 +168,8 @@ typedef struct {
 /* How a search ended. */
 enum planner_ending {
     PLANNER_NOT_SEARCHED = 0, /* refused */
-    PLANNER_FLOOR = 1,        /* found, and its cost is the sum of the negative coefficients: nothing costs less */
+    PLANNER_FLOOR = 1,        /* found, and its cost is the sum of the negative coefficients, with locked variables
+                                 counted at their value: nothing costs less */
     PLANNER_ENDED = 2,        /* found, and the walk for a lesser cost failed; a cheaper one may exist all the same */
     PLANNER_NONE = 3,         /* the walk for the plan alone failed; an assignment may exist all the same */
     PLANNER_SHORT_FOUND = 4,  /* found, then fewer numbers were left than the next need: a longer list may help */
@@ -190,42 +201,48 @@ static inline const char *planner_ending_text(uint32_t ending) {
 /* ---- the five calls; the refusals of each stand in the order in which they are tried */
 
 /* Loads a plan file of any length and content into the two tables.
- * PLANNER_BUFFER_TOO_SMALL, then the file's own: PLANNER_CUT_SHORT to PLANNER_BYTES_AFTER_END with its offset.
+ * PLANNER_BUFFER_TOO_SMALL, then the file's own: PLANNER_CUT_SHORT to PLANNER_BYTES_AFTER_END and PLANNER_WRONG_LOCK,
+ * with its offset.
  * Accepted: the tables are those of the plan, unused entries 0. */
 planner_loaded planner_load(const uint8_t *file, size_t file_length, uint8_t *tables, size_t tables_length,
                             uint8_t *terms, size_t terms_length);
 
 /* Counts the tallies of an assignment afresh and writes them, 0 in unused entries. Writes nothing else. The first n
- * bytes of an assignment are its values, variable 1 first, n being the plan's number of variables.
+ * bytes of an assignment are its values, variable 1 first, n being the plan's number of variables. It may disagree with
+ * the plan's locks.
  * PLANNER_BUFFER_TOO_SMALL, PLANNER_NOT_LOADED, PLANNER_NOT_BITS. */
 uint32_t planner_open(const uint8_t *tables, size_t tables_length, const uint8_t *terms, size_t terms_length,
                       const uint8_t *assignment, size_t assignment_length, uint8_t *tallies, size_t tallies_length);
 
 /* Turns one variable over: its assignment byte, and the tallies that concern it. The same flip twice restores every
  * byte.
- * PLANNER_BUFFER_TOO_SMALL, PLANNER_NOT_LOADED, PLANNER_NOT_BITS, PLANNER_STALE_TALLIES, PLANNER_WRONG_VARIABLE. */
+ * PLANNER_BUFFER_TOO_SMALL, PLANNER_NOT_LOADED, PLANNER_NOT_BITS, PLANNER_STALE_TALLIES, PLANNER_WRONG_VARIABLE,
+ * PLANNER_LOCKED. */
 uint32_t planner_flip(const uint8_t *tables, size_t tables_length, const uint8_t *terms, size_t terms_length,
                       uint8_t *assignment, size_t assignment_length, uint8_t *tallies, size_t tallies_length,
                       uint32_t variable);
 
 /* The break count and the make count of a variable: how many clauses of the plan's full propositional expansion its
  * flip would spoil and mend, or 4,294,967,295 if there are more. Writes nothing.
- * As for planner_flip; the counts are 0 with a refusal. */
+ * As for planner_flip, but for PLANNER_LOCKED: a locked variable is counted as any other. The counts are 0 with a
+ * refusal. */
 planner_counted planner_counts(const uint8_t *tables, size_t tables_length, const uint8_t *terms, size_t terms_length,
                                const uint8_t *assignment, size_t assignment_length, const uint8_t *tallies,
                                size_t tallies_length, uint32_t variable);
 
 /* Searches for an assignment that meets every clause, then for cheaper ones, by the walk of Liu and Truszczynski with
- * the SKC choice. noise is how many of 1,000 choices take the least break count where every one spoils something; the
- * others take any. Each call of the walk has so many tries of so many flips. numbers is a list of any length, each
- * number of 4 bytes, little-endian: the same plan, settings and list give the same answer. A last number of fewer
- * than 4 bytes is not read.
+ * the SKC choice. A locked variable has its value from each try's start on and is not chosen; a try that picks a clause
+ * without an unlocked variable ends there. noise is how many of 1,000 choices take the least break count where every one
+ * spoils something; the others take any. Each call of the walk has so many tries of so many flips. numbers is a list of
+ * any length, each number of 4 bytes, little-endian: the same plan, settings and list give the same answer. A last
+ * number of fewer than 4 bytes is not read.
  * PLANNER_BUFFER_TOO_SMALL (a buffer other than numbers), PLANNER_NOT_LOADED, PLANNER_WRONG_NOISE, PLANNER_WRONG_TRIES,
  * PLANNER_WRONG_FLIPS, PLANNER_WRONG_MODE; with a refusal every other field of the answer is 0.
  * Accepted: the answer is that of the walk. With a find (finds is not 0: ending 1, 2 or 4) the first n bytes of
- * assignment are the last one found: it meets every clause, and cost is its cost. With none they are as they were;
- * those beyond n always are. What the five work buffers hold at first does not matter; they end filled with 0 up to
- * the sizes above. Writes nothing else, so that tallies opened before are stale after a find. */
+ * assignment are the last one found: it meets every clause, each locked variable has its value, and cost is its cost.
+ * With none they are as they were; those beyond n always are. What the five work buffers hold at first does not matter;
+ * they end filled with 0 up to the sizes above. Writes nothing else, so that tallies opened before are stale after a
+ * find. */
 planner_searched planner_search(const uint8_t *tables, size_t tables_length, const uint8_t *terms, size_t terms_length,
                                 const uint8_t *numbers, size_t numbers_length, uint32_t noise, uint32_t tries,
                                 uint32_t flips, uint32_t mode, uint8_t *assignment, size_t assignment_length,
@@ -236,7 +253,7 @@ planner_searched planner_search(const uint8_t *tables, size_t tables_length, con
 
 /* ---- plan, state and work */
 
-/* A plan as loading leaves it: two buffers, each below 64 KiB; 78,764 bytes in all. To be written by
+/* A plan as loading leaves it: two buffers, each below 64 KiB; 80,812 bytes in all. To be written by
  * planner_plan_load alone. */
 typedef struct {
     uint8_t tables[PLANNER_TABLES_SIZE];
@@ -244,13 +261,13 @@ typedef struct {
 } planner_plan;
 
 /* An assignment, a byte 0 or 1 for each variable of the plan, variable 1 first, which the program may write; and its
- * tallies, which it may not. All bytes 0 is an assignment of every plan. */
+ * tallies, which it may not. All bytes 0 is an assignment of every plan, though one that locks may disagree with. */
 typedef struct {
     uint8_t assignment[PLANNER_ASSIGNMENT_SIZE];
     uint8_t tallies[PLANNER_TALLIES_SIZE];
 } planner_state;
 
-/* What a search works in: five buffers, each below 64 KiB; 85,944 bytes in all. Nothing of it is of use after. */
+/* What a search works in: five buffers, each below 64 KiB; 87,992 bytes in all. Nothing of it is of use after. */
 typedef struct {
     uint8_t tables[PLANNER_TABLES_SIZE];
     uint8_t terms[PLANNER_TERMS_SIZE];
@@ -268,7 +285,7 @@ typedef struct {
 } planner_settings;
 
 /* How far below a find's cost the next search asks. PLANNER_LINEAR: by one. PLANNER_LBS: by a third of the way down to
- * the sum of the negative coefficients, until that fails; then by one. */
+ * the least cost that PLANNER_FLOOR speaks of, until that fails; then by one. */
 enum planner_mode { PLANNER_LINEAR = 0, PLANNER_LBS = 1 };
 
 static inline planner_settings planner_settings_of(uint32_t noise, uint32_t tries, uint32_t flips, uint32_t mode) {
@@ -335,6 +352,16 @@ static inline int64_t planner_plan_coefficient(const planner_plan *plan, uint32_
     return (int64_t)(word ^ 0x80000000u) - INT64_C(0x80000000);
 }
 
+/* Where a variable of the plan stands. */
+enum planner_lock { PLANNER_FREE = 0, PLANNER_LOCKED_AT_0 = 1, PLANNER_LOCKED_AT_1 = 2 };
+
+/* Whether the plan has locked a variable, and at which value: enum planner_lock; PLANNER_FREE for one that is not in
+ * the plan. */
+static inline uint32_t planner_plan_lock(const planner_plan *plan, uint32_t variable) {
+    if (variable < 1 || variable > PLANNER_MOST_VARIABLES) return PLANNER_FREE;
+    return planner_word(plan->tables + PLANNER_LOCKS_PLACE + 4 * ((size_t)variable - 1));
+}
+
 /* The cost of the state's assignment. */
 static inline int64_t planner_state_cost(const planner_state *state, const planner_plan *plan) {
     uint32_t variables = planner_plan_variables(plan);
@@ -374,8 +401,9 @@ PLANNER_GUARD(offsetof(planner_searched, finds) == 16 && offsetof(planner_search
 PLANNER_GUARD(sizeof(planner_plan) == PLANNER_TABLES_SIZE + PLANNER_TERMS_SIZE);
 PLANNER_GUARD(sizeof(planner_state) == PLANNER_ASSIGNMENT_SIZE + PLANNER_TALLIES_SIZE);
 PLANNER_GUARD(sizeof(planner_work) == sizeof(planner_plan) + sizeof(planner_state) + PLANNER_MARKS_SIZE);
-PLANNER_GUARD(PLANNER_TABLES_SIZE ==
+PLANNER_GUARD(PLANNER_LOCKS_PLACE ==
               4 * (4 + PLANNER_MOST_VARIABLES + 2 * (PLANNER_MOST_CLAUSES + 1) + 5 * (PLANNER_MOST_RULES + 1)));
+PLANNER_GUARD(PLANNER_TABLES_SIZE == PLANNER_LOCKS_PLACE + 4 * PLANNER_MOST_VARIABLES);
 PLANNER_GUARD(PLANNER_TERMS_SIZE == 8 * (PLANNER_MOST_TERMS + PLANNER_MOST_VARIABLES));
 PLANNER_GUARD(PLANNER_TALLIES_SIZE == 4 * (PLANNER_MOST_RULES + 1 + PLANNER_MOST_CLAUSES + 1 + 1));
 PLANNER_GUARD(PLANNER_TABLES_SIZE <= 65536 && PLANNER_TERMS_SIZE <= 65536 && PLANNER_TALLIES_SIZE <= 65536);
