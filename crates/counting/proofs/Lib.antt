@@ -1,4 +1,5 @@
 pub mod Difference
 pub mod Joining
 pub mod Signed
+pub mod Tens
 pub mod Words

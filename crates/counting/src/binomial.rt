@@ -1,34 +1,70 @@
 // Binomials as capped counts: of m over k, and the difference of two with the same lower number.
 ghost use mathlib.Core.Path.{_≡_};
-ghost use Prim.Native.Nat.{_+_, _-_, _≤_, _<_};
+ghost use Prim.Native.Nat.{_+_, _-_, _≤_, _<_, min};
 ghost use Rattle.plpb.specs.Count.{capped};
 ghost use Rattle.plpb.specs.Equations.{binom};
+ghost use Rattle.plpb.specs.Factors.{triangleRows, passesAt, factors};
 ghost use Rattle.counting.specs.Count.{number};
 use crate::count::Count;
+use crate::pascal::ROWS;
+use crate::pascal::tabled;
+
+// A binomial, and how many factors it cost.
+pub struct Report {
+    pub count: Count,
+    pub factors: u32,
+}
 
 // m over k for k up to the middle, where the entries only rise: once past the cap, past it to the end.
-fn lower_half(m: u64, k: u64) -> Count
+fn lower_half(m: u64, k: u64) -> Report
     requires { ⌜ (m < 4294967296) × (k + k ≤ m) ⌝ }
-    ensures { λ r. ⌜ number r ≡ capped (binom m k) ⌝ }
+    ensures { λ r. ⌜ number (r .count) ≡ capped (binom m k) ⌝ }
+    ensures { λ r. ⌜ r .factors ≡ passesAt m 0 k ⌝ }
 {
     if k == 0 {
-        return Count::ONE;
+        return Report {
+            count: Count::ONE,
+            factors: 0,
+        };
     }
     let mut entry = m;
     let mut i = 1;
     while i < k {
         entry = entry * (m - i) / (i + 1);
         if (Count::CAP.value as u64) < entry {
-            return Count::CAP;
+            return Report {
+                count: Count::CAP,
+                factors: (i + 1) as u32,
+            };
         }
         i += 1;
     }
-    Count {
-        value: entry as u32,
+    Report {
+        count: Count {
+            value: entry as u32,
+        },
+        factors: i as u32,
     }
 }
 
-// m over k. A row reads the same from both ends, so the nearer one is counted from.
+// A row reads the same from both ends: the nearer one of k.
+fn nearer(m: u64, k: u64) -> u64
+    requires { ⌜ k ≤ m ⌝ }
+    ensures { λ r. ⌜ r ≡ min k (m - k) ⌝ }
+{
+    if m - k < k { m - k } else { k }
+}
+
+// m over k above the triangle.
+fn by_factors(m: u64, k: u64) -> Report
+    requires { ⌜ (m < 4294967296) × (triangleRows ≤ m) × (k ≤ m) ⌝ }
+    ensures { λ r. ⌜ number (r .count) ≡ capped (binom m k) ⌝ }
+    ensures { λ r. ⌜ r .factors ≡ factors m k ⌝ }
+{
+    lower_half(m, nearer(m, k))
+}
+
+// m over k.
 pub fn binomial(m: u64, k: u64) -> Count
     requires { ⌜ m < 4294967296 ⌝ }
     ensures { λ r. ⌜ number r ≡ capped (binom m k) ⌝ }
@@ -36,11 +72,31 @@ pub fn binomial(m: u64, k: u64) -> Count
     if m < k {
         return Count::ZERO;
     }
-    if m - k < k {
-        lower_half(m, m - k)
-    } else {
-        lower_half(m, k)
+    if m < ROWS {
+        return tabled(m, k);
     }
+    by_factors(m, k).count
+}
+
+// m over k, and its factors. Most callers want the count alone, and a report goes through memory.
+pub fn reported(m: u64, k: u64) -> Report
+    requires { ⌜ m < 4294967296 ⌝ }
+    ensures { λ r. ⌜ number (r .count) ≡ capped (binom m k) ⌝ }
+    ensures { λ r. ⌜ r .factors ≡ factors m k ⌝ }
+{
+    if m < k {
+        return Report {
+            count: Count::ZERO,
+            factors: 0,
+        };
+    }
+    if m < ROWS {
+        return Report {
+            count: tabled(m, k),
+            factors: 0,
+        };
+    }
+    by_factors(m, k)
 }
 
 // m over k from the entry before it in the row above, m − 1 over k − 1.

@@ -3,5 +3,6 @@
 pub mod binomial;
 pub mod bound;
 pub mod count;
+pub mod pascal;
 pub mod shares;
 pub mod tightening;

@@ -2,6 +2,8 @@
 pub mod Lists
 pub mod Integers
 pub mod Binomial
+pub mod Triangle
+pub mod Factors
 pub mod Capped
 pub mod Flip
 pub mod Locks

@@ -5,6 +5,7 @@ pub mod Normal
 pub mod Expansion
 pub mod Count
 pub mod Equations
+pub mod Factors
 pub mod Tallies
 pub mod Book
 pub mod Numbers

@@ -7,6 +7,7 @@ use Rattle.plpb.specs.Lists.{_and_}
 use Rattle.plpb.specs.Plan.{Bound, absent, present}
 use Rattle.plpb.specs.Count.{capped}
 use Rattle.plpb.specs.Equations.{binom, Standing, out, on, off, Shares, shares}
+use Rattle.plpb.specs.Factors.{factors}
 use Rattle.counting.specs.Shares.{cappedShares}
 use Rattle.probe.specs.declared.Three.{Three}
 
@@ -16,6 +17,9 @@ isWord m = ltb m 4_294_967_296
 
 unfoldable pub binomialAnswer : ℕ → ℕ → ℕ
 binomialAnswer m k = cond (isWord m) (capped (binom m k)) 0
+
+unfoldable pub factorsAnswer : ℕ → ℕ → ℕ
+factorsAnswer m k = cond (isWord m) (factors m k) 0
 
 unfoldable pub differenceAnswer : ℕ → ℕ → ℕ → ℕ
 differenceAnswer m w k = cond (isWord (m + w)) (capped (binom (m + w) k - binom m k)) 0

@@ -5,9 +5,10 @@ ghost use Prim.Native.Nat.{_+_, _<_};
 ghost use Rattle.plpb.specs.Search.{third as thirdOf};
 ghost use Rattle.counting.specs.Bound.{boundOf};
 ghost use Rattle.counting.specs.Shares.{sharesIn, cappedShares, joinedShares};
-ghost use Rattle.probe.specs.Answers.{binomialAnswer, differenceAnswer, threeIn, boundIf, standingFor, sharesAnswer};
+ghost use Rattle.probe.specs.Answers.{binomialAnswer, factorsAnswer, differenceAnswer, threeIn, boundIf, standingFor, sharesAnswer};
 use counting::binomial::binomial;
 use counting::binomial::difference;
+use counting::binomial::reported;
 use counting::bound::Bound;
 use counting::count::Count;
 use counting::shares::Shares;
@@ -36,6 +37,17 @@ pub extern "C" fn probe_binomial(m: u64, k: u64) -> u32
         return 0;
     }
     binomial(m, k).value
+}
+
+// How many factors m over k costs.
+#[no_mangle]
+pub extern "C" fn probe_factors(m: u64, k: u64) -> u32
+    ensures { λ r. ⌜ r ≡ factorsAnswer m k ⌝ }
+{
+    if 4294967295 < m {
+        return 0;
+    }
+    reported(m, k).factors
 }
 
 // m + w over k less m over k.

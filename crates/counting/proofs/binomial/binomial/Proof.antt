@@ -1,19 +1,21 @@
--- `binomial` meets its contract: nothing can be chosen of fewer than k, and a row is symmetric.
+-- `binomial` meets its contract: nothing can be chosen of fewer than k, small rows are in the table, larger ones are counted.
 -- Assumes nothing.
 use borrow.Author.Needs.{needs}
+use native.Mathlib.Omega.{arith}
 use mathlib.Core.Path.{sym, _∙_, ap}
-use Rattle.plpb.specs.Count.{capped}
-use Rattle.plpb.proofs.Binomial.{binom-vanishes, symmetric}
-use Rattle.plpb.proofs.Capped.{capped-zero}
+use Rattle.plpb.specs.Count.{capped, cap}
+use Rattle.plpb.proofs.Binomial.{binom-vanishes}
+use Rattle.plpb.proofs.Capped.{capped-zero, capped-small}
 use Rattle.counting.proofs.binomial.binomial.Statement.{statement}
 use Rattle.counting.proofs.binomial.binomial.Tie as tie
 
 returns : tie.Need-returns
 returns c = sym (ap capped (binom-vanishes _ _ (c .if1 .taken)) ∙ capped-zero)
 
+-- What stands in the table is a word, so it is no more than the cap.
 returns-2 : tie.Need-returns-2
-returns-2 c = c .lower-half .ensures ∙ sym (ap capped (symmetric _ _ (c .before .before .if1 .left)))
+unfolding cap
+returns-2 c = c .tabled .ensures ∙ sym (capped-small _ (omega (arith, c .tabled .ensures, c .tabled .ok)))
 
 pub binomial-spec : {M : Type 1} → statement M
-binomial-spec =
-    tie.close (tie.spec returns (λ c κs. search needs) (λ c κs. search needs) returns-2 (λ c. search needs))
+binomial-spec = tie.close (tie.spec returns (λ c κs. search needs) returns-2 (λ c κs. search needs) (λ c. c .before .by-factors .ensures .0))

@@ -1,0 +1,26 @@
+-- `reported` meets its contract: as `binomial`, and what is in no row or in the table costs no factor.
+-- Assumes nothing.
+use borrow.Author.Needs.{needs}
+use native.Mathlib.Omega.{arith}
+use mathlib.Core.Path.{sym, _∙_, ap}
+use Rattle.plpb.specs.Count.{capped, cap}
+use Rattle.plpb.proofs.Binomial.{binom-vanishes}
+use Rattle.plpb.proofs.Capped.{capped-zero, capped-small}
+use Rattle.plpb.proofs.Factors.{factors-small, factors-outside}
+use Rattle.counting.proofs.binomial.reported.Statement.{statement}
+use Rattle.counting.proofs.binomial.reported.Tie as tie
+
+returns : tie.Need-returns
+returns c =
+    (sym (ap capped (binom-vanishes _ _ (c .if1 .taken)) ∙ capped-zero), factors-outside _ _ (c .if1 .taken))
+
+returns-2 : tie.Need-returns-2
+unfolding cap
+returns-2 c =
+    let given = c .before .before .before .args in (
+      c .tabled .ensures ∙ sym (capped-small _ (omega (arith, c .tabled .ensures, c .tabled .ok))),
+      factors-small (given .m) (given .k) (omega arith),
+    )
+
+pub reported-spec : {M : Type 1} → statement M
+reported-spec = tie.close (tie.spec returns (λ c κs. search needs) returns-2 (λ c κs. search needs) (λ c. search needs))
