@@ -17,6 +17,7 @@ mod raw {
 
     extern "C" {
         pub fn probe_binomial(m: u64, k: u64) -> u32;
+        pub fn probe_factors(m: u64, k: u64) -> u32;
         pub fn probe_difference(m: u32, w: u32, k: u64) -> u32;
         pub fn probe_shares(
             case: u32,
@@ -36,6 +37,11 @@ mod raw {
 /// m over k.
 pub fn binomial(m: u64, k: u64) -> u32 {
     unsafe { raw::probe_binomial(m, k) }
+}
+
+/// How many factors m over k costs.
+pub fn factors(m: u64, k: u64) -> u32 {
+    unsafe { raw::probe_factors(m, k) }
 }
 
 /// m + w over k less m over k.

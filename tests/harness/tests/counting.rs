@@ -1,6 +1,8 @@
 //! Capped binomials, differences, shares and clause counts against the reference's exact integers.
 
-use harness::probe::{binomial, difference, joined, shares, third, Standing, Three, START};
+use harness::probe::{
+    binomial, difference, factors, joined, shares, third, Standing, Three, START,
+};
 use reference::big::Big;
 use reference::counts::{self, choices, choices_with, CAP};
 use reference::exact;
@@ -54,6 +56,76 @@ fn around_the_cap() {
     // 4,294,967,295 over 1 is the cap itself, and one less is below it.
     assert_eq!(binomial(4_294_967_295, 1), u32::MAX);
     assert_eq!(binomial(4_294_967_294, 1), u32::MAX - 1);
+}
+
+/// Worked out by hand from the sentence of T-03: m, k and the factors.
+#[test]
+fn factors_along_the_edges() {
+    let edges = [
+        // The table reports none, to its last entry.
+        (0, 0, 0),
+        (2, 1, 0),
+        (34, 17, 0),
+        (34, 35, 0),
+        // Above it: none for nothing and for all, from either end one for one.
+        (35, 0, 0),
+        (35, 35, 0),
+        (35, 36, 0),
+        (35, 1, 1),
+        (35, 34, 1),
+        // 35 over 16 is 4,059,928,950, 35 over 17 is 4,537,567,650.
+        (35, 16, 16),
+        (35, 17, 17),
+        (35, 18, 17),
+        (35, 19, 16),
+        // 36 over 14 is 3,796,297,200, 36 over 15 is 5,567,902,560.
+        (36, 14, 14),
+        (36, 15, 15),
+        (36, 18, 15),
+        (36, 21, 15),
+        (36, 22, 14),
+        // 92,682 over 2 is 4,294,930,221, 92,683 over 2 is 4,295,022,903.
+        (92_682, 2, 2),
+        (92_682, 3, 3),
+        (92_683, 2, 2),
+        (92_683, 3, 2),
+        // 4,294,967,295 over 1 is the cap, and does not pass it.
+        (4_294_967_295, 1, 1),
+        (4_294_967_295, 2, 2),
+        (4_294_967_295, 4_294_967_294, 1),
+        (4_294_967_295, 4_294_967_295, 0),
+    ];
+    for (m, k, wanted) in edges {
+        assert_eq!(factors(m, k), wanted, "{m} over {k}");
+        assert_eq!(exact::factors(m as i64, k as i64), wanted as i64);
+    }
+}
+
+#[test]
+fn factors_of_whole_rows_and_of_random_binomials() {
+    let mut most = 0;
+    let mut check = |m: i64, k: i64| {
+        let got = factors(m as u64, k as u64);
+        assert_eq!(got as i64, exact::factors(m, k), "{m} over {k}");
+        assert!(got < 17 || m == 35, "{m} over {k}");
+        most = most.max(got);
+    };
+    for m in 0..120 {
+        for k in 0..=m + 2 {
+            check(m, k);
+        }
+    }
+    let mut random = Random::new(5);
+    for _ in 0..50_000 {
+        let m = match random.below(3) {
+            0 => some_size(&mut random),
+            1 => 35 + random.below(100) as i64,
+            _ => random.draw() as i64 & 0xffff_ffff,
+        };
+        let k = some_choice(&mut random, m);
+        check(m, k);
+    }
+    assert_eq!(most, 17);
 }
 
 /// "Tempting, and wrong": the difference of two capped binomials would be 0 here.

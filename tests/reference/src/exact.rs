@@ -2,6 +2,7 @@
 //! subtractions, for rules whose binomials can be written out.
 
 use crate::big::Big;
+use crate::counts::CAP;
 use crate::literals::{true_weight, Literals};
 use crate::plan::{Clause, Plan, Rule};
 
@@ -25,6 +26,22 @@ pub fn binomial(m: i64, k: i64, steps: i64) -> Option<Big> {
         result = quotient;
     }
     Some(result)
+}
+
+/// What m over k costs (document 02, T-03). "Binomials with upper number 0 to 34 come from Pascal's
+/// triangle [..] and report 0. Above that a binomial of m over k reports its factors: the smallest
+/// i at which m over i passes the cap, or the smaller of k and m − k if that comes first, and 0
+/// where k exceeds m."
+pub fn factors(m: i64, k: i64) -> i64 {
+    if m <= 34 || k > m {
+        return 0;
+    }
+    let passes_the_cap = |i: &i64| {
+        let entry = binomial(m, *i, 40).expect("35 over 17 passes, and so does every later row");
+        entry.to_u128().is_none_or(|entry| entry > CAP)
+    };
+    let most = k.min(m - k);
+    (0..most).find(passes_the_cap).unwrap_or(most)
 }
 
 /// The numbers of a rule's parts that a flip spoils, mends or leaves unsatisfied.
