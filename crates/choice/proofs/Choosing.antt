@@ -10,7 +10,8 @@ use lib.Dec.{T, ltb, eqb}
 use lib.ListN.{length, getD, drop, List·getD-append}
 use lib.Seq.{drop-at}
 use borrow.Author.Tests.{eq-eqb, ne-eqb}
-use Rattle.plpb.specs.Lists.{_and_, keep, isEmpty}
+use Rattle.plpb.specs.Lists.{_and_, keep, count as counted, isEmpty, row}
+use Rattle.plpb.proofs.Lists.{count-le, length-row}
 use Rattle.plpb.specs.Plan.{Bound, absent, present, isPresent, Clause, Plan, Assignment, lockOf, isLocked, names}
 use Rattle.plpb.specs.Count.{cap, cappedBreak}
 use Rattle.plpb.specs.Numbers.{takePick}
@@ -48,6 +49,12 @@ found-small marks n value k h e = rw e (kept-high (λ y. eqb (getD marks (y - 1)
 pub found-low : (marks : List ℕ) (n value k : ℕ) {x : ℕ} → k < length (marked marks n value) → x ≡ getD (marked marks n value) k 0 → 1 ≤ x
 unfolding marked
 found-low marks n value k h e = rw e (kept-low (λ y. eqb (getD marks (y - 1) 0) value) n k 0 h)
+
+-- Those marked are no more than the variables.
+pub marked-few : {numbers marks : List ℕ} {used n value m : ℕ} → PickMarked numbers used marks n value m → m ≤ 512
+unfolding marked counted
+marked-few {marks = marks} {n = n} {value = value} h =
+    omega (arith, h .few, h .counted, count-le (λ y. eqb (getD marks (y - 1) 0) value) (row 1 n), length-row 1 n)
 
 module _ {numbers marks : List ℕ} {used n value m : ℕ} (h : PickMarked numbers used marks n value m) {r : Picked} (e : takenOf r ≡ takePick m (numbersOf numbers) used) where
   module _ {k after : ℕ} (t : r ≡ picked.At k after) where

@@ -1,18 +1,20 @@
 -- What a need for numbers comes to over a list in bytes, and what the answer to one tells a caller.
 -- Assumes nothing.
-use Prim.Native.Nat.{ℕ, zero, suc, _+_, _/_, _%_, _^_, _≤_, _<_}
+use Prim.Native.Nat.{ℕ, zero, suc, _+_, _-_, _/_, _%_, _^_, _≤_, _<_}
 use native.Mathlib.Nat.{zero-add, mod-lt}
 use native.Mathlib.Numerals.{add-one}
+use native.Mathlib.Decide.{decLt}
 use native.Mathlib.Omega.{arith}
 use mathlib.Core.Path.{_≡_, refl, sym, ap, _∙_, subst}
 use mathlib.Core.Bool.{Bool, true, false, cond}
-use mathlib.Core.List.{List, _++_}
-use borrow.Author.Tests.{le-leb, lt-leb}
-use lib.Dec.{leb, eqb}
+use mathlib.Core.List.{List, [], _∷_, _++_}
+use borrow.Author.Tests.{lt-ltb, le-ltb, le-leb, lt-leb}
+use lib.Dec.{ltb, eqb}
 use lib.ListN.{length, getD, set, take, drop, length-map}
 use lib.Seq.{drop-cons, take-suc, append-snoc, set-at, length-take-le, getD-take, getD-drop}
 use Rattle.plpb.specs.Lists.{row}
-use Rattle.plpb.specs.Numbers.{Taken, taken, tooFew, takeWords, takePick, startWords, startOf, bit}
+use Rattle.plpb.specs.Numbers.{Taken, taken, tooFew, takeWords, range, fair, pickAmong, takePick, startWords, startOf, bit}
+use Rattle.plpb.proofs.Picks.{kept-within, within-kept}
 use Rattle.plpb.proofs.Lists.{length-row, row-at}
 use Rattle.plpb.proofs.Walks.{Spends, words-spend, pick-spends}
 use Rattle.words.specs.Words.{wordAt}
@@ -40,18 +42,34 @@ numbersOf-at s i h =
 
 -- ---- picks
 
-module _ (s : List ℕ) (used m : ℕ) where
-  pub pick-taken : (r : ℕ) → used < length s / 4 → r ≡ wordAt s used → taken (r % m) (used + 1) ≡ takePick m (numbersOf s) used
-  unfolding takePick
-  pick-taken r h e =
-      let g : leb (used + 1) (length (numbersOf s)) ≡ true = le-leb (used + 1) (length (numbersOf s)) (rw length-numbersOf (omega arith)) in
-      rw (g, numbersOf-at s used h, e)
+-- Nothing stands past the end.
+drop-past : (n : ℕ) (xs : List ℕ) → length xs ≤ n → drop n xs ≡ []
+drop-past zero [] h = refl
+drop-past zero (x ∷ xs) h = absurd (omega arith)
+drop-past (suc n) [] h = refl
+drop-past (suc n) (x ∷ xs) h = drop-past n xs (omega arith)
 
-  pub pick-short : length s / 4 ≤ used → tooFew used ≡ takePick m (numbersOf s) used
-  unfolding takePick
-  pick-short h =
-      let g : leb (used + 1) (length (numbersOf s)) ≡ false = lt-leb (used + 1) (length (numbersOf s)) (rw length-numbersOf (omega arith)) in
-      rw g
+-- What a pick comes to from a place on: the number there is kept, or discarded, or there is none.
+module _ (s : List ℕ) (m at : ℕ) where
+  here : at < length s / 4 → drop at (numbersOf s) ≡ wordAt s at ∷ drop (suc at) (numbersOf s)
+  here h = drop-cons (numbersOf s) at 0 (rw length-numbersOf h) ∙ ap (λ r. r ∷ drop (suc at) (numbersOf s)) (numbersOf-at s at h)
+
+  module _ (low : 0 < m) {r : ℕ} (h : at < length s / 4) (e : r ≡ wordAt s at) where
+    pub pick-keeps : r - r % m + m ≤ range → pickAmong m (drop at (numbersOf s)) at ≡ taken (r % m) (at + 1)
+    unfolding pickAmong fair
+    pick-keeps l = rw (here h, ← e, lt-ltb r (range - range % m) (within-kept range m low r l)) refl
+
+    pub pick-discards : range < r - r % m + m → pickAmong m (drop at (numbersOf s)) at ≡ pickAmong m (drop (at + 1) (numbersOf s)) (at + 1)
+    unfolding pickAmong fair
+    pick-discards l = rw (here h, ← e, le-ltb r (range - range % m) (not-kept (decLt r (range - range % m))), add-one at) refl
+      where
+        not-kept : Dec (r < range - range % m) → range - range % m ≤ r
+        not-kept (yes k) = absurd (omega (arith, kept-within range m low r k, l))
+        not-kept (no k) = omega (arith, k)
+
+  pub pick-ends : length s / 4 ≤ at → pickAmong m (drop at (numbersOf s)) at ≡ tooFew at
+  unfolding pickAmong
+  pick-ends h = rw (drop-past at (numbersOf s) (rw length-numbersOf h)) refl
 
 -- What a caller learns of an answer, whatever a pick does with the numbers: the need's outcome, a place below m, and how many are used.
 module _ {r : Picked} {t : Taken ℕ} {v : ℕ} (e : takenOf r ≡ t) where
@@ -67,15 +85,19 @@ unfoldable pub Placed : ℕ → Taken ℕ → Type 0
 Placed m (taken place used) = place < m
 Placed m (tooFew used) = Unit {0}
 
-module _ (m : ℕ) (ns : List ℕ) (used : ℕ) where
-  placed : (b : Bool) → 0 < m → Placed m (cond b (taken (getD ns used 0 % m) (used + 1)) (tooFew used))
-  unfolding Placed
-  placed true h = mod-lt (getD ns used 0) h
-  placed false h = tt
+among-placed : (m : ℕ) (left : List ℕ) (used : ℕ) → 0 < m → Placed m (pickAmong m left used)
+unfolding pickAmong Placed
+among-placed m [] used h = tt
+among-placed m (r ∷ rest) used h = either (ltb r (fair m)) (pickAmong m rest (used + 1)) (among-placed m rest (used + 1) h)
+  where
+    either : (b : Bool) (t : Taken ℕ) → Placed m t → Placed m (cond b (taken (r % m) (used + 1)) t)
+    either true t p = mod-lt r h
+    either false t p = p
 
+module _ (m : ℕ) (ns : List ℕ) (used : ℕ) where
   pub pick-placed : 0 < m → Placed m (takePick m ns used)
   unfolding takePick
-  pick-placed h = placed (leb (used + 1) (length ns)) h
+  pick-placed h = among-placed m (drop used ns) used h
 
   pub place-below : {place after : ℕ} → 0 < m → takePick m ns used ≡ taken place after → place < m
   unfolding Placed

@@ -5,7 +5,7 @@ ghost use mathlib.Core.List.{_++_};
 ghost use Prim.Native.Nat.{_+_, _*_, _/_, _%_, _≤_, _<_};
 ghost use lib.Dec.{eqb};
 ghost use lib.ListN.{length, getD, take, drop};
-ghost use Rattle.plpb.specs.Numbers.{takeWords, takePick, startWords, startOf, bit};
+ghost use Rattle.plpb.specs.Numbers.{takeWords, range, takePick, startWords, startOf, bit};
 ghost use Rattle.words.specs.Words.{wordAt};
 ghost use Rattle.format.specs.Assignment.{bitBytes};
 ghost use Rattle.numbers.specs.Numbers.{numbersOf};
@@ -24,16 +24,25 @@ pub enum Started {
     Short(usize),
 }
 
-// A pick among m.
+// A number of the list is below this.
+const RANGE: usize = 4294967296;
+
+// A pick among m: numbers at or above the largest multiple of m up to RANGE are discarded. A number is below it exactly where the next multiple of m
+// above it is no more than RANGE, so that each number takes one division.
 pub fn pick(numbers: &[u8], used: usize, m: usize) -> Picked
-    requires { ⌜ (0 < m) × (used ≤ length (now numbers) / 4) ⌝ }
+    requires { ⌜ (0 < m) × (m ≤ range) × (used ≤ length (now numbers) / 4) ⌝ }
     ensures { λ r. ⌜ takenOf r ≡ takePick m (numbersOf (now (numbers .entry))) used ⌝ }
 {
-    if used < numbers.len() / 4 {
-        Picked::At(words::index(numbers, used) % m, used + 1)
-    } else {
-        Picked::Short(used)
+    let mut at = used;
+    while at < numbers.len() / 4 {
+        let r = words::word(numbers, at) as usize;
+        let place = r % m;
+        at += 1;
+        if r - place + m <= RANGE {
+            return Picked::At(place, at);
+        }
     }
+    Picked::Short(at)
 }
 
 // A bit of a number, 0 being the lowest.

@@ -10,7 +10,7 @@ use Rattle.plpb.specs.Normal.{opposite, literalTrue, isNegative, literal
 use Rattle.plpb.specs.Expansion.{choose, choices, parts, joined, expandClause, expansion, isTrue, spoils, breakCount}
 use Rattle.plpb.specs.Count.{cap, capped, cappedBreak}
 use Rattle.plpb.specs.Tallies.{unsatisfied}
-use Rattle.plpb.specs.Numbers.{takeWords, takePick, startWords, bit, startOf}
+use Rattle.plpb.specs.Numbers.{takeWords, fair, pickAmong, takePick, startWords, bit, startOf}
 use Rattle.plpb.specs.Walk.{_>>=_, run}
 use Rattle.plpb.specs.Settings.{lbs, Settings}
 use Rattle.plpb.specs.Try.{begun, turnOver}
@@ -46,7 +46,7 @@ unfolding term plan settings numbers answer
     isPresent mapBound value flip isVariable lockAmong lockOf isLocked under hold total atLeast atMost ruleHolds clauseHolds satisfies cost negativePart leastTotal leastOf leastCost floorCost namedIn names
     opposite literalTrue isNegative literal size rise K raised sizeA sizeB copies
     choose choices parts joined expandClause expansion isTrue spoils breakCount
-    cap capped cappedBreak unsatisfied takeWords takePick startWords bit startOf _>>=_ run
+    cap capped cappedBreak unsatisfied takeWords fair pickAmong takePick startWords bit startOf _>>=_ run
     choosable pickFrom leastBreak withBreak noisyChoice choice
     begun turnOver turning move goOn flipping try orElse trying call tightened third lbsBound linearBound boundIn atFloor gap after descending linearSearch lbsSearch tighten searchWalk
     lastFind costOf answerOf conclude begin search

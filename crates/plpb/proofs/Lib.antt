@@ -17,6 +17,7 @@ pub mod Equations
 pub mod Stars
 pub mod Costs
 pub mod Walks
+pub mod Picks
 pub mod Soundness
 pub mod LastFlip
 pub mod Choice

@@ -1,14 +1,14 @@
 -- Laws of walks, each by recursion on the tree: what a run comes to part by part, what it never undoes, and what holds at its end if each step keeps it.
-use Prim.Native.Nat.{ℕ, _+_, _%_, _≤_}
+use Prim.Native.Nat.{ℕ, suc, _+_, _%_, _≤_}
 use mathlib.Core.Bool.{Bool, true, false, cond}
 use mathlib.Core.List.{List, [], _∷_, _++_, reverseAux}
 use mathlib.Core.Path.{_≡_, refl, ap}
 use native.Mathlib.Omega.{arith}
 use borrow.Author.Tests.{leb-true}
-use lib.Dec.{leb}
-use lib.ListN.{length, take, drop, getD}
+use lib.Dec.{leb, ltb}
+use lib.ListN.{length, take, drop, length-drop}
 use Rattle.plpb.specs.Plan.{Assignment}
-use Rattle.plpb.specs.Numbers.{Taken, taken, tooFew, takeWords, takePick}
+use Rattle.plpb.specs.Numbers.{Taken, taken, tooFew, takeWords, fair, pickAmong, takePick}
 use Rattle.plpb.specs.Walk.{Walk, done, words, pick, look, flipped, found, _>>=_, Mark, at, drawn, oneFlip, oneFind, Outcome, ends, short, run, looks}
 use Rattle.plpb.specs.Sound.{markOf}
 
@@ -88,9 +88,31 @@ module _ (ns : List ℕ) (u k : ℕ) where
   unfolding takeWords
   words-spend = next-spend (take k (drop u ns)) (leb (u + k) (length ns)) refl
 
+-- A pick goes through the numbers that are left, and uses those that it discards.
+unfoldable Goes : ℕ → ℕ → Taken ℕ → Type 0
+Goes u left (taken x v) = (u + 1 ≤ v) × (v ≤ u + left)
+Goes u left (tooFew v) = v ≡ u + left
+
+among-goes : (k : ℕ) (left : List ℕ) (u : ℕ) → Goes u (length left) (pickAmong k left u)
+unfolding pickAmong Goes
+among-goes k [] u = omega arith
+among-goes k (r ∷ rest) u = either (ltb r (fair k)) (pickAmong k rest (u + 1)) (among-goes k rest (u + 1))
+  where
+    on : (t : Taken ℕ) → Goes (u + 1) (length rest) t → Goes u (suc (length rest)) t
+    on (taken x v) g = (omega (arith, g .0), omega (arith, g .1))
+    on (tooFew v) g = omega (arith, g)
+
+    either : (b : Bool) (t : Taken ℕ) → Goes (u + 1) (length rest) t → Goes u (suc (length rest)) (cond b (taken (r % k) (u + 1)) t)
+    either true t g = (omega arith, omega arith)
+    either false t g = on t g
+
 pub pick-spends : (ns : List ℕ) (u k : ℕ) → Spends (length ns) u 1 (takePick k ns u)
-unfolding takePick
-pick-spends ns u k = next-spend ns u 1 (getD ns u 0 % k) (leb (u + 1) (length ns)) refl
+unfolding takePick Goes Spends
+pick-spends ns u k = told (pickAmong k (drop u ns) u) (among-goes k (drop u ns) u)
+  where
+    told : (t : Taken ℕ) → Goes u (length (drop u ns)) t → Spends (length ns) u 1 t
+    told (taken x v) g = (g .0, omega (arith, g .0, g .1, length-drop u ns))
+    told (tooFew v) g = (omega (arith, g), λ h. omega (arith, g, length-drop u ns))
 
 -- What each step keeps, a run keeps.
 module _ (ns : List ℕ) (I : Mark → Type 0)

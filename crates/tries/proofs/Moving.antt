@@ -24,7 +24,8 @@ use Rattle.recount.specs.Core.{Flippable, recounted}
 use Rattle.tallies.proofs.Bits.{length-turned, turned-bits, turned-areBits, turned-beyond}
 use Rattle.tallies.proofs.TallyBytes.{roomy-fits, length-fresh, take-fresh, drop-fresh}
 use Rattle.tallies.proofs.Tallied.{fresh-words, clause-word, total-word}
-use Rattle.recount.proofs.Laid.{parts, clauses-word}
+use Rattle.recount.proofs.Laid.{parts, clauses-word, clauses-few}
+use Rattle.plpb.proofs.Lists.{count-le}
 use Rattle.costs.proofs.Costs.{room-of}
 use Rattle.numbers.specs.declared.Picked.{Picked}
 use Rattle.numbers.specs.declared.Picked.the-variants as picked
@@ -41,7 +42,7 @@ use Rattle.numbers.specs.Finding.{marked}
 use Rattle.tries.specs.declared.moves.Moved.{Moved}
 use Rattle.tries.specs.declared.moves.Moved.the-variants as moved
 use Rattle.tries.specs.Steps.{Work, bitsIn, tryIn, Walking, movedOf, usedIn, IfMade, InClause, Moves}
-use Rattle.format.specs.Layout.{holdingAt, ruleRoom, unsatisfiedAt}
+use Rattle.format.specs.Layout.{clauseRoom, holdingAt, ruleRoom, unsatisfiedAt}
 
 -- ---- a variable of the clause is chosen and flipped
 
@@ -197,6 +198,12 @@ module _ {tables terms : List ℕ} {w : Work} (k : Walking tables terms w) where
       let p = planOfTables tables terms in
       fresh-words p (k .ready .laid .room) (bitsIn tables terms w) (w .tallies) (k .fresh) unsatisfiedAt (omega arith)
       ∙ total-word p (roomy-fits p (k .ready .laid .room)) (bitsIn tables terms w)
+
+  -- Unsatisfied clauses are no more than the clauses.
+  pub unsatisfied-few : wordAt (w .tallies) unsatisfiedAt ≤ clauseRoom
+  unsatisfied-few =
+      let p = planOfTables tables terms in
+      omega (arith, unsatisfied-word, count-le (unsatisfied (bitsIn tables terms w)) (p .clauses), clauses-few tables terms (k .ready .laid), clauses-word tables terms (k .ready .laid))
 
   module _ (numbers : List ℕ) (used : ℕ) {m : ℕ} (r : Picked) (total : m ≡ wordAt (w .tallies) unsatisfiedAt) (e : takenOf r ≡ takePick m (numbersOf numbers) used) where
     drawn-among : takePick m (numbersOf numbers) used ≡ takePick (length (keep (unsatisfied (bitsIn tables terms w)) (planOfTables tables terms .clauses))) (numbersOf numbers) used

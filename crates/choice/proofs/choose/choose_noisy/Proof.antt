@@ -8,7 +8,7 @@ use Rattle.choice.proofs.choose.choose_noisy.Statement.{statement}
 use Rattle.choice.proofs.choose.choose_noisy.Tie as tie
 
 pick-requires : tie.Need-pick-requires
-pick-requires c κs = (omega arith, c .before .before .before .before .before .pre .2 .listed)
+pick-requires c κs = (omega arith, omega arith, c .before .before .before .before .before .pre .2 .listed)
 
 choose-least-requires : tie.Need-choose-least-requires
 choose-least-requires c κs =

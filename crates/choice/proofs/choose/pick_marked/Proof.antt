@@ -1,12 +1,13 @@
 -- `pick_marked` meets its contract, by whether a number is left.
 -- Assumes nothing.
 use borrow.Author.Needs.{needs}
-use Rattle.choice.proofs.Choosing.{place-found, mark-picked, mark-gone}
+use native.Mathlib.Omega.{arith}
+use Rattle.choice.proofs.Choosing.{marked-few, place-found, mark-picked, mark-gone}
 use Rattle.choice.proofs.choose.pick_marked.Statement.{statement}
 use Rattle.choice.proofs.choose.pick_marked.Tie as tie
 
 pick-requires : tie.Need-pick-requires
-pick-requires c κs = let at = c .before .before in (at .pre .some, at .pre .listed)
+pick-requires c κs = let at = c .before .before in (at .pre .some, omega (arith, marked-few (at .pre)), at .pre .listed)
 
 variable-marked-requires : tie.Need-variable-marked-requires
 variable-marked-requires c κs =

@@ -5,7 +5,7 @@ use Prim.Native.Nat.{_<_}
 use native.Mathlib.Omega.{arith}
 use mathlib.Core.Path.{refl}
 use Rattle.recount.proofs.Laid.{tables-long, clauses-few}
-use Rattle.tries.proofs.Moving.{tally-room, picked-within, picked-uses, picked-moves, gone-moves}
+use Rattle.tries.proofs.Moving.{tally-room, unsatisfied-few, picked-within, picked-uses, picked-moves, gone-moves}
 use Rattle.tries.proofs.moves.make_move.Statement.{statement}
 use Rattle.tries.proofs.moves.make_move.Tie as tie
 
@@ -14,7 +14,8 @@ index-requires c κs = let at = c .before .before .before .before .before .befor
 
 pick-requires : tie.Need-pick-requires
 pick-requires c κs =
-    let at = c .before .before .before .before .before .before .before .before in (omega (arith, at .pre .1, c .index .ensures), at .pre .2)
+    let at = c .before .before .before .before .before .before .before .before in
+    (omega (arith, at .pre .1, c .index .ensures), omega (arith, unsatisfied-few (at .pre .0), c .index .ensures), at .pre .2)
 
 index-requires-2 : tie.Need-index-requires-2
 index-requires-2 c κs =
