@@ -10,13 +10,19 @@ pub struct Figures {
     cases: [u64; CASES.len()],
 }
 
-/// What a fuzz run of plans with locks is to come upon.
-pub const CASES: [&str; 5] = [
+/// What a fuzz run is to come upon: cases of locks, then of picks.
+pub const CASES: [&str; 11] = [
     "stuck",
     "found with locks",
     "opened against locks",
     "counts of a locked variable",
     "changed locks refused",
+    "discarded",
+    "noise discarded",
+    "ended among discards",
+    "kept below a limit",
+    "kept at the top",
+    "high starts",
 ];
 
 /// By the numbers of the C interface.
@@ -94,7 +100,7 @@ impl fmt::Display for Figures {
         for (name, count) in ENDINGS.iter().zip(self.endings) {
             write!(f, " {name}: {count}")?;
         }
-        write!(f, "\nlocks:")?;
+        write!(f, "\nlocks and picks:")?;
         for (name, count) in CASES.iter().zip(self.cases) {
             write!(f, " {name}: {count}")?;
         }

@@ -32,11 +32,12 @@ fn settings(random: &mut Random) -> Settings {
     settings
 }
 
-/// A list of any length in bytes. Its numbers are any, or all from a few.
+/// A list of any length in bytes. Its numbers are any, or many lie around the limits of picks, or all
+/// are from a few.
 fn list(random: &mut Random) -> Vec<u8> {
     let most = [10, 60, 250][random.below(3)];
     let count = random.below(most);
-    let mut numbers = random.numbers(count);
+    let mut numbers = random.any_numbers(count);
     if random.percent(20) {
         let few = [0, 1, u32::MAX, making::word(random)];
         numbers.fill_with(|| few[random.below(few.len())]);
@@ -56,6 +57,9 @@ pub fn case(random: &mut Random, figures: &mut Figures) -> Searched {
     let lent = Lent::sized(random, &tables, &terms, &numbers, lengths);
     let (answer, seen) = lent.check_seen(&settings(random));
     figures.note("stuck", seen.stuck > 0);
+    for (name, count) in seen.picks.named() {
+        figures.note(name, count > 0);
+    }
     let locked = || layout::loaded(&tables, &terms).is_some_and(|plan| !plan.locks.is_empty());
     figures.note("found with locks", answer.finds > 0 && locked());
     answer

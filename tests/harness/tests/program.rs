@@ -6,6 +6,7 @@ use reference::file::{write, write_field, write_numbers, write_settings, WALK};
 use reference::plan::Plan;
 use reference::random::{self, Random};
 use reference::walk::Settings;
+use reference::worked::walks;
 use std::collections::BTreeMap;
 use std::fs;
 use std::os::unix::fs::{symlink, PermissionsExt};
@@ -102,6 +103,17 @@ fn the_example_of_document_01() {
             _ => refusal(8, 0),
         };
         assert_eq!(printed, wanted);
+    }
+}
+
+/// The walks worked out by hand, through the program. A row's answer is the two lines in one.
+#[test]
+fn walks_worked_out_by_hand() {
+    for row in walks() {
+        let (plan, walk) = (write(&row.plan), write_settings(&row.settings));
+        let printed = check(&plan, &walk, &write_numbers(&row.numbers));
+        let lines: Vec<&str> = printed.lines().collect();
+        assert_eq!(lines.join(" "), row.answer, "{}", row.why);
     }
 }
 
@@ -362,7 +374,7 @@ fn small_files(random: &mut Random) -> [Vec<u8>; 3] {
         _ => short_settings(random),
     };
     let count = random.below(250);
-    let numbers = random.numbers(count);
+    let numbers = random.any_numbers(count);
     [
         write(&plan),
         write_settings(&settings),
@@ -456,7 +468,7 @@ fn the_full_limits() {
     for (locks, size) in [(0, 52_907), (400, 54_110), (512, 54_446)] {
         let plan = write(&random::locked_full_plan(&mut random, locks));
         assert_eq!(plan.len(), size);
-        let numbers = write_numbers(&random.numbers(2_500));
+        let numbers = write_numbers(&random.any_numbers(2_500));
         let printed = check(&plan, &write_settings(&settings), &numbers);
         assert!(!printed.starts_with("refused"));
     }

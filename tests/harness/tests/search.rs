@@ -6,7 +6,7 @@ use harness::searching::{refused, Lent, ENDINGS, SIZES};
 use reference::file::{parse, parse_settings, write_numbers};
 use reference::plan::Plan;
 use reference::random::{self, Random};
-use reference::walk::{Settings, LBS, LINEAR};
+use reference::walk::{Picks, Settings, LBS, LINEAR};
 use reference::worked::walks;
 
 /// Searches on noisy buffers and compares all with the reference.
@@ -40,7 +40,14 @@ fn short_settings(random: &mut Random) -> Settings {
 }
 
 fn list(random: &mut Random, count: usize) -> Vec<u8> {
-    write_numbers(&random.numbers(count))
+    write_numbers(&random.any_numbers(count))
+}
+
+/// Each of these came up so often: discards of both kinds, a list that ends among them, numbers kept
+/// right below a limit and at the top where nothing is discarded, and starts with high numbers.
+fn came_up(picks: &Picks, least: u64) {
+    let named = picks.named();
+    assert!(named.iter().all(|&(_, count)| count > least), "{named:?}");
 }
 
 /// "n = 2, objective 1·x1 + 2·x2, one clause x1 + x2 ≥ 1; noise 500, tries 1, flips 1, mode 1;
@@ -115,7 +122,7 @@ fn the_race_day_example() {
 #[test]
 fn running_short_at_every_place() {
     let mut random = Random::new(43);
-    let (mut whole, mut met) = (0, [0; 6]);
+    let (mut whole, mut met, mut picks) = (0, [0; 6], Picks::default());
     while whole < 150 {
         let plan = match random.below(4) {
             0 => random::small_plan(&mut random),
@@ -131,19 +138,23 @@ fn running_short_at_every_place() {
         for used in 0..=answer.used + 1 {
             // At times some bytes of the next number.
             let cut = 4 * used + [0, random.below(4)][random.below(2)];
-            let part = check(&mut random, &plan, &settings, &numbers[..cut]);
+            let lent = Lent::new(&mut random, &plan, &numbers[..cut]);
+            let (part, seen) = lent.check_seen(&settings);
+            picks += seen.picks;
             assert!(part.ending > 3 || used >= answer.used);
             met[part.ending as usize] += 1;
         }
         whole += 1;
     }
     assert!(met[1..].iter().all(|&count| count > 20), "{met:?}");
+    came_up(&picks, 50);
 }
 
 #[test]
 fn random_small_plans() {
     let mut random = Random::new(44);
     let (mut met, mut stuck, mut partly, mut found) = ([0; 6], 0, 0, 0);
+    let mut picks = Picks::default();
     for round in 0..6_000 {
         let plan = match round % 3 {
             0 => random::small_plan(&mut random),
@@ -158,6 +169,7 @@ fn random_small_plans() {
         numbers.truncate(numbers.len().saturating_sub(random.below(4)));
         let (answer, seen) = Lent::new(&mut random, &plan, &numbers).check_seen(&settings);
         met[answer.ending as usize] += 1;
+        picks += seen.picks;
         stuck += (seen.stuck > 0) as u32;
         partly += (seen.partly_locked > 0) as u32;
         found += (answer.finds > 0 && !plan.locks.is_empty()) as u32;
@@ -168,6 +180,7 @@ fn random_small_plans() {
         stuck > 50 && partly.min(found) > 500,
         "{stuck} {partly} {found}"
     );
+    came_up(&picks, 100);
 }
 
 /// Counts on both sides of the cap, and ties at it.

@@ -7,7 +7,7 @@ use crate::file::{
 };
 use crate::literals::Literals;
 use crate::plan::{sum, Clause, Lock, Plan, Rule, Term};
-use crate::walk::Settings;
+use crate::walk::{limit, Settings, NOISE_PLACES};
 
 /// The generator xorshift64*, with a few ways to draw from it.
 #[derive(Clone, Debug)]
@@ -56,6 +56,39 @@ impl Random {
     /// A list of numbers.
     pub fn numbers(&mut self, count: usize) -> Vec<u32> {
         (0..count).map(|_| self.number()).collect()
+    }
+
+    /// A list of which half the numbers lie around the limits of picks, so that many are discarded;
+    /// at times nothing but the highest number stands from some place on, so that the list is likely
+    /// to end among discards.
+    pub fn numbers_at_limits(&mut self, count: usize) -> Vec<u32> {
+        let mut list: Vec<u32> = (0..count).map(|_| self.number_at_limits()).collect();
+        if self.percent(30) {
+            let from = self.below(count + 1);
+            list[from..].fill(u32::MAX);
+        }
+        list
+    }
+
+    fn number_at_limits(&mut self) -> u32 {
+        match self.below(6) {
+            0 => u32::MAX - self.below(4) as u32,
+            1 => u32::MAX - self.below(2 * NOISE_PLACES) as u32,
+            2 => {
+                let m = [NOISE_PLACES, 1 + self.below(12)][self.below(2)];
+                let beside = limit(m) - 2 + self.below(4) as u64;
+                beside.min(u32::MAX as u64) as u32
+            }
+            _ => self.number(),
+        }
+    }
+
+    /// A list of either kind.
+    pub fn any_numbers(&mut self, count: usize) -> Vec<u32> {
+        match self.percent(50) {
+            true => self.numbers_at_limits(count),
+            false => self.numbers(count),
+        }
     }
 
     /// An assignment of n variables.
@@ -497,7 +530,7 @@ pub fn program_files(random: &mut Random) -> [Vec<u8>; 3] {
     let mut files = [
         write(&plan),
         write_settings(&settings(random)),
-        write_numbers(&random.numbers(count)),
+        write_numbers(&random.any_numbers(count)),
     ];
     match random.below(8) {
         0 => files[0] = damage(random, &files[0]),

@@ -1,5 +1,5 @@
-//! The walk (document 01, "The walk"; document 02, T-01; paper 004, Algorithms 1 and 2; paper 000,
-//! Algorithm 1).
+//! The walk (document 01, "The walk"; document 02, T-01 and T-06; paper 004, Algorithms 1 and 2; paper
+//! 000, Algorithm 1).
 
 use crate::counts::Counter;
 use crate::file::Refusal;
@@ -81,15 +81,93 @@ impl Answer {
 #[derive(Clone, Copy, Debug, PartialEq, Eq)]
 pub struct Short;
 
+/// How many numbers of 32 bits there are.
+const ALL_NUMBERS: u64 = 4_294_967_296;
+
+/// "The noise number follows the same rule with 1,000."
+pub const NOISE_PLACES: usize = 1_000;
+
+/// "The largest multiple of m up to 4,294,967,296": that number itself where m divides it.
+pub fn limit(m: usize) -> u64 {
+    ALL_NUMBERS / m as u64 * m as u64
+}
+
+/// What came up in the picks of a search.
+#[derive(Clone, Copy, Debug, Default, PartialEq, Eq)]
+pub struct Picks {
+    /// Numbers discarded for a place.
+    pub discarded: u64,
+    /// Numbers discarded for the noise number.
+    pub noise_discarded: u64,
+    /// Picks for which the list ended right behind a number that they discarded.
+    pub ended_among_discards: u64,
+    /// Picks that kept one of the m numbers right below a limit that is not 4,294,967,296.
+    pub kept_below_limit: u64,
+    /// Picks that kept one of the last m of all numbers, since m divides 4,294,967,296.
+    pub kept_at_the_top: u64,
+    /// Starts that took a number that the noise number would discard.
+    pub high_starts: u64,
+}
+
+impl Picks {
+    /// Each count with its name.
+    pub fn named(&self) -> [(&'static str, u64); 6] {
+        [
+            ("discarded", self.discarded),
+            ("noise discarded", self.noise_discarded),
+            ("ended among discards", self.ended_among_discards),
+            ("kept below a limit", self.kept_below_limit),
+            ("kept at the top", self.kept_at_the_top),
+            ("high starts", self.high_starts),
+        ]
+    }
+
+    fn discard(&mut self, m: usize) {
+        match m {
+            NOISE_PLACES => self.noise_discarded += 1,
+            _ => self.discarded += 1,
+        }
+    }
+
+    fn keep(&mut self, m: usize, r: u32) {
+        let nearly = (r as u64 + m as u64 >= limit(m)) as u64;
+        match limit(m) {
+            ALL_NUMBERS => self.kept_at_the_top += nearly,
+            _ => self.kept_below_limit += nearly,
+        }
+    }
+
+    fn start(&mut self, taken: &[u32]) {
+        let high = |&r: &u32| r as u64 >= limit(NOISE_PLACES);
+        self.high_starts += taken.iter().any(high) as u64;
+    }
+}
+
+impl std::ops::AddAssign for Picks {
+    fn add_assign(&mut self, more: Picks) {
+        self.discarded += more.discarded;
+        self.noise_discarded += more.noise_discarded;
+        self.ended_among_discards += more.ended_among_discards;
+        self.kept_below_limit += more.kept_below_limit;
+        self.kept_at_the_top += more.kept_at_the_top;
+        self.high_starts += more.high_starts;
+    }
+}
+
 /// "Numbers are 32 bits, used in list order."
 pub struct Numbers<'a> {
     list: &'a [u32],
     used: usize,
+    picks: Picks,
 }
 
 impl<'a> Numbers<'a> {
     pub fn new(list: &'a [u32]) -> Numbers<'a> {
-        Numbers { list, used: 0 }
+        Numbers {
+            list,
+            used: 0,
+            picks: Picks::default(),
+        }
     }
 
     pub fn used(&self) -> usize {
@@ -106,17 +184,32 @@ impl<'a> Numbers<'a> {
         Ok(taken)
     }
 
-    /// "A pick among m uses one number r and takes place r mod m, from 0 ... m = 1 uses one too."
+    /// "A pick among m uses one number r and takes place r mod m, from 0 ... m = 1 uses one too." "A
+    /// pick now discards each number at or above the largest multiple of m up to 4,294,967,296 and
+    /// takes the next." "Discarded numbers count as used, also when the list ends among them."
     pub fn pick(&mut self, m: usize) -> Result<usize, Short> {
-        Ok(self.take(1)?[0] as usize % m)
+        let begin = self.used;
+        loop {
+            let Ok(taken) = self.take(1) else {
+                self.picks.ended_among_discards += (self.used > begin) as u64;
+                return Err(Short);
+            };
+            let r = taken[0];
+            if (r as u64) < limit(m) {
+                self.picks.keep(m, r);
+                return Ok(r as usize % m);
+            }
+            self.picks.discard(m);
+        }
     }
 }
 
 /// A try's start: "take ⌈n/32⌉ numbers; variable i gets bit (i−1) mod 32, bit 0 being the lowest,
 /// of number ⌊(i−1)/32⌋, counted from 0". "A try's start still uses all its numbers, then locked
-/// variables take their value."
+/// variables take their value." It is no pick, so that none of its numbers is discarded.
 pub fn start(plan: &Plan, numbers: &mut Numbers) -> Result<Vec<bool>, Short> {
     let taken = numbers.take(plan.variables.div_ceil(32))?;
+    numbers.picks.start(taken);
     let drawn: Vec<bool> = (1..=plan.variables)
         .map(|i| taken[(i - 1) / 32] >> ((i - 1) % 32) & 1 == 1)
         .collect();
@@ -151,8 +244,8 @@ pub struct Chosen {
 
 /// "Choice (Algorithm 2, SKC) among the clause's variables, each once: if any has break count 0,
 /// pick among those. Otherwise a number r with r mod 1000 < noise leads to a pick among the least
-/// break counts, else to a pick among all." Least is least of the counts given out, the capped
-/// ones.
+/// break counts, else to a pick among all." That number is a pick among 1,000, so that it discards as
+/// picks do. Least is least of the counts given out, the capped ones.
 pub fn choose(
     variables: &[usize],
     break_count: impl Fn(usize) -> u32,
@@ -167,7 +260,7 @@ pub fn choose(
         .collect();
     let (among, how) = if least == 0 {
         (&with_least[..], How::Free)
-    } else if numbers.pick(1000)? < noise as usize {
+    } else if numbers.pick(NOISE_PLACES)? < noise as usize {
         let (count, tied) = (least, with_least.len());
         (&with_least[..], How::Least { count, tied })
     } else {
@@ -191,6 +284,7 @@ pub struct Seen {
     pub stuck: u64,
     /// Choices in a clause that has locked variables too.
     pub partly_locked: u64,
+    pub picks: Picks,
 }
 
 impl Seen {
@@ -325,7 +419,14 @@ pub fn search_seen(
         flips: progress.flips,
         used: progress.numbers.used(),
     };
-    Ok((answer, progress.seen))
+    let picks = progress.numbers.picks;
+    Ok((
+        answer,
+        Seen {
+            picks,
+            ..progress.seen
+        },
+    ))
 }
 
 /// The whole search.

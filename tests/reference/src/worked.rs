@@ -256,6 +256,140 @@ fn ties() -> Vec<Worked> {
     table
 }
 
+/// The highest number there is.
+const TOP: u32 = u32::MAX;
+
+/// Picks among m that discard numbers at or above the largest multiple of m up to 4,294,967,296.
+fn discarded_places() -> Vec<Worked> {
+    let any = |n: usize| {
+        let ones: Vec<(usize, i64)> = (1..=n).map(|variable| (variable, 1)).collect();
+        plan(n, &[], &[&[at_least(1, &ones)]])
+    };
+    let twice = settings(0, 1, 2, LINEAR);
+    let mut table = rows(
+        "From 000 the pick among one clause takes 4,294,967,295. Among three variables that number 
+         alone is discarded, and 4,294,967,294 takes place 2. What is discarded is used, also where 
+         the list ends there.",
+        any(3),
+        twice,
+        &[
+            (&[0, TOP], "short-none 0 0 0 2 -"),
+            (&[0, TOP, TOP], "short-none 0 0 0 3 -"),
+            (&[0, TOP, TOP, TOP], "short-none 0 0 0 4 -"),
+            (&[0, TOP, TOP, 1], "floor 0 1 1 4 010"),
+            (&[0, TOP, TOP, TOP, TOP, 2], "floor 0 1 1 6 001"),
+            (&[0, TOP, TOP - 1], "floor 0 1 1 3 001"),
+        ],
+    );
+    table.extend(rows(
+        "4,294,967,296 is 4 above a multiple of 7: 4,294,967,292 is discarded, and 4,294,967,291 takes 
+         the last place.",
+        any(7),
+        twice,
+        &[
+            (&[0, 0, TOP - 4], "floor 0 1 1 3 0000001"),
+            (&[0, 0, TOP - 3, TOP - 5], "floor 0 1 1 4 0000010"),
+            (&[0, 0, TOP, TOP - 3, 14], "floor 0 1 1 5 1000000"),
+        ],
+    ));
+    for n in [1, 2, 4, 32] {
+        table.extend(rows(
+            "m divides 4,294,967,296, so nothing is discarded: the highest number takes the last 
+             place.",
+            any(n),
+            twice,
+            &[(
+                &[0, TOP, TOP],
+                &format!("floor 0 1 1 3 {}", digits(n, &[n])),
+            )],
+        ));
+    }
+    let start = [0; 16];
+    table.extend(rows(
+        "512 divides it too.",
+        any(512),
+        twice,
+        &[(
+            &[&start[..], &[TOP, TOP]].concat(),
+            &format!("floor 0 1 1 18 {}", digits(512, &[512])),
+        )],
+    ));
+    let each = |variable| [at_least(1, &[(variable, 1)])];
+    table.extend(rows(
+        "The clause pick. From 000 three clauses are unsatisfied: 4,294,967,295 is discarded, and 2 
+         leads to x3. Then two are: it is kept and leads to x2, at last to x1.",
+        plan(3, &[], &[&each(1), &each(2), &each(3)]),
+        settings(0, 1, 4, LINEAR),
+        &[
+            (&[0, TOP, 2, TOP, TOP, TOP, TOP, TOP], "floor 0 1 3 8 111"),
+            (&[0, TOP, 2, TOP, TOP, TOP, TOP], "short-none 0 0 2 7 -"),
+            (&[0, TOP, TOP], "short-none 0 0 0 3 -"),
+        ],
+    ));
+    table.extend(rows(
+        "After a find. O ≤ 2 from 111 picks among one clause and three variables: the list ends 
+         among discards, or 1 flips x2, and O ≤ 1 needs a start.",
+        plan(3, &[(1, 1), (2, 1), (3, 1)], &[]),
+        twice,
+        &[
+            (&[7, 7, TOP, TOP], "short-found 3 1 0 4 111"),
+            (&[7, 7, TOP, TOP, TOP], "short-found 3 1 0 5 111"),
+            (&[7, 7, TOP, TOP, 1], "short-found 2 2 1 5 101"),
+        ],
+    ));
+    table
+}
+
+/// Noise numbers, the picks after them, and starts.
+fn discarded_noise() -> Vec<Worked> {
+    let far = [at_most(2, &[(1, 10), (2, 20)]), at_least(1, &[(3, 1)])];
+    let near = [at_least(1, &[(1, 1), (2, 1)])];
+    let mut table = rows(
+        "At 000 only x1 + x2 ≥ 1 is unsatisfied, and x1 spoils less of the other clause than x2. With 
+         noise 1 only a number 0 of 1,000 leads to x1, any other to a pick among both, where 1 takes 
+         x2. Then x3 alone has break 0. From 4,294,967,000 on a noise number is discarded.",
+        plan(3, &[], &[&near, &far]),
+        settings(1, 1, 3, LINEAR),
+        &[
+            (&[0, 0, 4_294_966_000, 1, 0, 0], "floor 0 1 2 6 101"),
+            (&[0, 0, 4_294_966_999, 1, 0, 0], "floor 0 1 2 6 011"),
+            (&[0, 0, 4_294_967_000, 1, 1, 0, 0], "floor 0 1 2 7 011"),
+            (&[0, 0, TOP, TOP, 0, 1, 0, 0], "floor 0 1 2 8 101"),
+            (&[0, 0, 4_294_967_000], "short-none 0 0 0 3 -"),
+            (&[0, 0, TOP, 4_294_967_000], "short-none 0 0 0 4 -"),
+            (&[0, 0, TOP, 0], "short-none 0 0 0 4 -"),
+        ],
+    );
+    let none = [
+        at_most(0, &[(1, 1), (2, 1), (3, 1)]),
+        at_least(1, &[(4, 1)]),
+    ];
+    for noise in [0, 1_000] {
+        table.extend(rows(
+            "At 0000 each of x1, x2, x3 spoils one clause, so that the least are all, and either 
+             pick is among three. Then x4 alone has break 0.",
+            plan(4, &[], &[&[at_least(1, &[(1, 1), (2, 1), (3, 1)])], &none]),
+            settings(noise, 1, 3, LINEAR),
+            &[
+                (&[0, 7, 0, TOP, 1, TOP, TOP], "floor 0 1 2 7 0101"),
+                (&[0, 7, 0, TOP], "short-none 0 0 0 4 -"),
+                (&[0, 7, 0, TOP, 1, TOP], "short-none 0 0 1 6 -"),
+            ],
+        ));
+    }
+    let all: Vec<usize> = (1..=33).collect();
+    table.extend(rows(
+        "A start discards nothing, and takes none where one is missing.",
+        plan(33, &[], &[]),
+        settings(0, 1, 1, LINEAR),
+        &[
+            (&[TOP], "short-none 0 0 0 0 -"),
+            (&[TOP, TOP], &format!("floor 0 1 0 2 {}", digits(33, &all))),
+        ],
+    ));
+    table
+}
+
 /// LBS: its bound, and over to linear for good.
 fn lbs() -> Vec<Worked> {
     let numbers = [7, 6, 6, 0, 0, 2, 2, 0, 0];
@@ -430,6 +564,8 @@ pub fn walks() -> Vec<Worked> {
         starts(),
         picks(),
         ties(),
+        discarded_places(),
+        discarded_noise(),
         lbs(),
         locked_choices(),
         stuck(),

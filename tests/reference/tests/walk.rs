@@ -34,7 +34,7 @@ fn walked(plan: &Plan, settings: Settings, numbers: &[u32]) -> String {
 #[test]
 fn walks_worked_out_by_hand() {
     let table = walks();
-    assert!(table.len() >= 60, "{}", table.len());
+    assert!(table.len() >= 110, "{}", table.len());
     for row in table {
         let answer = walked(&row.plan, row.settings, &row.numbers);
         assert_eq!(answer, row.answer, "{}", row.why);
@@ -77,9 +77,13 @@ fn choice_by_hand() {
     assert_eq!(chosen([4, 2, 2, 9], 1, &[0, 0]), (Ok(5), 2));
     assert_eq!(chosen([4, 2, 2, 9], 1, &[1, 0]), (Ok(3), 2));
     assert_eq!(chosen([4, 2, 2, 9], 1_000, &[999, 7]), (Ok(8), 2));
-    // 4,294,967,295 mod 1,000 is 295.
-    assert_eq!(chosen([4, 2, 2, 9], 295, &[u32::MAX, 0]), (Ok(3), 2));
-    assert_eq!(chosen([4, 2, 2, 9], 296, &[u32::MAX, 0]), (Ok(5), 2));
+    // 4,294,966,295 mod 1,000 is 295; from 4,294,967,000 on a noise number is discarded.
+    assert_eq!(chosen([4, 2, 2, 9], 295, &[4_294_966_295, 0]), (Ok(3), 2));
+    assert_eq!(chosen([4, 2, 2, 9], 296, &[4_294_966_295, 0]), (Ok(5), 2));
+    assert_eq!(chosen([4, 2, 2, 9], 296, &[u32::MAX, 0, 0]), (Ok(5), 3));
+    assert_eq!(chosen([4, 2, 2, 9], 296, &[u32::MAX, 500, 3]), (Ok(9), 3));
+    assert_eq!(chosen([4, 2, 2, 9], 1, &[u32::MAX - 295]), (Err(Short), 1));
+    assert_eq!(chosen([4, 2, 2, 9], 1, &[u32::MAX - 296, 0]), (Ok(3), 2));
     // Counts at the cap tie.
     assert_eq!(chosen([u32::MAX; 4], 1_000, &[0, 3]), (Ok(9), 2));
     // The noise number is used up even where none is left for the pick.
@@ -88,8 +92,47 @@ fn choice_by_hand() {
     assert_eq!(chosen([4, 2, 2, 9], 500, &[]), (Err(Short), 0));
 }
 
-/// What must hold of any answer, whatever the numbers.
-fn check(plan: &Plan, settings: &Settings, list: &[u32], answer: &Answer) {
+/// "The largest multiple of m up to 4,294,967,296": a multiple, no larger, and the next one is.
+#[test]
+fn limits_of_picks() {
+    for m in 1..=1_000 {
+        let all = 4_294_967_296;
+        assert!(limit(m).is_multiple_of(m as u64) && limit(m) <= all && limit(m) + m as u64 > all);
+    }
+    for m in [1, 2, 4, 512] {
+        assert_eq!(limit(m), 4_294_967_296);
+    }
+    assert_eq!(limit(3), 4_294_967_295);
+    assert_eq!(limit(1_000), 4_294_967_000);
+}
+
+/// Numbers around the limits: the place taken, and how many numbers were used.
+#[test]
+fn picks_around_their_limits() {
+    let picked = |m, list: &[u32]| {
+        let mut numbers = Numbers::new(list);
+        (numbers.pick(m), numbers.used())
+    };
+    for m in [1, 2, 4, 512] {
+        for r in [0, u32::MAX - 1, u32::MAX] {
+            assert_eq!(picked(m, &[r]), (Ok(r as usize % m), 1));
+        }
+    }
+    assert_eq!(picked(3, &[u32::MAX - 1]), (Ok(2), 1));
+    assert_eq!(picked(3, &[u32::MAX, 4]), (Ok(1), 2));
+    assert_eq!(picked(3, &[u32::MAX, u32::MAX, 5]), (Ok(2), 3));
+    assert_eq!(picked(3, &[u32::MAX, u32::MAX]), (Err(Short), 2));
+    assert_eq!(picked(3, &[]), (Err(Short), 0));
+    assert_eq!(picked(1_000, &[4_294_966_999]), (Ok(999), 1));
+    assert_eq!(picked(1_000, &[4_294_967_000, 7]), (Ok(7), 2));
+    assert_eq!(picked(1_000, &[4_294_967_000]), (Err(Short), 1));
+    // 513 clauses, with the added one: 513 · 8,372,256 is 4,294,967,328, and the limit is 513 below.
+    assert_eq!(picked(513, &[4_294_966_814]), (Ok(512), 1));
+    assert_eq!(picked(513, &[4_294_966_815, 513]), (Ok(0), 2));
+}
+
+/// What must hold of any answer, whatever the numbers; and what came up in the search.
+fn check(plan: &Plan, settings: &Settings, list: &[u32], answer: &Answer) -> Seen {
     let costs: Vec<i64> = answer.finds.iter().map(|found| plan.cost(found)).collect();
     assert!(answer.finds.iter().all(|found| plan.satisfied(found)));
     assert!(answer.finds.iter().all(|found| plan.obeyed(found)));
@@ -112,6 +155,7 @@ fn check(plan: &Plan, settings: &Settings, list: &[u32], answer: &Answer) {
         let most = whole - seen.stuck;
         assert!(answer.flips <= most && (seen.stuck > 0 || answer.flips == whole));
     }
+    seen
 }
 
 /// What came up in searches of plans with locks.
@@ -125,7 +169,7 @@ fn plans_with_locks() {
             _ => small_met_plan(&mut random),
         };
         let settings = random::settings(&mut random);
-        let list = random.numbers(80);
+        let list = random.any_numbers(80);
         let (answer, seen) = search_seen(&plan, &settings, &list).unwrap();
         check(&plan, &settings, &list, &answer);
         if plan.locks.is_empty() {
@@ -161,7 +205,7 @@ fn the_floor_of_small_plans() {
 #[test]
 fn every_ending_and_running_short_at_every_place() {
     let mut random = Random::new(31);
-    let mut met = [0; 5];
+    let (mut met, mut picks) = ([0; 5], Picks::default());
     for round in 0..3_000 {
         let plan = match round % 3 {
             0 => small_plan(&mut random),
@@ -170,9 +214,9 @@ fn every_ending_and_running_short_at_every_place() {
         let mut settings = random::settings(&mut random);
         settings.tries = 1 + settings.tries % 3;
         settings.flips = 1 + settings.flips % 12;
-        let list = random.numbers(60);
+        let list = random.any_numbers(60);
         let whole = search(&plan, &settings, &list).unwrap();
-        check(&plan, &settings, &list, &whole);
+        picks += check(&plan, &settings, &list, &whole).picks;
         met[whole.ending as usize] += 1;
         let is_short =
             |answer: &Answer| matches!(answer.ending, Ending::ShortFound | Ending::ShortNone);
@@ -183,7 +227,7 @@ fn every_ending_and_running_short_at_every_place() {
                 continue;
             }
             // Short of its needs: with at most 32 variables every need is one number.
-            check(&plan, &settings, &list[..cut], &part);
+            picks += check(&plan, &settings, &list[..cut], &part).picks;
             assert!(is_short(&part) && part.used == cut);
             assert!(whole.finds.starts_with(&part.finds));
             assert!(part.flips <= whole.flips);
@@ -191,6 +235,8 @@ fn every_ending_and_running_short_at_every_place() {
         }
     }
     assert!(met.iter().all(|&count| count > 100), "{met:?}");
+    let named = picks.named();
+    assert!(named.iter().all(|&(_, n)| n > 1_000), "{named:?}");
 }
 
 #[test]
