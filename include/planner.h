@@ -182,7 +182,7 @@ typedef struct {
     int64_t cost;    /* of the last find; 0 with none */
     size_t finds;    /* how many assignments were found, each cheaper than the one before */
     size_t flips;    /* made, over all tries */
-    size_t used;     /* how many of the numbers */
+    size_t used;     /* how many of the numbers, discarded ones too */
 } planner_searched;
 
 /* An ending by its name and in plain words, for a screen. */
@@ -234,8 +234,9 @@ planner_counted planner_counts(const uint8_t *tables, size_t tables_length, cons
  * the SKC choice. A locked variable has its value from each try's start on and is not chosen; a try that picks a clause
  * without an unlocked variable ends there. noise is how many of 1,000 choices take the least break count where every one
  * spoils something; the others take any. Each call of the walk has so many tries of so many flips. numbers is a list of
- * any length, each number of 4 bytes, little-endian: the same plan, settings and list give the same answer. A last
- * number of fewer than 4 bytes is not read.
+ * any length, each number of 4 bytes, little-endian: the same plan, settings and list give the same answer. A pick among
+ * m discards each number at or above the largest multiple of m up to 4,294,967,296 and takes the next, so that no place
+ * is favoured; the noise number is such a pick among 1,000. A last number of fewer than 4 bytes is not read.
  * PLANNER_BUFFER_TOO_SMALL (a buffer other than numbers), PLANNER_NOT_LOADED, PLANNER_WRONG_NOISE, PLANNER_WRONG_TRIES,
  * PLANNER_WRONG_FLIPS, PLANNER_WRONG_MODE; with a refusal every other field of the answer is 0.
  * Accepted: the answer is that of the walk. With a find (finds is not 0: ending 1, 2 or 4) the first n bytes of
