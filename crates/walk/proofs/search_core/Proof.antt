@@ -10,63 +10,73 @@ use Rattle.walk.proofs.search_core.Tie as tie
 
 call-requires : tie.Need-call-requires
 call-requires c κs =
-    let b = c .before .before .before .before .before .before .before in
-    let a = b .before .before .before .before in
-    (core-startable (a .before .before .before .before .before .before .before .before .before .before .before .pre) (a .copy .ensures) (b .copy2 .ensures), omega arith, omega arith)
+    let terms-copied = c .before .before .before .before .before .before .before in
+    let tables-copied = terms-copied .before .before .before .before in
+    let start = tables-copied .before .before .before .before .before .before .before .before .before .before .before in
+    (core-startable (start .pre) (tables-copied .copy .ensures) (terms-copied .copy2 .ensures), omega arith, omega arith)
 
 from-find-requires : tie.Need-from-find-requires
 from-find-requires c κs =
-    let k = c .before .before .before .before .before .before .before .before .before .before .before .before .before .before .before in
-    let b = k .before .before .before .before .before .before .before .before in
-    let a = b .before .before .before .before in
-    let at = a .before .before .before .before .before .before .before .before .before .before .before in
-    core-first (at .pre) (a .copy .ensures) (b .copy2 .ensures) (settingsOf (at .args .s)) _ (k .call .ensures) (c .before .before .before .before .before .before .before .t .given .1)
+    let reached = c .before .before .before .before .before .before .before in
+    let called = reached .before .before .before .before .before .before .before .before in
+    let terms-copied = called .before .before .before .before .before .before .before .before in
+    let tables-copied = terms-copied .before .before .before .before in
+    let start = tables-copied .before .before .before .before .before .before .before .before .before .before .before in
+    core-first (start .pre) (tables-copied .copy .ensures) (terms-copied .copy2 .ensures) (settingsOf (start .args .s)) _ (called .call .ensures) (reached .t .given .1)
     (record {
-      assignment = omega (arith, at .pre .work .assignment, c .before .before .before .before .before .before .before .before .before .before .before .before .before .before .tried .given);
-      tallies = omega (arith, at .pre .work .tallies, c .before .before .before .before .before .before .before .before .before .before .before .before .tallies .given);
-      marks = omega (arith, at .pre .work .marks, c .before .before .before .before .before .before .before .before .before .before .marks .given);
+      assignment = omega (arith, start .pre .work .assignment, reached .before .before .before .before .before .before .before .tried .given);
+      tallies = omega (arith, start .pre .work .tallies, reached .before .before .before .before .before .tallies .given);
+      marks = omega (arith, start .pre .work .marks, reached .before .before .before .marks .given);
     })
 
 same-length-2 : tie.Need-same-length-2
-same-length-2 c = c .before .before .before .before .before .before .before .before .before .tables2 .given ∙ c .before .before .before .before .before .before .before .before .before .before .before .before .before .before .before .before .before .before .before .before .before .before .before .before .before .before .before .before .before .before .before .before .before .before .before .before .before .before .before .tables .given
+same-length-2 c =
+    let found = c .before .before .before .before .before .before .before .before .before in
+    let called = found .before .before .before .before .before .before .before .before .before .before .before .before .before .before .before .before .before .before .before in
+    let tables-copied = called .before .before .before .before .before .before .before .before .before .before .before in
+    found .tables2 .given ∙ tables-copied .tables .given
 
 same-length-3 : tie.Need-same-length-3
-same-length-3 c = c .before .before .before .before .before .before .before .terms2 .given ∙ c .before .before .before .before .before .before .before .before .before .before .before .before .before .before .before .before .before .before .before .before .before .before .before .before .before .before .before .before .before .before .before .before .before .before .before .terms .given
+same-length-3 c =
+    let found = c .before .before .before .before .before .before .before in
+    let called = found .before .before .before .before .before .before .before .before .before .before .before .before .before .before .before .before .before .before .before .before .before in
+    let terms-copied = called .before .before .before .before .before .before .before in
+    found .terms2 .given ∙ terms-copied .terms .given
 
 returns : tie.Need-returns
 returns c =
-    let f = c .before .before .before .before .before .before .before .before .before .before .before .before in
-    let m = f .before .before .before .before .before .before .before .before in
-    let k = m .before .before .before .before .before .before .before .before in
-    let b = k .before .before .before .before .before .before .before .before in
-    let a = b .before .before .before .before in
-    let at = a .before .before .before .before .before .before .before .before .before .before .before in
-    let z = f .from-find .ensures in (
-      core-found (at .pre) (a .copy .ensures) (b .copy2 .ensures) (settingsOf (at .args .s)) _ (k .call .ensures) (m .t .given .1) (z .0),
-      z .1 ∙ copied-table (at .pre) (a .copy .ensures) (b .copy2 .ensures),
-      z .2 ∙ copied-terms (at .pre) (a .copy .ensures) (b .copy2 .ensures),
+    let found = c .before .before .before .before .before .before .before .before .before .before .before .before in
+    let reached = found .before .before .before .before .before .before .before .before in
+    let called = reached .before .before .before .before .before .before .before .before in
+    let terms-copied = called .before .before .before .before .before .before .before .before in
+    let tables-copied = terms-copied .before .before .before .before in
+    let start = tables-copied .before .before .before .before .before .before .before .before .before .before .before in
+    let tightened = found .from-find .ensures in (
+      core-found (start .pre) (tables-copied .copy .ensures) (terms-copied .copy2 .ensures) (settingsOf (start .args .s)) _ (called .call .ensures) (reached .t .given .1) (tightened .0),
+      tightened .1 ∙ copied-table (start .pre) (tables-copied .copy .ensures) (terms-copied .copy2 .ensures),
+      tightened .2 ∙ copied-terms (start .pre) (tables-copied .copy .ensures) (terms-copied .copy2 .ensures),
     )
 
 returns-2 : tie.Need-returns-2
 returns-2 c =
-    let k = c .before .before .before .before .before .before .before .before .before .before in
-    let b = k .before .before .before .before .before .before .before .before in
-    let a = b .before .before .before .before in
-    let at = a .before .before .before .before .before .before .before .before .before .before .before in (
-      core-none (at .pre) (a .copy .ensures) (b .copy2 .ensures) (settingsOf (at .args .s)) _ (k .call .ensures) (c .before .before .t2 .given .1) (c .nothing .ensures),
-      copied-table (at .pre) (a .copy .ensures) (b .copy2 .ensures),
-      copied-terms (at .pre) (a .copy .ensures) (b .copy2 .ensures),
+    let called = c .before .before .before .before .before .before .before .before .before .before in
+    let terms-copied = called .before .before .before .before .before .before .before .before in
+    let tables-copied = terms-copied .before .before .before .before in
+    let start = tables-copied .before .before .before .before .before .before .before .before .before .before .before in (
+      core-none (start .pre) (tables-copied .copy .ensures) (terms-copied .copy2 .ensures) (settingsOf (start .args .s)) _ (called .call .ensures) (c .before .before .t2 .given .1) (c .nothing .ensures),
+      copied-table (start .pre) (tables-copied .copy .ensures) (terms-copied .copy2 .ensures),
+      copied-terms (start .pre) (tables-copied .copy .ensures) (terms-copied .copy2 .ensures),
     )
 
 returns-3 : tie.Need-returns-3
 returns-3 c =
-    let k = c .before .before .before .before .before .before .before .before .before .before in
-    let b = k .before .before .before .before .before .before .before .before in
-    let a = b .before .before .before .before in
-    let at = a .before .before .before .before .before .before .before .before .before .before .before in (
-      core-short (at .pre) (a .copy .ensures) (b .copy2 .ensures) (settingsOf (at .args .s)) _ (k .call .ensures) (c .before .before .t3 .given .1) (c .nothing2 .ensures),
-      copied-table (at .pre) (a .copy .ensures) (b .copy2 .ensures),
-      copied-terms (at .pre) (a .copy .ensures) (b .copy2 .ensures),
+    let called = c .before .before .before .before .before .before .before .before .before .before in
+    let terms-copied = called .before .before .before .before .before .before .before .before in
+    let tables-copied = terms-copied .before .before .before .before in
+    let start = tables-copied .before .before .before .before .before .before .before .before .before .before .before in (
+      core-short (start .pre) (tables-copied .copy .ensures) (terms-copied .copy2 .ensures) (settingsOf (start .args .s)) _ (called .call .ensures) (c .before .before .t3 .given .1) (c .nothing2 .ensures),
+      copied-table (start .pre) (tables-copied .copy .ensures) (terms-copied .copy2 .ensures),
+      copied-terms (start .pre) (tables-copied .copy .ensures) (terms-copied .copy2 .ensures),
     )
 
 pub search-core-spec : {M : Type 1} → statement M
