@@ -29,7 +29,8 @@ leastBreak p a (x ∷ xs) = min (cappedBreak p a x) (leastBreak p a xs)
 unfoldable pub withBreak : Plan → Assignment → ℕ → List ℕ → List ℕ
 withBreak p a b xs = keep (λ x. eqb (cappedBreak p a x) b) xs
 
--- "Otherwise a number r with r mod 1000 < noise leads to a pick among the least break counts, else to a pick among all."
+-- "Otherwise a number r with r mod 1000 < noise leads to a pick among the least break counts, else to a pick among all."; "The noise number follows
+-- the same rule with 1,000" (T-06).
 unfoldable pub noisyChoice : Settings → Plan → Try → List ℕ → Walk ℕ
 noisyChoice s p t xs = do
   r ← pick 1_000 done
