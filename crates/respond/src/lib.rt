@@ -45,8 +45,11 @@ fn is_found(ending: u32) -> bool
 fn write_answer(tables: &[u8], assignment: &[u8], r: Found, out: &mut [u8]) -> usize
     requires { ⌜ (4 ≤ length (now tables)) × (wordAt (now tables) 0 ≤ 512) × (wordAt (now tables) 0 ≤ length (now assignment))
         × (2_048 ≤ length (now out)) ⌝ }
-    ensures { λ k. ⌜ (now (out .exit) ≡ front (resultLine (endingOf (r .ending)) (r .cost) (r .finds) (r .flips) (r .used) ++ assignmentLine (hasPlan (r .ending)) (wordAt (now (tables .entry)) 0) (now (assignment .entry))) (now (out .entry)))
-        × (k ≡ length (resultLine (endingOf (r .ending)) (r .cost) (r .finds) (r .flips) (r .used) ++ assignmentLine (hasPlan (r .ending)) (wordAt (now (tables .entry)) 0) (now (assignment .entry)))) ⌝ }
+    ensures { λ k. ⌜ (now (out .exit)
+        ≡ front (resultLine (endingOf (r .ending)) (r .cost) (r .finds) (r .flips) (r .used)
+        ++ assignmentLine (hasPlan (r .ending)) (wordAt (now (tables .entry)) 0) (now (assignment .entry))) (now (out .entry)))
+        × (k ≡ length (resultLine (endingOf (r .ending)) (r .cost) (r .finds) (r .flips) (r .used)
+        ++ assignmentLine (hasPlan (r .ending)) (wordAt (now (tables .entry)) 0) (now (assignment .entry)))) ⌝ }
 {
     let first = result_line(
         out,
@@ -65,8 +68,11 @@ fn write_answer(tables: &[u8], assignment: &[u8], r: Found, out: &mut [u8]) -> u
 fn search_plan(tables: &[u8], terms: &[u8], numbers: &[u8], s: Settings, out: &mut [u8]) -> usize
     requires { ⌜ T (isLoaded (now tables) (now terms)) × (tableSize ≤ length (now tables)) × (termSize ≤ length (now terms))
         × (settingsRefusal s ≡ 0) × (2_048 ≤ length (now out)) ⌝ }
-    ensures { λ k. ⌜ (now (out .exit) ≡ front (answerText (searchOf (settingsOf s) (planOfTables (now (tables .entry)) (now (terms .entry))) (numbersOf (now (numbers .entry))))) (now (out .entry)))
-        × (k ≡ length (answerText (searchOf (settingsOf s) (planOfTables (now (tables .entry)) (now (terms .entry))) (numbersOf (now (numbers .entry)))))) ⌝ }
+    ensures { λ k. ⌜ (now (out .exit)
+        ≡ front (answerText (searchOf (settingsOf s) (planOfTables (now (tables .entry)) (now (terms .entry)))
+        (numbersOf (now (numbers .entry))))) (now (out .entry)))
+        × (k ≡ length (answerText (searchOf (settingsOf s) (planOfTables (now (tables .entry)) (now (terms .entry)))
+        (numbersOf (now (numbers .entry)))))) ⌝ }
 {
     let mut assignment = [0u8; format::ASSIGNMENT];
     let mut work_tables = [0u8; format::TABLES];
@@ -93,7 +99,9 @@ fn search_plan(tables: &[u8], terms: &[u8], numbers: &[u8], s: Settings, out: &m
 fn respond_loaded(tables: &[u8], terms: &[u8], walk: &[u8], numbers: &[u8], out: &mut [u8]) -> usize
     requires { ⌜ T (isLoaded (now tables) (now terms)) × (tableSize ≤ length (now tables)) × (termSize ≤ length (now terms))
         × (2_048 ≤ length (now out)) ⌝ }
-    ensures { λ k. ⌜ (now (out .exit) ≡ front (withSettings (planOfTables (now (tables .entry)) (now (terms .entry))) (now (numbers .entry)) (readWalk (now (walk .entry)))) (now (out .entry)))
+    ensures { λ k. ⌜ (now (out .exit)
+        ≡ front (withSettings (planOfTables (now (tables .entry)) (now (terms .entry)))
+        (now (numbers .entry)) (readWalk (now (walk .entry)))) (now (out .entry)))
         × (k ≡ length (withSettings (planOfTables (now (tables .entry)) (now (terms .entry))) (now (numbers .entry)) (readWalk (now (walk .entry))))) ⌝ }
 {
     let w = judge_walk(walk);
