@@ -32,7 +32,7 @@ use Rattle.numbers.specs.Numbers.{numbersOf}
 use Rattle.settings.specs.declared.Settings.{Settings as Asked}
 use Rattle.settings.specs.Settings.{settingsRefusal, settingsOf}
 use Rattle.search.specs.declared.Answer.{Answer as Answered}
-use Rattle.walk.specs.Whole.{withFind}
+use Rattle.finds.specs.Whole.{withFind}
 use Rattle.format.specs.Layout.{markSize}
 use Rattle.search.specs.Calls.{Lent, tooSmall, searchRefusal, answer, searchAssignment, endingNumber, unless, Searches, hasPlan}
 use Rattle.lines.specs.Text.{text, line, decimal, signedDecimal, endingOf, endingWord, resultLine, foundLine, assignmentLine, answerText}

@@ -31,7 +31,7 @@ use Rattle.settings.specs.Settings.{modeOf}
 use Rattle.tries.specs.Steps.{Work}
 use Rattle.search.specs.Calls.{Lent, searchRefusal, answer, searchAssignment, cleared, endingNumber, unless, Searches, hasPlan, HandsOut}
 use Rattle.tighten.specs.Bounds.{answerOf, endingOf}
-use Rattle.walk.specs.Whole.{Whole}
+use Rattle.finds.specs.Whole.{Whole}
 use Rattle.format.specs.Layout.{markSize}
 use Rattle.search.proofs.Refusing.{accepted}
 

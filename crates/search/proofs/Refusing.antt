@@ -17,7 +17,7 @@ use Rattle.settings.specs.declared.Settings.{Settings as Asked}
 use Rattle.settings.specs.Settings.{settingsRefusal}
 use Rattle.search.specs.Calls.{Lent, tablesSmall, workSmall, tooSmall, searchRefusal, searchAssignment, cleared, unless, Searches, hasPlan, HandsOut}
 use Rattle.tries.specs.Steps.{Work}
-use Rattle.walk.specs.Whole.{Searchable}
+use Rattle.finds.specs.Whole.{Searchable}
 use Rattle.format.specs.Layout.{tableSize, tallySize, termSize}
 
 -- ---- room

@@ -30,7 +30,7 @@ use Rattle.settings.specs.declared.Settings.{Settings as Asked}
 use Rattle.settings.specs.Settings.{settingsRefusal, settingsOf}
 use Rattle.tallies.proofs.Bits.{length-bitBytes}
 use Rattle.search.specs.Calls.{Lent, tooSmall, searchRefusal, answer, searchAssignment, cleared}
-use Rattle.walk.specs.Whole.{withFind}
+use Rattle.finds.specs.Whole.{withFind}
 use Rattle.format.specs.Layout.{markSize}
 use Rattle.search.specs.Within.{SameLent, SearchesWithin}
 use Rattle.search.proofs.Refusing.{accepted}

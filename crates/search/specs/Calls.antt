@@ -15,7 +15,7 @@ use Rattle.format.specs.Tables.{tableSize, termSize, planOfTables, isLoaded}
 use Rattle.format.specs.Layout.{markSize, tallySize}
 use Rattle.format.specs.Assignment.{assignmentSize, bitsOf}
 use Rattle.tries.specs.Steps.{Work}
-use Rattle.walk.specs.Whole.{withFind}
+use Rattle.finds.specs.Whole.{withFind}
 use Rattle.numbers.specs.Numbers.{numbersOf}
 use Rattle.settings.specs.declared.Settings.{Settings as Asked}
 use Rattle.settings.specs.Settings.{settingsRefusal, settingsOf}

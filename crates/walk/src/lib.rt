@@ -4,40 +4,20 @@ ghost use lib.ListN.{drop};
 ghost use Rattle.format.specs.Tables.{planOfTables, tableSize, termSize};
 ghost use Rattle.settings.specs.Settings.{settingsOf};
 ghost use Rattle.tries.specs.Steps.{work};
-ghost use Rattle.walk.specs.Whole.{Empty, FirstFind, FromFind, Searchable, Whole};
-use costs::floor_cost;
-use objective::added::add_bound;
+ghost use Rattle.finds.specs.Whole.{CallsFirst, Copyable, FirstCall, Searchable, Whole};
+use finds::nothing;
+use onward::from_find;
 use settings::Settings;
-use tighten::Ending;
-use tighten::Progress;
 use tighten::Searched;
-use tighten::keep_find;
-use tighten::tighten;
 use tries::Tried;
 use tries::call;
 use words::copy;
 
-// The answer where nothing was found.
-fn nothing(ending: Ending, used: usize, flips: usize) -> Searched
-    ensures { λ r. ⌜ Empty ending used flips r ⌝ }
-{
-    Searched {
-        ending,
-        progress: Progress {
-            cost: 0,
-            finds: 0,
-            flips,
-            used,
-        },
-    }
-}
-
-// From the first find on: the clause is added to the tables, and each call sets its own bound.
-fn from_find(
+// From the first call on: it found nothing, or the search goes on from its find.
+fn from_call(
+    t: Tried,
     numbers: &[u8],
     s: Settings,
-    used: usize,
-    flips: usize,
     assignment: &mut [u8],
     tables: &mut [u8],
     terms: &mut [u8],
@@ -45,40 +25,51 @@ fn from_find(
     tallies: &mut [u8],
     marks: &mut [u8],
 ) -> Searched
-    requires { ⌜ FirstFind (now tables) (now terms) (now numbers) used flips (now assignment) (work (now tried) (now tallies) (now marks)) ⌝ }
-    ensures { λ r. ⌜ FromFind (settingsOf s) (now (tables .entry)) (now (terms .entry)) (now (numbers .entry)) used flips r (now (assignment .entry))
-        (now (assignment .exit)) (work (now (tried .entry)) (now (tallies .entry)) (now (marks .entry)))
+    requires { ⌜ FirstCall (settingsOf s) (now tables) (now terms) (now numbers) t (now assignment) (work (now tried) (now tallies) (now marks)) ⌝ }
+    ensures { λ r. ⌜ Whole (settingsOf s) (planOfTables (now (tables .entry)) (now (terms .entry))) (now (numbers .entry)) r
+        (now (assignment .entry)) (now (assignment .exit)) (work (now (tried .entry)) (now (tallies .entry)) (now (marks .entry)))
         (work (now (tried .exit)) (now (tallies .exit)) (now (marks .exit)))
         × (drop tableSize (now (tables .exit)) ≡ drop tableSize (now (tables .entry)))
         × (drop termSize (now (terms .exit)) ≡ drop termSize (now (terms .entry))) ⌝ }
 {
-    let v = keep_find(tables, tried, assignment);
-    let floor = floor_cost(tables);
-    let at = Progress {
-        cost: v,
-        finds: 1,
-        flips,
-        used,
+    let Tried::Reached(used, flips) = t else {
+        return nothing(t);
     };
-    if v <= floor {
-        return Searched {
-            ending: Ending::Floor,
-            progress: at,
-        };
-    }
-    add_bound(tables, terms, 0);
-    tighten(
-        tables,
-        terms,
+    from_find(
         numbers,
         s,
-        floor,
-        at,
+        used,
+        flips,
         assignment,
+        tables,
+        terms,
         tried,
         tallies,
         marks,
     )
+}
+
+// The plan is copied to the work tables, and the first call made with it.
+fn first_call(
+    plan: &[u8],
+    plan_terms: &[u8],
+    numbers: &[u8],
+    s: Settings,
+    tables: &mut [u8],
+    terms: &mut [u8],
+    tried: &mut [u8],
+    tallies: &mut [u8],
+    marks: &mut [u8],
+) -> Tried
+    requires { ⌜ Copyable (now plan) (now «plan_terms») (now tables) (now terms) (work (now tried) (now tallies) (now marks)) ⌝ }
+    ensures { λ t. ⌜ CallsFirst (settingsOf s) (now (plan .entry)) (now («plan_terms» .entry)) (now (numbers .entry)) t
+        (now (tables .entry)) (now (tables .exit)) (now (terms .entry)) (now (terms .exit))
+        (work (now (tried .entry)) (now (tallies .entry)) (now (marks .entry)))
+        (work (now (tried .exit)) (now (tallies .exit)) (now (marks .exit))) ⌝ }
+{
+    copy(plan, tables, format::TABLES);
+    copy(plan_terms, terms, format::TERMS);
+    call(tables, terms, numbers, 0, 0, s, tried, tallies, marks)
 }
 
 // The search of tables that are known to fit.
@@ -101,25 +92,26 @@ pub fn search_core(
         × (drop tableSize (now (tables .exit)) ≡ drop tableSize (now (tables .entry)))
         × (drop termSize (now (terms .exit)) ≡ drop termSize (now (terms .entry))) ⌝ }
 {
-    copy(plan, tables, format::TABLES);
-    copy(plan_terms, terms, format::TERMS);
-    let t = call(tables, terms, numbers, 0, 0, s, tried, tallies, marks);
-    match t {
-        Tried::Reached(used, flips) => {
-            from_find(
-                numbers,
-                s,
-                used,
-                flips,
-                assignment,
-                tables,
-                terms,
-                tried,
-                tallies,
-                marks,
-            )
-        }
-        Tried::Failed(used, flips) => nothing(Ending::None, used, flips),
-        Tried::Short(used, flips) => nothing(Ending::ShortNone, used, flips),
-    }
+    let t = first_call(
+        plan,
+        plan_terms,
+        numbers,
+        s,
+        tables,
+        terms,
+        tried,
+        tallies,
+        marks,
+    );
+    from_call(
+        t,
+        numbers,
+        s,
+        assignment,
+        tables,
+        terms,
+        tried,
+        tallies,
+        marks,
+    )
 }

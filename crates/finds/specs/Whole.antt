@@ -5,22 +5,25 @@ use mathlib.Core.Path.{_≡_}
 use mathlib.Core.List.{List, [], _∷_, _++_}
 use lib.Dec.{T}
 use lib.IntN.{pos}
-use lib.ListN.{length, drop}
+use lib.ListN.{length, take, drop}
 use Rattle.plpb.specs.Lists.{_or_}
 use Rattle.plpb.specs.Plan.{Plan, Assignment, obeys}
 use Rattle.plpb.specs.Walk.{run}
 use Rattle.plpb.specs.Settings.{Settings}
-use Rattle.plpb.specs.Search.{Reached, failed, reached, gap, tighten, conclude, search}
+use Rattle.plpb.specs.Search.{Reached, failed, reached, call, gap, tighten, conclude, search}
 use Rattle.plpb.specs.Walk.{at}
 use Rattle.format.specs.Limits.{lawful}
 use Rattle.format.specs.Tables.{Holds, planOfTables, tableSize, termSize, isLoaded}
 use Rattle.tallies.specs.Layout.{assignmentSize, tallySize, bitsOf, areBits}
 use Rattle.numbers.specs.Numbers.{numbersOf}
 use Rattle.tighten.specs.declared.Ending.{Ending as EndingOf}
+use Rattle.tighten.specs.declared.Ending.the-variants as code
 use Rattle.tighten.specs.declared.Searched.{Searched}
 use Rattle.format.specs.Layout.{markSize}
 use Rattle.format.specs.Assignment.{bitBytes}
-use Rattle.tries.specs.Steps.{Work, Beyond, bitsIn}
+use Rattle.tries.specs.declared.Tried.{Tried}
+use Rattle.tries.specs.declared.Tried.the-variants as tried
+use Rattle.tries.specs.Steps.{Work, Beyond, Finds, IfReached, Tries, bitsIn, flipsBy, triedOf, usedBy}
 use Rattle.tighten.specs.Bounds.{answerOf}
 
 -- "With a find, the first n assignment bytes hold the last one found; otherwise they are unchanged, as are all beyond n always."
@@ -29,12 +32,18 @@ withFind failed n bytes = bytes
 withFind (reached a) n bytes = bitBytes a ++ drop n bytes
 
 -- Nothing was found.
-pub record Empty (e : EndingOf) (used flips : ℕ) (r : Searched) : Type 0 where
+pub record Unfound (e : EndingOf) (used flips : ℕ) (r : Searched) : Type 0 where
   pub ending : r .ending ≡ e
   pub cost : r .progress .cost ≡ pos 0
   pub finds : r .progress .finds ≡ 0
   pub flips-made : r .progress .flips ≡ flips
   pub numbers-used : r .progress .used ≡ used
+
+-- .. by a first call: it failed, or the numbers were gone before.
+unfoldable pub Empty : Tried → Searched → Type 0
+Empty (tried.Reached used flips) r = Unfound code.None used flips r
+Empty (tried.Failed used flips) r = Unfound code.None used flips r
+Empty (tried.Short used flips) r = Unfound code.ShortNone used flips r
 
 -- The walk's buffers have room for any plan.
 pub record Roomy (w : Work) : Type 0 where
@@ -63,6 +72,33 @@ pub record FromFind (s : Settings) (tables terms numbers : List ℕ) (used flips
       ≡ answerOf (r .ending) (r .progress) (reached (bitsOf (planOfTables tables terms .variables) exit))
   pub find : exit ≡ withFind (reached (bitsOf (planOfTables tables terms .variables) exit)) (planOfTables tables terms .variables) entry
   pub beyond : Beyond (planOfTables tables terms .variables) w v
+
+-- The first call with the plan has been made, and comes to t.
+pub record FirstCall (s : Settings) (tables terms numbers : List ℕ) (t : Tried) (assignment : List ℕ) (w : Work) : Type 0 where
+  pub lawful : T (lawful (planOfTables tables terms))
+  pub holds : Holds (planOfTables tables terms) tables terms
+  pub room : assignmentSize ≤ length assignment
+  pub work : Roomy w
+  pub outcome :
+      (fs : List Assignment) → run (call s (planOfTables tables terms)) (numbersOf numbers) (at 0 0 fs) ≡ triedOf t (bitsIn tables terms w) fs
+  pub finds : IfReached t (Finds tables terms 1 (usedBy t) w)
+  pub flipped : flipsBy t ≤ usedBy t
+  pub within : usedBy t ≤ length numbers / 4
+
+-- Tables that passed the test for 22, and room to work on a copy of them.
+pub record Copyable (tables terms workTables workTerms : List ℕ) (w : Work) : Type 0 where
+  pub loaded : T (isLoaded tables terms)
+  pub long : tableSize ≤ length tables
+  pub long-terms : termSize ≤ length terms
+  pub work-long : tableSize ≤ length workTables
+  pub work-long-terms : termSize ≤ length workTerms
+  pub work : Roomy w
+
+-- The plan is copied, and the first call with it comes to t.
+pub record CallsFirst (s : Settings) (plan planTerms numbers : List ℕ) (t : Tried) (tables tables' terms terms' : List ℕ) (w v : Work) : Type 0 where
+  pub copied : tables' ≡ take tableSize plan ++ drop tableSize tables
+  pub copied-terms : terms' ≡ take termSize planTerms ++ drop termSize terms
+  pub called : Tries (call s (planOfTables tables' terms')) tables' terms' numbers 0 0 1 t w v
 
 -- Tables that passed the test for 22, and room for everything.
 pub record Searchable (tables terms assignment workTables workTerms : List ℕ) (w : Work) : Type 0 where

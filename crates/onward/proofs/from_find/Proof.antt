@@ -5,9 +5,9 @@ use native.Mathlib.Omega.{arith}
 use mathlib.Core.Path.{refl}
 use lib.IntN.{pos}
 use Rattle.settings.specs.Settings.{settingsOf}
-use Rattle.walk.proofs.Whole.{find-summable, find-keepable, from-floor, tighten-ready, from-tightened}
-use Rattle.walk.proofs.from_find.Statement.{statement}
-use Rattle.walk.proofs.from_find.Tie as tie
+use Rattle.finds.proofs.Whole.{find-summable, find-keepable, from-floor, tighten-ready, from-tightened}
+use Rattle.onward.proofs.from_find.Statement.{statement}
+use Rattle.onward.proofs.from_find.Tie as tie
 
 keep-find-requires : tie.Need-keep-find-requires
 keep-find-requires c κs = find-keepable (c .before .before .before .before .before .before .before .before .before .before .pre)

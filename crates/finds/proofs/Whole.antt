@@ -3,9 +3,11 @@
 use Prim.Native.Nat.{ℕ, zero, suc, _+_, _-_, _≤_, _<_}
 use native.Mathlib.Omega.{arith}
 use mathlib.Core.Path.{_≡_, refl, sym, ap, ap₂, _∙_, subst}
-use mathlib.Core.Bool.{true, false}
+use mathlib.Core.Bool.{Bool, true, false, true≢false}
 use mathlib.Core.List.{List, [], _∷_, _++_}
 use lib.Dec.{T}
+use types.Run.{OneOf, miss}
+use denote.Enum.Declared.{tagOf}
 use lib.IntN.{ℤ, natAbs}
 use lib.ListN.{length, take, drop, length-append}
 use lib.Seq.{length-take-le, drop-at}
@@ -33,20 +35,21 @@ use Rattle.format.proofs.Sections.{length-tableWords, length-termWords}
 use Rattle.costs.specs.Sums.{Summable, costIn, floorIn}
 use Rattle.costs.proofs.Costs.{summable, variables-in, cost-in, floor-in, some-objective}
 use Rattle.objective.proofs.TightenedTables.{copied-hold, roomy-tightened, bound-holds}
-use Rattle.tallies.specs.Layout.{bitsOf, bitBytes, areBits}
+use Rattle.tallies.specs.Layout.{assignmentSize, bitsOf, bitBytes, areBits}
 use Rattle.recount.specs.Core.{Laid}
 use Rattle.tallies.proofs.Bits.{whole-bytes}
 use Rattle.recount.proofs.Callers.{held-laid}
 use Rattle.numbers.specs.Numbers.{numbersOf}
 use Rattle.numbers.proofs.Runs.{descending-none, descending-floor, search-none, search-found, search-short}
 use Rattle.tries.specs.declared.Tried.{Tried}
+use Rattle.tries.proofs.Tried.{the-type}
 use Rattle.tries.specs.declared.Tried.the-variants as tried
 use Rattle.tighten.specs.declared.Progress.{Progress}
 use Rattle.tighten.specs.declared.Ending.the-variants as code
 use Rattle.tighten.specs.declared.Searched.{Searched}
 use Rattle.tries.specs.Steps.{Work, Startable, Beyond, triedOf, usedBy, flipsBy, IfReached, Tries}
 use Rattle.tighten.specs.Bounds.{basis, Bounded, Tracks, Room, Leaves, answerOf, endingOf, Concludes}
-use Rattle.walk.specs.Whole.{withFind, Empty, Roomy, FirstFind, FromFind, Searchable, Whole}
+use Rattle.finds.specs.Whole.{withFind, CallsFirst, Copyable, Empty, FirstCall, Roomy, FirstFind, FromFind, Searchable, Unfound, Whole}
 use Rattle.tighten.proofs.Bounds.{bounded-basis, front-bits, front-areBits, front-beyond}
 
 -- ---- a find copied out
@@ -254,7 +257,7 @@ nowhere a e = let z : _≡_ {A = ℕ} 0 1 = cc in omega arith
 
 -- What a search answers where it found nothing.
 module _ (s : Settings) (p : Plan) (numbers : List ℕ) (r : Searched) where
-  none-answer : {used flips : ℕ} → run (searchWalk s p) (numbersOf numbers) begin ≡ ends none (at used flips []) → Empty code.None used flips r
+  none-answer : {used flips : ℕ} → run (searchWalk s p) (numbersOf numbers) begin ≡ ends none (at used flips []) → Unfound code.None used flips r
       → search s p (numbersOf numbers) ≡ answerOf (r .ending) (r .progress) failed
   unfolding search conclude answered lastFind costOf answerOf endingOf
   none-answer e k =
@@ -268,7 +271,7 @@ module _ (s : Settings) (p : Plan) (numbers : List ℕ) (r : Searched) where
         assignment = failed;
       })
 
-  short-answer : {used flips : ℕ} → run (searchWalk s p) (numbersOf numbers) begin ≡ short (at used flips []) → Empty code.ShortNone used flips r
+  short-answer : {used flips : ℕ} → run (searchWalk s p) (numbersOf numbers) begin ≡ short (at used flips []) → Unfound code.ShortNone used flips r
       → search s p (numbersOf numbers) ≡ answerOf (r .ending) (r .progress) failed
   unfolding search conclude answered lastFind costOf answerOf endingOf isEmpty
   short-answer e k =
@@ -307,12 +310,71 @@ module _ (s : Settings) (p : Plan) (numbers : List ℕ) (r : Searched) where
         beyond = b;
       }
 
+unchanged : {n : ℕ} {w : Work} → Beyond n w w
+unchanged = record { assignment = refl; tallies = refl; marks = refl }
+
 beyond-both : {n : ℕ} {w v u : Work} → Beyond n w v → Beyond n v u → Beyond n w u
 beyond-both a b =
     record { assignment = b .assignment ∙ a .assignment; tallies = b .tallies ∙ a .tallies; marks = b .marks ∙ a .marks }
 
+unfoldable pub isReached : Tried → Bool
+isReached (tried.Reached used flips) = true
+isReached (tried.Failed used flips) = false
+isReached (tried.Short used flips) = false
+
+-- What is left where the code has told a find apart.
+pub not-reached : (t : Tried) → OneOf (1 ∷ 2 ∷ []) (tagOf the-type t) → isReached t ≡ false
+unfolding isReached
+not-reached (tried.Reached used flips) k = absurd (miss (1 ∷ 2 ∷ []) 0 tt k)
+not-reached (tried.Failed used flips) k = refl
+not-reached (tried.Short used flips) k = refl
+
+-- By what the first call came to.
+module _ {s : Settings} {tables terms numbers : List ℕ} {t : Tried} {assignment : List ℕ} {w : Work} (h : FirstCall s tables terms numbers t assignment w) where
+  abbrev plan : Plan
+  plan = planOfTables tables terms
+
+  told-as : (x : Tried) → t ≡ x → FirstCall s tables terms numbers x assignment w
+  told-as x e = subst (λ y. FirstCall s tables terms numbers y assignment w) e h
+
+  pub call-first : {used flips : ℕ} → t ≡ tried.Reached used flips → FirstFind tables terms numbers used flips assignment w
+  unfolding IfReached usedBy flipsBy triedOf
+  call-first {used} {flips} e =
+      let k = told-as (tried.Reached used flips) e in
+      record {
+        lawful = h .lawful;
+        holds = h .holds;
+        room = h .room;
+        work = h .work;
+        bits = k .finds .bits;
+        obeyed = call-obeys s plan (numbersOf numbers) 0 0 [] (omega arith) (k .outcome []);
+        some = k .finds .uses;
+        few = k .flipped;
+        within = k .within;
+      }
+
+  pub call-found : {used flips : ℕ} {r : Searched} {exit : List ℕ} {u : Work} → t ≡ tried.Reached used flips
+      → FromFind s tables terms numbers used flips r assignment exit w u → Whole s (planOfTables tables terms) numbers r assignment exit w u
+  unfolding triedOf search begin
+  call-found {used} {flips} {r} {exit} {u} e z =
+      let k = told-as (tried.Reached used flips) e in
+      let found : search s plan (numbersOf numbers) ≡ answerOf (r .ending) (r .progress) (reached (bitsOf (plan .variables) exit)) =
+      ap (conclude plan) (search-found s plan (numbersOf numbers) begin (k .outcome [])) ∙ z .answers in
+      found-whole s plan numbers r found (z .find) (z .beyond)
+
+  -- It reached nothing.
+  pub call-empty : {r : Searched} → (x : Tried) → t ≡ x → isReached x ≡ false → Empty x r → Whole s (planOfTables tables terms) numbers r assignment assignment w w
+  unfolding triedOf begin isReached Empty
+  call-empty (tried.Reached used flips) e n z = absurd (true≢false n)
+  call-empty {r} (tried.Failed used flips) e n z =
+      let k = told-as (tried.Failed used flips) e in
+      empty-whole s plan numbers r (none-answer s plan numbers r (search-none s plan (numbersOf numbers) begin (k .outcome [])) z) unchanged
+  call-empty {r} (tried.Short used flips) e n z =
+      let k = told-as (tried.Short used flips) e in
+      empty-whole s plan numbers r (short-answer s plan numbers r (search-short s plan (numbersOf numbers) begin (k .outcome [])) z) unchanged
+
 -- The work tables hold the plan once it is copied.
-module _ {plan planTerms assignment tables terms : List ℕ} {w : Work} (h : Searchable plan planTerms assignment tables terms w) {tables′ terms′ : List ℕ}
+module _ {plan planTerms tables terms : List ℕ} {w : Work} (h : Copyable plan planTerms tables terms w) {tables′ terms′ : List ℕ}
     (e : tables′ ≡ take tableSize plan ++ drop tableSize tables) (f : terms′ ≡ take termSize planTerms ++ drop termSize terms)
   where
     abbrev lent : Plan
@@ -336,62 +398,64 @@ module _ {plan planTerms assignment tables terms : List ℕ} {w : Work} (h : Sea
     small : copy .variables ≤ 512
     small = rw back (plan-parts lent plan-lawful .high)
 
-    pub copied-table : drop tableSize tables′ ≡ drop tableSize tables
-    copied-table = ap (drop tableSize) e ∙ drop-at (take tableSize plan) (drop tableSize tables) tableSize (length-take-le tableSize plan (h .long))
-
-    pub copied-terms : drop termSize terms′ ≡ drop termSize terms
-    copied-terms = ap (drop termSize) f ∙ drop-at (take termSize planTerms) (drop termSize terms) termSize (length-take-le termSize planTerms (h .long-terms))
-
-    pub core-startable : Startable tables′ terms′ w
-    core-startable =
+    pub copied-startable : Startable tables′ terms′ w
+    copied-startable =
         record {
           ready = record { laid = laid; bytes = omega (arith, small, h .work .assignment) };
           room = h .work .tallies;
           marks = record { laid = laid; bytes = omega (arith, small, h .work .marks) };
         }
 
-    -- By what the call came to.
-    module _ (s : Settings) (numbers : List ℕ) {t : Tried} {v : Work} (made : Tries (call s (planOfTables tables′ terms′)) tables′ terms′ numbers 0 0 1 t w v) where
-      made-as : (x : Tried) → t ≡ x → Tries (call s (planOfTables tables′ terms′)) tables′ terms′ numbers 0 0 1 x w v
-      made-as x e = subst (λ y. Tries (call s copy) tables′ terms′ numbers 0 0 1 y w v) e made
+-- What the first call leaves, and the whole from there.
+module _ {s : Settings} {plan planTerms numbers : List ℕ} {t : Tried} {tables tables′ terms terms′ : List ℕ} {w v : Work} (h : Copyable plan planTerms tables terms w)
+    (c : CallsFirst s plan planTerms numbers t tables tables′ terms terms′ w v)
+  where
+    read-again : planOfTables tables′ terms′ ≡ planOfTables plan planTerms
+    read-again = back h (c .copied) (c .copied-terms)
 
-      pub core-first : {used flips : ℕ} → t ≡ tried.Reached used flips → Roomy v → FirstFind tables′ terms′ numbers used flips assignment v
-      unfolding IfReached usedBy flipsBy triedOf
-      core-first {used} {flips} e y =
-          let k = made-as (tried.Reached used flips) e in
-          record {
-            lawful = rw back plan-lawful;
-            holds = laid .holds;
-            room = h .room;
-            work = y;
-            bits = k .finds .bits;
-            obeyed = call-obeys s copy (numbersOf numbers) 0 0 [] (omega arith) (k .outcome []);
-            some = k .finds .uses;
-            few = k .flipped;
-            within = k .within;
-          }
+    pub first-called : {assignment : List ℕ} → assignmentSize ≤ length assignment → Roomy v → FirstCall s tables′ terms′ numbers t assignment v
+    first-called room y =
+        record {
+          lawful = rw read-again (plan-lawful h (c .copied) (c .copied-terms));
+          holds = laid h (c .copied) (c .copied-terms) .holds;
+          room = room;
+          work = y;
+          outcome = c .called .outcome;
+          finds = c .called .finds;
+          flipped = c .called .flipped;
+          within = c .called .within;
+        }
 
-      pub core-found : {used flips : ℕ} {r : Searched} {exit : List ℕ} {u : Work} → t ≡ tried.Reached used flips
-          → FromFind s tables′ terms′ numbers used flips r assignment exit v u → Whole s (planOfTables plan planTerms) numbers r assignment exit w u
-      unfolding triedOf search begin
-      core-found {used} {flips} {r} {exit} {u} e z =
-          let k = made-as (tried.Reached used flips) e in
-          let found : search s copy (numbersOf numbers) ≡ answerOf (r .ending) (r .progress) (reached (bitsOf (copy .variables) exit)) =
-          ap (conclude copy) (search-found s copy (numbersOf numbers) begin (k .outcome [])) ∙ z .answers in
-          subst (λ p. Whole s p numbers r assignment exit w u) back (found-whole s copy numbers r found (z .find) (beyond-both (k .beyond) (z .beyond)))
+    pub first-whole : {r : Searched} {assignment exit : List ℕ} {u : Work} → Whole s (planOfTables tables′ terms′) numbers r assignment exit v u
+        → Whole s (planOfTables plan planTerms) numbers r assignment exit w u
+    first-whole {r} {assignment} {exit} {u} z =
+        subst (λ p. Whole s p numbers r assignment exit w u) read-again
+        (record { answers = z .answers; last = z .last; find = z .find; beyond = beyond-both (c .called .beyond) (z .beyond) })
 
-      pub core-none : {used flips : ℕ} {r : Searched} → t ≡ tried.Failed used flips → Empty code.None used flips r
-          → Whole s (planOfTables plan planTerms) numbers r assignment assignment w v
-      unfolding triedOf begin
-      core-none {used} {flips} {r} e z =
-          let k = made-as (tried.Failed used flips) e in
-          subst (λ p. Whole s p numbers r assignment assignment w v) back
-          (empty-whole s copy numbers r (none-answer s copy numbers r (search-none s copy (numbersOf numbers) begin (k .outcome [])) z) (k .beyond))
+    pub first-table : drop tableSize tables′ ≡ drop tableSize tables
+    first-table = ap (drop tableSize) (c .copied) ∙ drop-at (take tableSize plan) (drop tableSize tables) tableSize (length-take-le tableSize plan (h .long))
 
-      pub core-short : {used flips : ℕ} {r : Searched} → t ≡ tried.Short used flips → Empty code.ShortNone used flips r
-          → Whole s (planOfTables plan planTerms) numbers r assignment assignment w v
-      unfolding triedOf begin
-      core-short {used} {flips} {r} e z =
-          let k = made-as (tried.Short used flips) e in
-          subst (λ p. Whole s p numbers r assignment assignment w v) back
-          (empty-whole s copy numbers r (short-answer s copy numbers r (search-short s copy (numbersOf numbers) begin (k .outcome [])) z) (k .beyond))
+    pub first-terms : drop termSize terms′ ≡ drop termSize terms
+    first-terms = ap (drop termSize) (c .copied-terms) ∙ drop-at (take termSize planTerms) (drop termSize terms) termSize (length-take-le termSize planTerms (h .long-terms))
+
+-- Room for everything is room for a copy.
+pub searchable-copy : {plan planTerms assignment tables terms : List ℕ} {w : Work} → Searchable plan planTerms assignment tables terms w → Copyable plan planTerms tables terms w
+searchable-copy h =
+    record {
+      loaded = h .loaded;
+      long = h .long;
+      long-terms = h .long-terms;
+      work-long = h .work-long;
+      work-long-terms = h .work-long-terms;
+      work = h .work;
+    }
+
+-- Buffers of the same lengths have the same room.
+pub same-room : {w v : Work} → Roomy w → length (v .assignment) ≡ length (w .assignment) → length (v .tallies) ≡ length (w .tallies)
+    → length (v .marks) ≡ length (w .marks) → Roomy v
+same-room h a t m =
+    record {
+      assignment = omega (arith, h .assignment);
+      tallies = omega (arith, h .tallies);
+      marks = omega (arith, h .marks);
+    }
