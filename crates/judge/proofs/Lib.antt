@@ -1,5 +1,3 @@
 -- What holds of the code's answers beside the definitions of the file.
 pub mod Judged
-pub mod TermLaws
-pub mod LockLaws
 pub mod Stepped

@@ -13,19 +13,21 @@ use Rattle.words.specs.Words.{numAt}
 use Rattle.format.specs.File as File
 use Rattle.format.specs.File.{tagAt, lengthAt, lengthLawful, termsIn, pastLimits, fault, stageAfter, next, Reading, refused, accepted, mapReading, finish, readFrom, begin, planOf, read}
 use Rattle.format.proofs.Fields.{Clean, fault-clean, read-on, read-end}
-use Rattle.judge.specs.declared.field.Stage.{Stage}
-use Rattle.judge.specs.declared.field.Stage.the-variants.{Count}
-use Rattle.judge.specs.declared.field.State.{State}
+use Rattle.faults.specs.declared.Stage.{Stage}
+use Rattle.faults.specs.declared.Stage.the-variants.{Count}
+use Rattle.faults.specs.declared.State.{State}
 use Rattle.judge.specs.declared.field.Taken.{Taken as TakenT}
 use Rattle.judge.specs.declared.field.Field.{Field}
 use Rattle.judge.specs.declared.field.Field.the-variants.{Taken, Fault}
-use Rattle.judge.specs.declared.Answer.{Answer}
-use Rattle.judge.specs.declared.Answer.the-variants.{Accepted, Refused}
+use Rattle.verdict.specs.declared.Answer.{Answer}
+use Rattle.verdict.specs.declared.Answer.the-variants.{Accepted, Refused}
 use Rattle.judge.specs.declared.Step.{Step}
 use Rattle.judge.specs.declared.Step.the-variants.{Go, Stop}
-use Rattle.judge.specs.Answers.{outcome}
-use Rattle.judge.specs.Fields.{stageOf, stateOf, Headed, takenAt, fieldAt, faultIn, ending, Steps, answerIn}
-use Rattle.judge.proofs.Judged.{tag-byte, count-size, rule-size, body-room}
+use Rattle.verdict.specs.Answers.{outcome}
+use Rattle.faults.specs.Faults.{stageOf, stateOf, Headed}
+use Rattle.judge.specs.Fields.{takenAt, fieldAt, faultIn, ending, Steps, answerIn}
+use Rattle.bodies.proofs.Tags.{tag-byte}
+use Rattle.faults.proofs.Faults.{count-size, rule-size, body-room}
 
 -- What a field with no fault says of the counts.
 or-false : (a b : Bool) → (a or b) ≡ false → (a ≡ false) × (b ≡ false)

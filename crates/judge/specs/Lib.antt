@@ -1,5 +1,2 @@
 -- What the judge of a plan file answers, and what the functions below it say, in reading order.
-pub mod Answers
 pub mod Fields
-pub mod Terms
-pub mod Locks

@@ -6,22 +6,16 @@ ghost use lib.Dec.{eqb};
 ghost use lib.ListN.{length};
 ghost use Rattle.words.specs.Words.{numAt};
 ghost use Rattle.format.specs.File.{stageAfter, termsIn, fault, next, read};
-ghost use Rattle.judge.specs.Answers.{outcome};
-ghost use Rattle.judge.specs.Fields.{stageOf, stateOf, takenAt, faultIn, ending, Steps, answerIn};
+ghost use Rattle.verdict.specs.Answers.{outcome};
+ghost use Rattle.faults.specs.Faults.{stageOf, stateOf};
+ghost use Rattle.judge.specs.Fields.{takenAt, faultIn, ending, Steps, answerIn};
 use crate::field::Field;
-use crate::field::Stage;
-use crate::field::State;
 use crate::field::Taken;
+use faults::Stage;
+use faults::State;
+use verdict::Answer;
 
 mod field;
-mod locks;
-mod terms;
-
-// A refusal carries its number and its offset.
-pub enum Answer {
-    Accepted,
-    Refused(u32, usize),
-}
 
 // One field read: the state behind it, or what reading comes to.
 pub enum Step {

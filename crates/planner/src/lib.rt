@@ -10,36 +10,15 @@ use calls::open::open;
 use search::Answer as Searched;
 use search::search;
 use settings::Settings;
-use tables::Answer;
 use tables::load;
-
-#[repr(C)]
-pub struct Loaded {
-    pub refusal: u32,
-    pub offset: usize,
-}
+use verdict::Loaded;
+use verdict::numbers;
 
 #[repr(C)]
 pub struct Counted {
     pub refusal: u32,
     pub breaks: u32,
     pub makes: u32,
-}
-
-// The answer in numbers: 0 and 0 for an accepted file.
-fn numbers(answer: Answer) -> Loaded
-    ensures { λ r. ⌜ (r .refusal ≡ refusalOf answer) × (r .offset ≡ offsetOf answer) ⌝ }
-{
-    match answer {
-        Answer::Accepted => Loaded {
-            refusal: 0,
-            offset: 0,
-        },
-        Answer::Refused(number, offset) => Loaded {
-            refusal: number,
-            offset,
-        },
-    }
 }
 
 #[no_mangle]

@@ -26,8 +26,8 @@ use Rattle.numbers.specs.Numbers.{numbersOf}
 use Rattle.settings.specs.declared.Settings.{Settings as Asked}
 use Rattle.settings.specs.Settings.{settingsRefusal, settingsOf}
 use Rattle.search.specs.Calls.{hasPlan}
-use Rattle.judge.specs.declared.Answer.{Answer}
-use Rattle.judge.specs.declared.Answer.the-variants as loads
+use Rattle.verdict.specs.declared.Answer.{Answer}
+use Rattle.verdict.specs.declared.Answer.the-variants as loads
 use Rattle.tables.proofs.Holding.{loading-holds}
 use Rattle.tables.specs.Load.{outcome, tooSmall, loading, tablesAfter, termsAfter}
 use Rattle.folder.specs.declared.files.Walked.{Walked}

@@ -29,7 +29,7 @@ use Rattle.format.proofs.Objective.{coefficient-below}
 use Rattle.format.proofs.Locks.{lock-dense}
 use Rattle.tables.specs.Places.{behindObjective, behindField, locksIn}
 use Rattle.tables.specs.Sections.{objectiveWords, lockWords, placed, inRange}
-use Rattle.judge.proofs.Judged.{tag-byte}
+use Rattle.bodies.proofs.Tags.{tag-byte}
 use Rattle.tables.proofs.Found.{begun-file, begun-front}
 use Rattle.tables.proofs.Filled.{lawful-file}
 

@@ -17,7 +17,7 @@ use Rattle.format.proofs.Bounds.{Meant, bounds-tested, bounds-meant}
 use Rattle.format.proofs.Peel.{length-termsAt}
 use Rattle.format.proofs.Sections.{length-termEntries}
 use Rattle.tables.specs.Places.{RuleHere, behindField}
-use Rattle.judge.proofs.Judged.{tag-byte}
+use Rattle.bodies.proofs.Tags.{tag-byte}
 
 -- A field's length has two bytes.
 pub size-small : (s : List ℕ) (at : ℕ) → Below 256 s → termsIn 4 (lengthAt s at) < 4_294_967_296

@@ -21,7 +21,7 @@ use Rattle.format.proofs.Accepted.{accepted-lawful}
 use Rattle.format.proofs.Sections.{length-clauseEntries, length-ruleEntries, length-termEntries, length-allTerms}
 use Rattle.tables.specs.Places.{Found, Reads, Ran, RuleHere, firstClause, firstRule, nextRule, behindField}
 use Rattle.tables.specs.Sections.{clauseWords, ruleWords}
-use Rattle.judge.proofs.Judged.{tag-byte}
+use Rattle.bodies.proofs.Tags.{tag-byte}
 use Rattle.tables.proofs.Entered.{here-terms, entries-more, terms-lent, front-long}
 use Rattle.tables.proofs.Found.{Begun, RulesLeft, rules-start, rules-next, rules-end, rules-here, found-clause, found-room, no-clause-left as none-left}
 use Rattle.format.specs.Layout.{clauseSectionSize, clauseWordCount, ruleSectionSize, ruleWordCount, termSize, termWordCount}

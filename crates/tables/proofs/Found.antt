@@ -21,7 +21,7 @@ use Rattle.format.proofs.Order.{Standing, begins, rules, ends, standing}
 use Rattle.format.proofs.Fields.{Clean, read-end, read-past}
 use Rattle.format.proofs.Held.{not-refused, accepted-clean, accepted-behind, mapped, held}
 use Rattle.tables.specs.Places.{Found, Reads, Ran, RuleHere, behindObjective, pastLocks, locksIn, firstClause, behindField, ruleFrom}
-use Rattle.judge.proofs.Judged.{tag-byte}
+use Rattle.bodies.proofs.Tags.{tag-byte}
 
 -- What a field adds, by its tag.
 module _ (s : List ℕ) (at : ℕ) (d c : Contents) (same : addField s at d ≡ c) where

@@ -17,8 +17,8 @@ use Rattle.format.specs.Tables.{tableWords, termWords, tableSize, termSize, Hol
 use Rattle.format.proofs.Accepted.{accepted-lawful}
 use Rattle.format.proofs.Lawful.{plan-parts, room-for}
 use Rattle.format.proofs.Sections.{length-tableWords, length-termWords}
-use Rattle.judge.specs.declared.Answer.{Answer}
-use Rattle.judge.specs.declared.Answer.the-variants.{Accepted, Refused}
+use Rattle.verdict.specs.declared.Answer.{Answer}
+use Rattle.verdict.specs.declared.Answer.the-variants.{Accepted, Refused}
 use Rattle.tables.specs.Load.{outcome, tooSmall, loading, tablesOf, termsOf, tablesAfter, termsAfter, LoadingHolds}
 
 not-accepted : (n o : ℕ) → _≡_ {A = Answer} (Refused n o) Accepted → ⊥

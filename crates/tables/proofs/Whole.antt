@@ -23,8 +23,8 @@ use Rattle.format.proofs.Lists.{length-row}
 use Rattle.format.proofs.Lawful.{LawfulPlan, room-for}
 use Rattle.format.proofs.Spells.{length-padTo}
 use Rattle.format.proofs.Sections.{length-clauseEntries, length-ruleEntries, length-tableWords, length-termWords}
-use Rattle.judge.specs.declared.Answer.{Answer}
-use Rattle.judge.specs.declared.Answer.the-variants.{Accepted, Refused}
+use Rattle.verdict.specs.declared.Answer.{Answer}
+use Rattle.verdict.specs.declared.Answer.the-variants.{Accepted, Refused}
 use Rattle.tables.specs.Load.{outcome, tooSmall, loading, tablesOf, termsOf, tablesAfter, termsAfter}
 use Rattle.tables.specs.Places.{said}
 use Rattle.tables.specs.Sections.{objectiveWords, clauseWords, ruleWords, lockWords}

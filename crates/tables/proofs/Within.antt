@@ -13,7 +13,7 @@ use Rattle.format.specs.Limits.{lawful}
 use Rattle.format.specs.Tables.{tableSize, termSize, Holds}
 use Rattle.format.proofs.Accepted.{accepted-lawful}
 use Rattle.format.proofs.Within.{short-within}
-use Rattle.judge.specs.declared.Answer.the-variants.{Refused}
+use Rattle.verdict.specs.declared.Answer.the-variants.{Refused}
 use Rattle.tables.specs.Load.{outcome, tooSmall, loading, tablesOf, termsOf, tablesAfter, termsAfter, LoadsWithin}
 use Rattle.tables.proofs.Holding.{words-hold}
 

@@ -13,9 +13,9 @@ use Rattle.words.specs.Words.{wordBytes}
 use Rattle.words.specs.Writes.{SameWithin}
 use Rattle.format.specs.File.{Reading, refused, accepted, read}
 use Rattle.format.specs.Tables.{tableWords, termWords, tableSize, termSize, Holds}
-use Rattle.judge.specs.declared.Answer.{Answer}
-use Rattle.judge.specs.declared.Answer.the-variants.{Accepted, Refused}
-unfoldable pub use Rattle.judge.specs.Answers.{refusalOf, offsetOf, outcome}
+use Rattle.verdict.specs.declared.Answer.{Answer}
+use Rattle.verdict.specs.declared.Answer.the-variants.{Accepted, Refused}
+unfoldable pub use Rattle.verdict.specs.Answers.{refusalOf, offsetOf, outcome}
 
 -- "21: a buffer or table smaller than the full limits need"
 unfoldable pub tooSmall : List ℕ → List ℕ → Bool

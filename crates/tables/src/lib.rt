@@ -13,7 +13,7 @@ mod entries;
 mod fields;
 mod sections;
 
-pub use judge::Answer;
+pub use verdict::Answer;
 
 // The table of counts, objective, clauses, rules and locks of an accepted file.
 fn fill_tables(file: &[u8], tables: &mut [u8])

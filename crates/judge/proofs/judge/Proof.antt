@@ -4,8 +4,8 @@
 use borrow.Author.Needs.{needs}
 use mathlib.Core.Path.{_≡_, sym, _∙_}
 use Rattle.format.specs.File.{readFrom, read}
-use Rattle.judge.specs.Answers.{outcome}
-use Rattle.judge.specs.Fields.{stateOf}
+use Rattle.verdict.specs.Answers.{outcome}
+use Rattle.faults.specs.Faults.{stateOf}
 use Rattle.judge.proofs.Stepped.{goes, stops, judge-start, judge-end}
 use Rattle.judge.proofs.judge.Statement.{statement}
 use Rattle.judge.proofs.judge.Tie as tie

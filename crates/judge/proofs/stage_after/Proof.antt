@@ -2,7 +2,7 @@
 -- Assumes nothing.
 use borrow.Author.Tests.{ne-eqb}
 use Rattle.format.specs.File.{stageAfter}
-use Rattle.judge.specs.Fields.{stageOf}
+use Rattle.faults.specs.Faults.{stageOf}
 use Rattle.judge.proofs.stage_after.Statement.{statement}
 use Rattle.judge.proofs.stage_after.Tie as tie
 

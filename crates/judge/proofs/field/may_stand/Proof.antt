@@ -3,7 +3,7 @@
 use borrow.Author.Needs.{needs}
 use mathlib.Core.Path.{_∙_}
 use Rattle.format.specs.File.{mayStand}
-use Rattle.judge.specs.Fields.{stageOf}
+use Rattle.faults.specs.Faults.{stageOf}
 use Rattle.judge.proofs.Judged.{stands-rule, stands-else, stands-locks, stands-clause}
 use Rattle.judge.proofs.field.may_stand.Statement.{statement}
 use Rattle.judge.proofs.field.may_stand.Tie as tie

@@ -4,7 +4,8 @@ use borrow.Author.Needs.{needs}
 use native.Mathlib.Omega.{arith}
 use Rattle.format.specs.File.{lengthAt}
 use Rattle.judge.specs.Fields.{takenAt}
-use Rattle.judge.proofs.Judged.{tag-byte, body-room}
+use Rattle.bodies.proofs.Tags.{tag-byte}
+use Rattle.faults.proofs.Faults.{body-room}
 use Rattle.judge.proofs.field.parts.Statement.{statement}
 use Rattle.judge.proofs.field.parts.Tie as tie
 

@@ -7,7 +7,7 @@ use native.Mathlib.Omega.{arith}
 use mathlib.Core.Path.{sym, _∙_}
 use lib.ListN.{length}
 use Rattle.tables.specs.Places.{planOfFile}
-use Rattle.judge.proofs.Judged.{tag-byte}
+use Rattle.bodies.proofs.Tags.{tag-byte}
 use Rattle.tables.proofs.Entered.{here-room}
 use Rattle.tables.proofs.Found.{begun-file, begun-front, begun-room, rules-room, behind-room, rules-on}
 use Rattle.tables.proofs.Filled.{RuleFill, lawful-file, rule-start, rule-few, rule-space, rule-first, rule-here, rule-part, rule-same, rule-more-terms, rule-more, rule-count, rule-terms, rule-end}

@@ -1,0 +1,3 @@
+-- What stands in a field's body, judged entry by entry.
+pub mod Terms
+pub mod Locks

@@ -1,0 +1,2 @@
+-- What the tests of a field's body say.
+pub mod Faults

@@ -1,0 +1,2 @@
+-- What the answer to a file says.
+pub mod Answers
