@@ -44,13 +44,13 @@ use Rattle.numbers.proofs.Runs.{descending-none, descending-floor, search-none,
 use Rattle.tries.specs.declared.Tried.{Tried}
 use Rattle.tries.proofs.Tried.{the-type}
 use Rattle.tries.specs.declared.Tried.the-variants as tried
-use Rattle.tighten.specs.declared.Progress.{Progress}
-use Rattle.tighten.specs.declared.Ending.the-variants as code
-use Rattle.tighten.specs.declared.Searched.{Searched}
+use Rattle.progress.specs.declared.Progress.{Progress}
+use Rattle.progress.specs.declared.Ending.the-variants as code
+use Rattle.progress.specs.declared.Searched.{Searched}
 use Rattle.tries.specs.Steps.{Work, Startable, Beyond, triedOf, usedBy, flipsBy, IfReached, Tries}
-use Rattle.tighten.specs.Bounds.{basis, Bounded, Tracks, Room, Leaves, answerOf, endingOf, Concludes}
+use Rattle.progress.specs.Bounds.{basis, Bounded, Tracks, Room, Leaves, answerOf, endingOf, Concludes}
 use Rattle.finds.specs.Whole.{withFind, CallsFirst, Copyable, Empty, FirstCall, Roomy, FirstFind, FromFind, Searchable, Unfound, Whole}
-use Rattle.tighten.proofs.Bounds.{bounded-basis, front-bits, front-areBits, front-beyond}
+use Rattle.progress.proofs.Bounds.{bounded-basis, front-bits, front-areBits, front-beyond}
 
 -- ---- a find copied out
 

@@ -16,15 +16,15 @@ use Rattle.format.specs.Limits.{lawful}
 use Rattle.format.specs.Tables.{Holds, planOfTables, tableSize, termSize, isLoaded}
 use Rattle.tallies.specs.Layout.{assignmentSize, tallySize, bitsOf, areBits}
 use Rattle.numbers.specs.Numbers.{numbersOf}
-use Rattle.tighten.specs.declared.Ending.{Ending as EndingOf}
-use Rattle.tighten.specs.declared.Ending.the-variants as code
-use Rattle.tighten.specs.declared.Searched.{Searched}
+use Rattle.progress.specs.declared.Ending.{Ending as EndingOf}
+use Rattle.progress.specs.declared.Ending.the-variants as code
+use Rattle.progress.specs.declared.Searched.{Searched}
 use Rattle.format.specs.Layout.{markSize}
 use Rattle.format.specs.Assignment.{bitBytes}
 use Rattle.tries.specs.declared.Tried.{Tried}
 use Rattle.tries.specs.declared.Tried.the-variants as tried
 use Rattle.tries.specs.Steps.{Work, Beyond, Finds, IfReached, Tries, bitsIn, flipsBy, triedOf, usedBy}
-use Rattle.tighten.specs.Bounds.{answerOf}
+use Rattle.progress.specs.Bounds.{answerOf}
 
 -- "With a find, the first n assignment bytes hold the last one found; otherwise they are unchanged, as are all beyond n always."
 unfoldable pub withFind : Reached → ℕ → List ℕ → List ℕ

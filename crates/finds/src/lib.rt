@@ -1,8 +1,8 @@
 // The answer of a search whose first call found nothing.
 ghost use Rattle.finds.specs.Whole.{Empty, Unfound};
-use tighten::Ending;
-use tighten::Progress;
-use tighten::Searched;
+use progress::Ending;
+use progress::Progress;
+use progress::Searched;
 use tries::Tried;
 
 fn empty(ending: Ending, used: usize, flips: usize) -> Searched

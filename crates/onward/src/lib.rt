@@ -7,11 +7,11 @@ ghost use Rattle.tries.specs.Steps.{work};
 ghost use Rattle.finds.specs.Whole.{FirstFind, FromFind};
 use costs::floor_cost;
 use objective::added::add_bound;
+use progress::Ending;
+use progress::Progress;
+use progress::Searched;
+use progress::keep_find;
 use settings::Settings;
-use tighten::Ending;
-use tighten::Progress;
-use tighten::Searched;
-use tighten::keep_find;
 use tighten::tighten;
 
 // From the first find on: the clause is added to the tables, and each call sets its own bound.

@@ -24,13 +24,13 @@ use Rattle.format.proofs.IsLoaded.{isLoaded-lawful}
 use Rattle.tallies.specs.Layout.{assignmentSize, tallySize, bitsOf}
 use Rattle.numbers.specs.Numbers.{numbersOf}
 use Rattle.tries.specs.declared.Tried.the-variants as tried
-use Rattle.tighten.specs.declared.Ending.the-variants as code
-use Rattle.tighten.specs.declared.Searched.{Searched}
+use Rattle.progress.specs.declared.Ending.the-variants as code
+use Rattle.progress.specs.declared.Searched.{Searched}
 use Rattle.settings.specs.declared.Settings.{Settings as Asked}
 use Rattle.settings.specs.Settings.{modeOf}
 use Rattle.tries.specs.Steps.{Work}
 use Rattle.search.specs.Calls.{Lent, searchRefusal, answer, searchAssignment, cleared, endingNumber, unless, Searches, hasPlan, HandsOut}
-use Rattle.tighten.specs.Bounds.{answerOf, endingOf}
+use Rattle.progress.specs.Bounds.{answerOf, endingOf}
 use Rattle.finds.specs.Whole.{Whole}
 use Rattle.format.specs.Layout.{markSize}
 use Rattle.search.proofs.Refusing.{accepted}

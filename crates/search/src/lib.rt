@@ -5,14 +5,14 @@ ghost use Prim.Native.Nat.{_≤_};
 ghost use lib.ListN.{length, drop, replicate};
 ghost use Rattle.format.specs.Layout.{markSize, tableSize, tallySize, termSize};
 ghost use Rattle.format.specs.Assignment.{assignmentSize};
-ghost use Rattle.tighten.specs.Bounds.{endingOf};
+ghost use Rattle.progress.specs.Bounds.{endingOf};
 ghost use Rattle.search.specs.Calls.{endingNumber, Searches, HandsOut, lentAll};
 
 mod lent;
 
 use crate::lent::search_refusal;
+use progress::Ending;
 use settings::Settings;
-use tighten::Ending;
 use walk::search_core;
 use words::clear;
 

@@ -1,3 +1,0 @@
--- The laws behind the tightening, in reading order.
-pub mod Bounds
-pub mod Concluding

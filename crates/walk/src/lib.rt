@@ -4,14 +4,13 @@ ghost use lib.ListN.{drop};
 ghost use Rattle.format.specs.Tables.{planOfTables, tableSize, termSize};
 ghost use Rattle.settings.specs.Settings.{settingsOf};
 ghost use Rattle.tries.specs.Steps.{work};
-ghost use Rattle.finds.specs.Whole.{CallsFirst, Copyable, FirstCall, Searchable, Whole};
+ghost use Rattle.finds.specs.Whole.{FirstCall, Searchable, Whole};
 use finds::nothing;
+use first::first_call;
 use onward::from_find;
+use progress::Searched;
 use settings::Settings;
-use tighten::Searched;
 use tries::Tried;
-use tries::call;
-use words::copy;
 
 // From the first call on: it found nothing, or the search goes on from its find.
 fn from_call(
@@ -47,29 +46,6 @@ fn from_call(
         tallies,
         marks,
     )
-}
-
-// The plan is copied to the work tables, and the first call made with it.
-fn first_call(
-    plan: &[u8],
-    plan_terms: &[u8],
-    numbers: &[u8],
-    s: Settings,
-    tables: &mut [u8],
-    terms: &mut [u8],
-    tried: &mut [u8],
-    tallies: &mut [u8],
-    marks: &mut [u8],
-) -> Tried
-    requires { ⌜ Copyable (now plan) (now «plan_terms») (now tables) (now terms) (work (now tried) (now tallies) (now marks)) ⌝ }
-    ensures { λ t. ⌜ CallsFirst (settingsOf s) (now (plan .entry)) (now («plan_terms» .entry)) (now (numbers .entry)) t
-        (now (tables .entry)) (now (tables .exit)) (now (terms .entry)) (now (terms .exit))
-        (work (now (tried .entry)) (now (tallies .entry)) (now (marks .entry)))
-        (work (now (tried .exit)) (now (tallies .exit)) (now (marks .exit))) ⌝ }
-{
-    copy(plan, tables, format::TABLES);
-    copy(plan_terms, terms, format::TERMS);
-    call(tables, terms, numbers, 0, 0, s, tried, tallies, marks)
 }
 
 // The search of tables that are known to fit.

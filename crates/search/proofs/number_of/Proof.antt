@@ -2,7 +2,7 @@
 -- Assumes nothing.
 use borrow.Author.Needs.{needs}
 use Rattle.search.specs.Calls.{endingNumber}
-use Rattle.tighten.specs.Bounds.{endingOf}
+use Rattle.progress.specs.Bounds.{endingOf}
 use Rattle.search.proofs.number_of.Statement.{statement}
 use Rattle.search.proofs.number_of.Tie as tie
 

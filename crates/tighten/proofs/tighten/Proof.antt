@@ -4,8 +4,8 @@ use borrow.Author.Needs.{needs}
 use mathlib.Core.Path.{_∙_, sym, ap}
 use mir.Facts.{toZ-ofZ}
 use Rattle.plpb.specs.Plan.{floorCost}
-use Rattle.tighten.proofs.Bounds.{bounded-basis}
-use Rattle.tighten.proofs.Concluding.{room-here, room-after, unfailed, tightens-linearly, stopped-tracks, failed-tracks, lbs-then-linear}
+use Rattle.progress.proofs.Bounds.{bounded-basis}
+use Rattle.progress.proofs.Concluding.{room-here, room-after, unfailed, tightens-linearly, stopped-tracks, failed-tracks, lbs-then-linear}
 use Rattle.tighten.proofs.tighten.Statement.{statement}
 use Rattle.tighten.proofs.tighten.Tie as tie
 

@@ -4,9 +4,9 @@ use borrow.Author.Needs.{needs}
 use mathlib.Core.Path.{_∙_, ap, ap₂}
 use mir.Facts.{toZ-ofZ}
 use Rattle.plpb.specs.Search.{linearBound, lbsBound}
-use Rattle.tighten.proofs.Concluding.{bound-linear, bound-lbs}
-use Rattle.tighten.proofs.bound_for.Statement.{statement}
-use Rattle.tighten.proofs.bound_for.Tie as tie
+use Rattle.progress.proofs.Concluding.{bound-linear, bound-lbs}
+use Rattle.progress.proofs.bound_for.Statement.{statement}
+use Rattle.progress.proofs.bound_for.Tie as tie
 
 linear-bound-requires : tie.Need-linear-bound-requires
 linear-bound-requires c κs = rw (toZ-ofZ (c .before .fits .cost)) (c .before .pre .1)

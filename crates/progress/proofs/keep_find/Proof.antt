@@ -3,8 +3,8 @@
 use borrow.Author.Needs.{needs}
 use mathlib.Core.Path.{_∙_}
 use mir.Facts.{toZ-ofZ}
-use Rattle.tighten.proofs.keep_find.Statement.{statement}
-use Rattle.tighten.proofs.keep_find.Tie as tie
+use Rattle.progress.proofs.keep_find.Statement.{statement}
+use Rattle.progress.proofs.keep_find.Tie as tie
 
 returns : tie.Need-returns
 returns c = (

@@ -38,10 +38,10 @@ use Rattle.recount.proofs.Callers.{held-laid}
 use Rattle.numbers.specs.Numbers.{numbersOf}
 use Rattle.tries.specs.declared.Tried.{Tried}
 use Rattle.tries.specs.declared.Tried.the-variants as tried
-use Rattle.tighten.specs.declared.Progress.{Progress}
-use Rattle.tighten.specs.declared.Called.the-variants as called
+use Rattle.progress.specs.declared.Progress.{Progress}
+use Rattle.progress.specs.declared.Called.the-variants as called
 use Rattle.tries.specs.Steps.{Work, Startable, Beyond, triedOf, usedBy, flipsBy, IfReached, Finds, Tries}
-use Rattle.tighten.specs.Bounds.{untightened, basis, Bounded, Tracks, Room, Leaves, calledOf, progressIn, FindOr, CallsUnder}
+use Rattle.progress.specs.Bounds.{untightened, basis, Bounded, Tracks, Room, Leaves, calledOf, progressIn, FindOr, CallsUnder}
 use Rattle.format.specs.Layout.{ruleRoom}
 
 -- ---- a plan with an added clause, and without it

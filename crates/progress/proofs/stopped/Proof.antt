@@ -2,9 +2,9 @@
 -- Assumes nothing.
 use borrow.Author.Needs.{needs}
 use mathlib.Core.Path.{refl}
-use Rattle.tighten.specs.Bounds.{StoppedAt}
-use Rattle.tighten.proofs.stopped.Statement.{statement}
-use Rattle.tighten.proofs.stopped.Tie as tie
+use Rattle.progress.specs.Bounds.{StoppedAt}
+use Rattle.progress.proofs.stopped.Statement.{statement}
+use Rattle.progress.proofs.stopped.Tie as tie
 
 returns : tie.Need-returns
 unfolding StoppedAt

@@ -15,12 +15,12 @@ use Rattle.format.specs.Limits.{lawful, maxBound}
 use Rattle.format.specs.Tables.{Holds, planOfTables, tableSize}
 use Rattle.tallies.specs.Layout.{bitsOf, areBits}
 use Rattle.numbers.specs.Numbers.{numbersOf}
-use Rattle.tighten.specs.declared.Progress.{Progress}
-use Rattle.tighten.specs.declared.Called.{Called}
-use Rattle.tighten.specs.declared.Called.the-variants as called
-use Rattle.tighten.specs.declared.Ending.{Ending as EndingOf}
-use Rattle.tighten.specs.declared.Ending.the-variants as code
-use Rattle.tighten.specs.declared.Searched.{Searched}
+use Rattle.progress.specs.declared.Progress.{Progress}
+use Rattle.progress.specs.declared.Called.{Called}
+use Rattle.progress.specs.declared.Called.the-variants as called
+use Rattle.progress.specs.declared.Ending.{Ending as EndingOf}
+use Rattle.progress.specs.declared.Ending.the-variants as code
+use Rattle.progress.specs.declared.Searched.{Searched}
 use Rattle.tries.specs.Steps.{Work, Beyond}
 use Rattle.format.specs.Layout.{tallySize}
 

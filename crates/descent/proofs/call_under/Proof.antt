@@ -4,9 +4,9 @@ use borrow.Author.Needs.{needs}
 use native.Mathlib.Omega.{arith}
 use mathlib.Core.Path.{_∙_}
 use mir.Facts.{toZ-ofZ}
-use Rattle.tighten.proofs.Bounds.{bounded-long, bounded-rules, bounded-summable, bounded-word, under-bounded, under-startable, called-found, called-failed, called-short}
-use Rattle.tighten.proofs.call_under.Statement.{statement}
-use Rattle.tighten.proofs.call_under.Tie as tie
+use Rattle.progress.proofs.Bounds.{bounded-long, bounded-rules, bounded-summable, bounded-word, under-bounded, under-startable, called-found, called-failed, called-short}
+use Rattle.descent.proofs.call_under.Statement.{statement}
+use Rattle.descent.proofs.call_under.Tie as tie
 
 set-bound-requires : tie.Need-set-bound-requires
 set-bound-requires c κs =

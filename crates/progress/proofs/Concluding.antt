@@ -30,17 +30,17 @@ use Rattle.costs.proofs.Costs.{floor-size, linear-within, lbs-within}
 use Rattle.tallies.specs.Layout.{bitsOf}
 use Rattle.numbers.specs.Numbers.{numbersOf}
 use Rattle.numbers.proofs.Runs.{descending-none, descending-floor, descending-failed, descending-found, descending-short}
-use Rattle.tighten.specs.declared.Progress.{Progress}
-use Rattle.tighten.specs.declared.Called.{Called}
-use Rattle.tighten.specs.declared.Called.the-variants as called
-use Rattle.tighten.specs.declared.Ending.{Ending as EndingOf}
-use Rattle.tighten.specs.declared.Ending.the-variants as code
-use Rattle.tighten.specs.declared.Searched.{Searched}
-use Rattle.tighten.proofs.Called.{the-type}
+use Rattle.progress.specs.declared.Progress.{Progress}
+use Rattle.progress.specs.declared.Called.{Called}
+use Rattle.progress.specs.declared.Called.the-variants as called
+use Rattle.progress.specs.declared.Ending.{Ending as EndingOf}
+use Rattle.progress.specs.declared.Ending.the-variants as code
+use Rattle.progress.specs.declared.Searched.{Searched}
+use Rattle.progress.proofs.Called.{the-type}
 use Rattle.settings.specs.Settings.{modeOf}
 use Rattle.tries.specs.Steps.{Work}
-use Rattle.tighten.specs.Bounds.{basis, Bounded, Tracks, Room, Leaves, calledOf, progressIn, FindOr, CallsUnder, UnderBound, answerOf, endingOf, Concludes, Descends, Descent, StoppedAt}
-use Rattle.tighten.proofs.Bounds.{bounded-basis, cost-small, cost-fits}
+use Rattle.progress.specs.Bounds.{basis, Bounded, Tracks, Room, Leaves, calledOf, progressIn, FindOr, CallsUnder, UnderBound, answerOf, endingOf, Concludes, Descends, Descent, StoppedAt}
+use Rattle.progress.proofs.Bounds.{bounded-basis, cost-small, cost-fits}
 
 -- ---- the loop's test
 

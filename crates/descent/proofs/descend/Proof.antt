@@ -9,10 +9,10 @@ use Rattle.plpb.specs.Plan.{cost, floorCost}
 use Rattle.plpb.specs.Search.{boundIn, atFloor, gap}
 use Rattle.tallies.specs.Layout.{bitsOf}
 use Rattle.settings.specs.Settings.{settingsOf, modeOf}
-use Rattle.tighten.specs.Bounds.{basis}
-use Rattle.tighten.proofs.Concluding.{Long, cost-low, floor-low, test-above, test-floor, bound-read, bound-small, Since, since-first, room-here, tracks-here, descent-ends, descent-falls, descent-again, descent-stops}
-use Rattle.tighten.proofs.descend.Statement.{statement}
-use Rattle.tighten.proofs.descend.Tie as tie
+use Rattle.progress.specs.Bounds.{basis}
+use Rattle.progress.proofs.Concluding.{Long, cost-low, floor-low, test-above, test-floor, bound-read, bound-small, Since, since-first, room-here, tracks-here, descent-ends, descent-falls, descent-again, descent-stops}
+use Rattle.descent.proofs.descend.Statement.{statement}
+use Rattle.descent.proofs.descend.Tie as tie
 
 abbrev Inv-loop : tie.InvT-loop
 Inv-loop tables₀ terms numbers s mode floor assignment₀ tried₀ tallies₀ marks₀ at₀ tables assignment tried tallies marks at =

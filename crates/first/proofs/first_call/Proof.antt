@@ -3,8 +3,8 @@
 use borrow.Author.Needs.{needs}
 use native.Mathlib.Omega.{arith}
 use Rattle.finds.proofs.Whole.{copied-startable}
-use Rattle.walk.proofs.first_call.Statement.{statement}
-use Rattle.walk.proofs.first_call.Tie as tie
+use Rattle.first.proofs.first_call.Statement.{statement}
+use Rattle.first.proofs.first_call.Tie as tie
 
 call-requires : tie.Need-call-requires
 call-requires c κs = (copied-startable (c .before .before .before .before .before .before .before .before .before .before .before .before .before .before .before .before .before .before .before .before .before .pre) (c .before .before .before .before .before .before .before .before .before .before .before .copy .ensures) (c .before .before .before .before .before .before .before .copy2 .ensures), omega arith, omega arith)
