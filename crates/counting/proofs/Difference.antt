@@ -7,7 +7,7 @@ use mathlib.Core.Path.{_≡_, sym, _∙_, ap}
 use Rattle.plpb.specs.Count.{cap, capped}
 use Rattle.plpb.specs.Equations.{binom}
 use Rattle.plpb.proofs.Binomial.{binom-vanishes, binom-mono-upper, binom-gain}
-use Rattle.plpb.proofs.Capped.{capped-zero, capped-small, capped-large, capped-exact, capped-reaches}
+use Rattle.plpb.proofs.Capped.{capped-zero, capped-small, capped-large, capped-exact, capped-passes}
 
 nothing : (a b : ℕ) → a ≤ b → 0 ≡ capped (a - b)
 nothing a b h =
@@ -34,23 +34,24 @@ gain-below m (suc w) (suc k) p q =
     let less : suc k - 1 ≡ k = omega arith in
     rw (row, less, add-suc m w) (omega (arith, binom-gain m w k))
 
-pub at-cap : (m w k gain : ℕ) → 0 < w → 0 < k → gain ≡ capped (binom (m + w - 1) (k - 1)) → gain ≡ 4294967295 → 4294967295 ≡ capped (binom (m + w) k - binom m k)
-unfolding cap
-at-cap m w k gain p q e h =
-    let reach : 4294967295 ≤ binom (m + w - 1) (k - 1) = capped-reaches (binom (m + w - 1) (k - 1)) (omega arith) in
-    sym (capped-large (binom (m + w) k - binom m k) (le-trans reach (gain-below m w k p q)))
+-- Where what it gains is cut, so is the difference ..
+pub gain-cut : (m w k gain : ℕ) → 0 < w → 0 < k → gain ≡ capped (binom (m + w - 1) (k - 1)) → cap < gain → suc cap ≡ capped (binom (m + w) k - binom m k)
+gain-cut m w k gain p q e h =
+    let past : cap < binom (m + w - 1) (k - 1) = capped-passes (binom (m + w - 1) (k - 1)) (omega arith) in
+    sym (capped-large (binom (m + w) k - binom m k) (le-trans past (gain-below m w k p q)))
 
--- Below the cap what was given out is the entry itself ..
-pub below-cap : (n v : ℕ) → v ≡ capped n → v < 4294967295 → v ≡ n
+-- .. and else what was given out is the entry itself ..
+pub gain-exact : (n v : ℕ) → v ≡ capped n → v < 4294967296 → v ≡ n
 unfolding cap
-below-cap n v e h = e ∙ capped-exact n (omega arith)
+gain-exact n v e h = e ∙ capped-exact n (omega arith)
 
 -- .. and so is that of a smaller row.
-pub smaller-row : (m w k gain v : ℕ) → gain < 4294967295 → gain ≡ binom (m + w - 1) (k - 1) → v ≡ capped (binom (m - 1) (k - 1)) → v ≡ binom (m - 1) (k - 1)
+pub smaller-row : (m w k gain v : ℕ) → gain < 4294967296 → gain ≡ binom (m + w - 1) (k - 1) → v ≡ capped (binom (m - 1) (k - 1)) → (v ≡ binom (m - 1) (k - 1)) × (v < 4294967296)
 unfolding cap
 smaller-row m w k gain v h e f =
     let rise : binom (m - 1) (k - 1) ≤ binom (m + w - 1) (k - 1) = binom-mono-upper (k - 1) (omega arith) in
-    f ∙ capped-small (binom (m - 1) (k - 1)) (omega arith)
+    let same : v ≡ binom (m - 1) (k - 1) = f ∙ capped-small (binom (m - 1) (k - 1)) (omega arith) in
+    (same, omega arith)
 
 pub alone : (m k above more : ℕ) → m < k → above ≡ more → capped above ≡ capped (more - binom m k)
 alone m k above more h e =

@@ -33,7 +33,7 @@ fn lower_half(m: u64, k: u64) -> Report
         entry = entry * (m - i) / (i + 1);
         if (Count::CAP.value as u64) < entry {
             return Report {
-                count: Count::CAP,
+                count: Count::CUT,
                 factors: (i + 1) as u32,
             };
         }
@@ -42,6 +42,7 @@ fn lower_half(m: u64, k: u64) -> Report
     Report {
         count: Count {
             value: entry as u32,
+            cut: false,
         },
         factors: i as u32,
     }
@@ -107,9 +108,9 @@ fn absorbed(before: u64, m: u64, k: u64) -> u64
     before * m / k
 }
 
-// The difference below, where it gains less than the cap in its last row: then the entries behind both numbers are exact.
+// The difference below, where what it gains in its last row is not cut: then the entries behind both numbers are exact.
 fn exact_difference(gain: u64, m: u64, w: u64, k: u64) -> Count
-    requires { ⌜ (m + w < 4294967296) × (0 < w) × (0 < k) × (gain < 4294967295) × (gain ≡ binom (m + w - 1) (k - 1)) ⌝ }
+    requires { ⌜ (m + w < 4294967296) × (0 < w) × (0 < k) × (gain < 4294967296) × (gain ≡ binom (m + w - 1) (k - 1)) ⌝ }
     ensures { λ r. ⌜ number r ≡ capped (binom (m + w) k - binom m k) ⌝ }
 {
     let above = absorbed(gain, m + w, k);
@@ -117,11 +118,11 @@ fn exact_difference(gain: u64, m: u64, w: u64, k: u64) -> Count
         return Count::of(above);
     }
     let before = binomial(m - 1, k - 1);
-    Count::of(above - absorbed(before.value as u64, m, k))
+    Count::of(above - absorbed(before.rank(), m, k))
 }
 
-// m + w over k less m over k. Both may be past the cap where their difference is not, so neither is capped first:
-// the difference is at least m + w − 1 over k − 1, and both come exactly from such entries while these are below the cap.
+// m + w over k less m over k. Both may be past the cap where their difference is not, so neither is cut first:
+// the difference is at least m + w − 1 over k − 1, and both come exactly from such entries while these are not cut.
 pub fn difference(m: u64, w: u64, k: u64) -> Count
     requires { ⌜ m + w < 4294967296 ⌝ }
     ensures { λ r. ⌜ number r ≡ capped (binom (m + w) k - binom m k) ⌝ }
@@ -136,8 +137,8 @@ pub fn difference(m: u64, w: u64, k: u64) -> Count
         return Count::ZERO;
     }
     let gain = binomial(m + w - 1, k - 1);
-    if gain.value == Count::CAP.value {
-        return Count::CAP;
+    if gain.cut {
+        return Count::CUT;
     }
     exact_difference(gain.value as u64, m, w, k)
 }

@@ -1,40 +1,103 @@
-// A count as it is given out: the true number or 4,294,967,295, whichever is smaller.
+// A count as it is given out: the true number or 4,294,967,295, whichever is smaller, and whether it was cut.
 ghost use mathlib.Core.Path.{_≡_};
-ghost use Prim.Native.Nat.{_+_, _*_};
-ghost use Rattle.plpb.specs.Count.{capped};
-ghost use Rattle.counting.specs.Count.{number};
+ghost use Prim.Native.Nat.{suc, _+_, _*_, _<_};
+ghost use Rattle.plpb.specs.Count.{cap, given, capped};
+ghost use Rattle.counting.specs.Count.{number, markOf};
 
 pub struct Count {
     pub value: u32,
+    pub cut: bool,
 }
 
 impl Count {
-    pub const ZERO: Count = Count { value: 0 };
+    pub const ZERO: Count = Count {
+        value: 0,
+        cut: false,
+    };
 
-    pub const ONE: Count = Count { value: 1 };
+    pub const ONE: Count = Count {
+        value: 1,
+        cut: false,
+    };
 
-    pub const CAP: Count = Count { value: 4294967295 };
+    // 4,294,967,295 itself.
+    pub const CAP: Count = Count {
+        value: 4294967295,
+        cut: false,
+    };
+
+    // Every number above it.
+    pub const CUT: Count = Count {
+        value: 4294967295,
+        cut: true,
+    };
 
     // The count of a number that fits 64 bits.
     pub fn of(n: u64) -> Count
         ensures { λ r. ⌜ number r ≡ capped n ⌝ }
     {
-        if n < Count::CAP.value as u64 {
-            Count { value: n as u32 }
-        } else {
-            Count::CAP
+        if (Count::CAP.value as u64) < n {
+            return Count::CUT;
         }
+        Count {
+            value: n as u32,
+            cut: false,
+        }
+    }
+
+    // Where it stands among counts: a cut one above all others.
+    pub fn rank(self) -> u64
+        ensures { λ r. ⌜ (r ≡ number self) × (r < 4294967297) ⌝ }
+    {
+        if self.cut {
+            return Count::CAP.value as u64 + 1;
+        }
+        self.value as u64
+    }
+
+    // The value that is given out.
+    pub fn shown(self) -> u32
+        ensures { λ r. ⌜ r ≡ given (number self) .value ⌝ }
+    {
+        let n = self.rank();
+        if (Count::CAP.value as u64) < n {
+            return Count::CAP.value;
+        }
+        n as u32
+    }
+
+    // Whether it was cut, for a caller who has no truth values: 1 or 0.
+    pub fn mark(self) -> u32
+        ensures { λ r. ⌜ r ≡ markOf (given (number self)) ⌝ }
+    {
+        if (Count::CAP.value as u64) < self.rank() {
+            return 1;
+        }
+        0
     }
 
     pub fn plus(self, other: Count) -> Count
         ensures { λ r. ⌜ number r ≡ capped (number self + number other) ⌝ }
     {
-        Count::of(self.value as u64 + other.value as u64)
+        Count::of(self.rank() + other.rank())
+    }
+
+    // A cut one times this one. Zero times a cut one is zero and uncut.
+    fn times_cut(self) -> Count
+        ensures { λ r. ⌜ number r ≡ capped (suc cap * number self) ⌝ }
+    {
+        if self.rank() == 0 {
+            return Count::ZERO;
+        }
+        Count::CUT
     }
 
     pub fn times(self, other: Count) -> Count
         ensures { λ r. ⌜ number r ≡ capped (number self * number other) ⌝ }
     {
-        Count::of(self.value as u64 * other.value as u64)
+        if self.cut {
+            return other.times_cut();
+        }
+        Count::of(self.value as u64 * other.rank())
     }
 }

@@ -18,6 +18,7 @@ pub fn tabled(m: u64, k: u64) -> Count
     let ten = tens_from_0(place / 10);
     Count {
         value: ten[(place % 10) as usize],
+        cut: false,
     }
 }
 

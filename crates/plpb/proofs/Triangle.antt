@@ -1,17 +1,20 @@
 -- Pascal's triangle: made row by row by its rule, each of its entries is the binomial.
 -- Assumes nothing.
 use Prim.Native.Nat.{ℕ, zero, suc, _+_, _*_, _-_, _/_, _≤_, _<_, min}
-use native.Mathlib.Nat.{zero-add, add-zero, add-suc, suc-add, add-assoc, div-eq-of-eq-mul-right, mul-le-mul, min-eq-left, min-eq-right}
+use native.Mathlib.Nat.{le-trans, zero-add, add-zero, add-suc, suc-add, add-assoc, div-eq-of-eq-mul-right, mul-le-mul, min-eq-left, min-eq-right}
 use native.Mathlib.Decide.{decLe}
 use native.Mathlib.Omega.{arith}
 use native.Mathlib.Numerals.{add-one}
 use mathlib.Core.List.{List, [], _∷_, _++_}
 use mathlib.Core.Path.{_≡_, refl, sym, _∙_, ap, ap₂}
+use lib.Dec.{lit≤}
 use lib.ListN.{length, getD, List·getD-append}
 use lib.Seq.{getD-append-add}
+use Rattle.plpb.specs.Count.{cap, capped}
 use Rattle.plpb.specs.Equations.{binom}
 use Rattle.plpb.specs.Factors.{triangleRows, rowBelow, rowsFrom, triangle, placeOf, byFactors}
-use Rattle.plpb.proofs.Binomial.{binom-vanishes, next-quotient, symmetric}
+use Rattle.plpb.proofs.Binomial.{binom-vanishes, binom-mono-upper, binom-mono-lower, quick, quick-is, next-quotient, symmetric}
+use Rattle.plpb.proofs.Capped.{capped-small}
 
 -- So many binomials of m, from m over i on.
 unfoldable binomials : ℕ → ℕ → ℕ → List ℕ
@@ -109,3 +112,15 @@ nearer-end m k h = go (decLe k (m - k))
 pub table-formula : (m k : ℕ) → m < triangleRows → k ≤ m → getD triangle (placeOf m k) 0 ≡ byFactors m (min k (m - k))
 table-formula m k small within =
     triangle-entry m k small within ∙ sym (by-factors m (min k (m - k)) ∙ nearer-end m k within)
+
+-- None of its entries is above the cap, so none of them is cut.
+last-row : binom 34 17 ≤ cap
+unfolding cap quick
+last-row = rw (← quick-is 34 17) (lit≤ {m = quick 34 17} {n = cap} tt)
+
+pub row-small : (m k : ℕ) → m < triangleRows → k ≤ m → capped (binom m k) ≡ binom m k
+row-small m k h l =
+    let near = min k (m - k) in
+    let most : binom m near ≤ binom 34 17 =
+    le-trans (binom-mono-upper near {m = m} {n = 34} (omega arith)) (binom-mono-lower 34 near 17 (omega arith) (omega arith)) in
+    capped-small (binom m k) (omega (arith, nearer-end m k l, most, last-row))

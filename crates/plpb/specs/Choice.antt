@@ -1,6 +1,6 @@
 -- The choice of a variable (document 01, "The walk": "Choice (Algorithm 2, SKC)"; paper 004, Algorithm 2).
 -- Assumes nothing.
-use Prim.Native.Nat.{ℕ, min}
+use Prim.Native.Nat.{ℕ, suc, min}
 use mathlib.Core.Bool.{not, cond}
 use mathlib.Core.List.{List, [], _∷_}
 use lib.Dec.{ltb, eqb}
@@ -20,12 +20,12 @@ choosable p c = keep (λ x. names c x and not (isLocked p x)) (row 1 (p .variabl
 unfoldable pub pickFrom : {A : Type 0} → A → List A → Walk A
 pickFrom d xs = pick (length xs) (λ i. done (getD xs i d))
 
--- The least capped break count among some variables.
+-- The least break count among some variables, by where counts stand: "'Least' in the choice follows this order." (T-08)
 unfoldable pub leastBreak : Plan → Assignment → List ℕ → ℕ
-leastBreak p a [] = cap
+leastBreak p a [] = suc cap
 leastBreak p a (x ∷ xs) = min (cappedBreak p a x) (leastBreak p a xs)
 
--- Those among some variables that have a given capped break count.
+-- Those among some variables whose break count stands at a given place.
 unfoldable pub withBreak : Plan → Assignment → ℕ → List ℕ → List ℕ
 withBreak p a b xs = keep (λ x. eqb (cappedBreak p a x) b) xs
 

@@ -3,19 +3,21 @@
 use borrow.Author.Needs.{needs}
 use native.Mathlib.Omega.{arith}
 use mathlib.Core.Path.{sym, _∙_, ap}
-use Rattle.plpb.specs.Count.{capped, cap}
+use Rattle.plpb.specs.Count.{capped}
 use Rattle.plpb.proofs.Binomial.{binom-vanishes}
-use Rattle.plpb.proofs.Capped.{capped-zero, capped-small}
+use Rattle.plpb.proofs.Capped.{capped-zero}
+use Rattle.plpb.proofs.Triangle.{row-small}
 use Rattle.counting.proofs.binomial.binomial.Statement.{statement}
 use Rattle.counting.proofs.binomial.binomial.Tie as tie
 
 returns : tie.Need-returns
 returns c = sym (ap capped (binom-vanishes _ _ (c .if1 .taken)) ∙ capped-zero)
 
--- What stands in the table is a word, so it is no more than the cap.
+-- What stands in the table is no more than the cap.
 returns-2 : tie.Need-returns-2
-unfolding cap
-returns-2 c = c .tabled .ensures ∙ sym (capped-small _ (omega (arith, c .tabled .ensures, c .tabled .ok)))
+returns-2 c =
+    let from = c .before .before .before in
+    c .tabled .ensures ∙ sym (row-small (from .args .m) (from .args .k) (omega (arith, c .before .if2 .taken)) (omega (arith, c .before .before .if1 .left)))
 
 pub binomial-spec : {M : Type 1} → statement M
 binomial-spec = tie.close (tie.spec returns (λ c κs. search needs) returns-2 (λ c κs. search needs) (λ c. c .before .by-factors .ensures .0))

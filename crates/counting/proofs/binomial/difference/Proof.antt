@@ -2,7 +2,9 @@
 -- Assumes nothing.
 use borrow.Author.Needs.{needs}
 use native.Mathlib.Omega.{arith}
-use Rattle.counting.proofs.Difference.{none-taken, none-added, too-few, at-cap, below-cap}
+use mathlib.Core.Path.{sym, _∙_}
+use Rattle.counting.proofs.Difference.{none-taken, none-added, too-few, gain-cut, gain-exact}
+use Rattle.counting.proofs.Marks.{number-cut, number-uncut}
 use Rattle.counting.proofs.binomial.difference.Statement.{statement}
 use Rattle.counting.proofs.binomial.difference.Tie as tie
 
@@ -16,7 +18,8 @@ returns-3 : tie.Need-returns-3
 returns-3 c = too-few _ _ _ (c .if3 .taken)
 
 returns-4 : tie.Need-returns-4
-returns-4 c = at-cap _ _ _ _ (omega arith) (omega arith) (c .before .before .before .binomial .ensures) (c .if4 .taken)
+returns-4 c =
+    gain-cut _ _ _ _ (omega arith) (omega arith) (c .before .binomial .ensures) (omega (arith, number-cut (c .before .binomial .result) (c .if4 .taken)))
 
 exact-difference-requires : tie.Need-exact-difference-requires
 exact-difference-requires c κs = (
@@ -24,7 +27,7 @@ exact-difference-requires c κs = (
   search needs,
   search needs,
   search needs,
-  below-cap _ _ (c .before .before .before .before .binomial .ensures) (search needs),
+  gain-exact _ _ (sym (number-uncut _ (c .before .if4 .left)) ∙ c .before .before .binomial .ensures) (search needs),
 )
 
 pub difference-spec : {M : Type 1} → statement M

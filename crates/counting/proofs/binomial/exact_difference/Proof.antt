@@ -13,13 +13,9 @@ returns c = c .of .ensures ∙ alone _ _ _ _ (c .before .if1 .taken) (c .before 
 
 absorbed-requires-2 : tie.Need-absorbed-requires-2
 absorbed-requires-2 c κs =
-    let given = c .before .before .before .before .pre in (
-      search needs,
-      search needs,
-      search needs,
-      search needs,
-      smaller-row _ _ _ _ _ (given .3) (given .4) (c .before .binomial .ensures),
-    )
+    let given = c .before .before .before .before .pre in
+    let row = smaller-row _ _ _ _ _ (given .3) (given .4) (c .rank .ensures .0 ∙ c .before .binomial .ensures) in
+    (search needs, search needs, search needs, row .1, row .0)
 
 sub-of : tie.Need-sub-of
 sub-of c = ordered _ _ _ _ _ (c .before .before .before .before .absorbed .ensures) (c .absorbed2 .ensures)
@@ -40,7 +36,7 @@ exact-difference-spec =
     (λ c. search needs)
     (λ c. search needs)
     (λ c κs. search needs)
-    (λ c. search needs)
+    (λ c κs. search needs)
     absorbed-requires-2
     sub-of
     (λ c κs. search needs)

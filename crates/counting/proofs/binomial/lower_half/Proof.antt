@@ -2,7 +2,7 @@
 -- so where one is past the cap, m over k is, and the first such one ends the count of factors. The measure is what is left of k.
 -- Assumes nothing.
 use borrow.Author.Needs.{needs}
-use Prim.Native.Nat.{ℕ, _+_, _-_, _*_, _/_, _≤_, _<_}
+use Prim.Native.Nat.{ℕ, suc, _+_, _-_, _*_, _/_, _≤_, _<_}
 use native.Mathlib.Numerals.{add-one}
 use native.Mathlib.Omega.{arith}
 use mathlib.Core.Path.{_≡_, refl, sym, _∙_, ap}
@@ -25,7 +25,7 @@ abbrev μ-loop : tie.MeasureT-loop
 next : (m i entry : ℕ) → entry ≡ binom m i → entry * (m - i) / (i + 1) ≡ binom m (i + 1)
 next m i entry h = rw (h, add-one) (next-quotient m i)
 
-past : (m k i entry : ℕ) → i + 1 ≤ k → k + k ≤ m → 4294967295 < entry → entry ≡ binom m (i + 1) → 4294967295 ≡ capped (binom m k)
+past : (m k i entry : ℕ) → i + 1 ≤ k → k + k ≤ m → 4294967295 < entry → entry ≡ binom m (i + 1) → suc cap ≡ capped (binom m k)
 unfolding cap
 past m k i entry h mid l e =
     let rise : binom m (i + 1) ≤ binom m k = binom-mono-lower m (i + 1) k h (omega arith) in
@@ -58,7 +58,7 @@ unfolding cap
 whole m k i entry h l e s =
     let same : i ≡ k = omega arith in
     let exact : entry ≡ binom m k = e ∙ ap (binom m) same in
-    sym (rw (← exact) (capped-small entry s))
+    sym (rw (← exact) (capped-small entry (omega arith)))
 
 returns : tie.Need-returns Inv-loop μ-loop
 returns c = (none-chosen _ _ (c .if1 .taken), none-tried _ _ (c .if1 .taken))

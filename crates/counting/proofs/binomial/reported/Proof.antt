@@ -3,9 +3,10 @@
 use borrow.Author.Needs.{needs}
 use native.Mathlib.Omega.{arith}
 use mathlib.Core.Path.{sym, _∙_, ap}
-use Rattle.plpb.specs.Count.{capped, cap}
+use Rattle.plpb.specs.Count.{capped}
 use Rattle.plpb.proofs.Binomial.{binom-vanishes}
-use Rattle.plpb.proofs.Capped.{capped-zero, capped-small}
+use Rattle.plpb.proofs.Capped.{capped-zero}
+use Rattle.plpb.proofs.Triangle.{row-small}
 use Rattle.plpb.proofs.Factors.{factors-small, factors-outside}
 use Rattle.counting.proofs.binomial.reported.Statement.{statement}
 use Rattle.counting.proofs.binomial.reported.Tie as tie
@@ -15,10 +16,9 @@ returns c =
     (sym (ap capped (binom-vanishes _ _ (c .if1 .taken)) ∙ capped-zero), factors-outside _ _ (c .if1 .taken))
 
 returns-2 : tie.Need-returns-2
-unfolding cap
 returns-2 c =
     let given = c .before .before .before .args in (
-      c .tabled .ensures ∙ sym (capped-small _ (omega (arith, c .tabled .ensures, c .tabled .ok))),
+      c .tabled .ensures ∙ sym (row-small (given .m) (given .k) (omega (arith, c .before .if2 .taken)) (omega (arith, c .before .before .if1 .left))),
       factors-small (given .m) (given .k) (omega arith),
     )
 
