@@ -3,12 +3,17 @@ use Prim.Native.Nat.{ℕ, zero, suc, _≤_, _<_}
 use native.Mathlib.Omega.{arith}
 use mathlib.Core.Path.{_≡_, refl, sym, _∙_}
 use mathlib.Core.Bool.{true, false, cond}
+use mathlib.Core.List.{[], _∷_}
 use lib.Dec.{ltb, eqb·suc-zero}
 use lib.ListN.{length, take}
 use borrow.Author.Tests.{lt-ltb, le-ltb}
 use Rattle.plpb.specs.Lists.{_and_}
 use Rattle.plpb.specs.Plan.{isVariable, isLocked}
-use Rattle.plpb.specs.Count.{cappedBreak, cappedMake}
+use Rattle.plpb.specs.Expansion.{breakCount, makeCount}
+use Rattle.plpb.specs.Count.{given, cappedBreak, cappedMake}
+use Rattle.plpb.proofs.Capped.{given-capped}
+use Rattle.counting.specs.Count.{countWords}
+use Rattle.counting.proofs.Marks.{words-uncut}
 use Rattle.words.specs.Words.{wordAt}
 use Rattle.format.specs.File.{refuse}
 use Rattle.format.specs.Tables.{sameBytes}
@@ -118,13 +123,15 @@ module _ (l : Lent) (x : ℕ) where
   pub flip-tested : flipRefusal l x ≡ 0 → Flippable (l .tables) (l .terms) (l .assignment) (l .tallies) x
   flip-tested e = flippable (flips l x e .0)
 
-  pub counts-refused : (k : ℕ) → k ≡ callRefusal l x → (k ≡ 0 → ⊥) → (0 ≡ countsBreak l x) × (0 ≡ countsMake l x)
+  pub counts-refused : (k : ℕ) → k ≡ callRefusal l x → (k ≡ 0 → ⊥) → (0 ∷ 0 ∷ [] ≡ countWords (countsBreak l x)) × (0 ∷ 0 ∷ [] ≡ countWords (countsMake l x))
   unfolding countsBreak countsMake
   counts-refused zero e n = absurd (n refl)
-  counts-refused (suc k) e n = (rw (sym e, eqb·suc-zero k), rw (sym e, eqb·suc-zero k))
+  counts-refused (suc k) e n =
+      (rw (sym e, eqb·suc-zero k) (words-uncut 0 (omega arith)), rw (sym e, eqb·suc-zero k) (words-uncut 0 (omega arith)))
 
   pub counts-accepted : callRefusal l x ≡ 0
-      → (cappedBreak (plan l) (bitsOf (plan l .variables) (l .assignment)) x ≡ countsBreak l x)
-      × (cappedMake (plan l) (bitsOf (plan l .variables) (l .assignment)) x ≡ countsMake l x)
-  unfolding countsBreak countsMake
-  counts-accepted e = (rw e, rw e)
+      → (given (cappedBreak (plan l) (bitsOf (plan l .variables) (l .assignment)) x) ≡ countsBreak l x)
+      × (given (cappedMake (plan l) (bitsOf (plan l .variables) (l .assignment)) x) ≡ countsMake l x)
+  unfolding countsBreak countsMake cappedBreak cappedMake
+  counts-accepted e =
+      (rw e (given-capped (breakCount (plan l) (bitsOf (plan l .variables) (l .assignment)) x)), rw e (given-capped (makeCount (plan l) (bitsOf (plan l .variables) (l .assignment)) x)))

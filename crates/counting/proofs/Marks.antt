@@ -4,11 +4,12 @@ use Prim.Native.Nat.{ℕ, zero, suc, _*_, _≤_, _<_}
 use native.Mathlib.Nat.{mul-zero, le-mul-of-pos-right}
 use native.Mathlib.Omega.{arith}
 use mathlib.Core.Bool.{true, false}
+use mathlib.Core.List.{[], _∷_}
 use mathlib.Core.Path.{_≡_, refl, sym}
 use Rattle.plpb.specs.Count.{cap, given, capped}
 use Rattle.plpb.proofs.Capped.{capped-zero, capped-large, given-small, given-large}
 use Rattle.counting.specs.declared.count.Count.{Count}
-use Rattle.counting.specs.Count.{number, markOf}
+use Rattle.counting.specs.Count.{number, countWords}
 
 module _ (c : Count) where
   pub number-cut : c .cut ≡ true → number c ≡ suc cap
@@ -17,14 +18,14 @@ module _ (c : Count) where
   pub number-uncut : c .cut ≡ false → number c ≡ c .value
   number-uncut h = rw h
 
--- The mark that is given out says whether the number is above the cap.
-pub mark-cut : (n : ℕ) → cap < n → 1 ≡ markOf (given n)
-unfolding markOf
-mark-cut n h = rw (given-large n h)
+-- What is given out of a number past the cap, and of any other.
+pub words-cut : (n : ℕ) → cap < n → cap ∷ 1 ∷ [] ≡ countWords (given n)
+unfolding countWords
+words-cut n h = rw (given-large n h)
 
-pub mark-uncut : (n : ℕ) → n ≤ cap → 0 ≡ markOf (given n)
-unfolding markOf
-mark-uncut n h = rw (given-small n h)
+pub words-uncut : (n : ℕ) → n ≤ cap → n ∷ 0 ∷ [] ≡ countWords (given n)
+unfolding countWords
+words-uncut n h = rw (given-small n h)
 
 -- "zero times a cut one is zero and uncut", and any other number times a cut one is cut.
 pub none-cut : (n : ℕ) → n ≡ 0 → 0 ≡ capped (suc cap * n)

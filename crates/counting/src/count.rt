@@ -2,11 +2,22 @@
 ghost use mathlib.Core.Path.{_≡_};
 ghost use Prim.Native.Nat.{suc, _+_, _*_, _<_};
 ghost use Rattle.plpb.specs.Count.{cap, given, capped};
-ghost use Rattle.counting.specs.Count.{number, markOf};
+ghost use Rattle.counting.specs.Count.{number, countWords, markedWords};
 
 pub struct Count {
     pub value: u32,
     pub cut: bool,
+}
+
+// A count as it is given out to C: its value, and 1 where it was cut, else 0.
+#[repr(C)]
+pub struct Marked {
+    pub value: u32,
+    pub cut: u32,
+}
+
+impl Marked {
+    pub const ZERO: Marked = Marked { value: 0, cut: 0 };
 }
 
 impl Count {
@@ -55,25 +66,21 @@ impl Count {
         self.value as u64
     }
 
-    // The value that is given out.
-    pub fn shown(self) -> u32
-        ensures { λ r. ⌜ r ≡ given (number self) .value ⌝ }
+    // As it is given out.
+    pub fn marked(self) -> Marked
+        ensures { λ r. ⌜ markedWords r ≡ countWords (given (number self)) ⌝ }
     {
         let n = self.rank();
         if (Count::CAP.value as u64) < n {
-            return Count::CAP.value;
+            return Marked {
+                value: Count::CAP.value,
+                cut: 1,
+            };
         }
-        n as u32
-    }
-
-    // Whether it was cut, for a caller who has no truth values: 1 or 0.
-    pub fn mark(self) -> u32
-        ensures { λ r. ⌜ r ≡ markOf (given (number self)) ⌝ }
-    {
-        if (Count::CAP.value as u64) < self.rank() {
-            return 1;
+        Marked {
+            value: n as u32,
+            cut: 0,
         }
-        0
     }
 
     pub fn plus(self, other: Count) -> Count

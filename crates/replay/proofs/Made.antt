@@ -1,5 +1,5 @@
 -- A call made is the definition's, and its answer is written where the list's answers go on. Assumes nothing.
-use Prim.Native.Nat.{ℕ, zero, suc, _+_, _-_, _/_, _≤_, _<_}
+use Prim.Native.Nat.{ℕ, zero, suc, _+_, _-_, _*_, _/_, _≤_, _<_}
 use native.Mathlib.Omega.{arith}
 use mathlib.Core.Path.{_≡_, refl, sym, ap, ap₂, _∙_}
 use mathlib.Core.Bool.{Bool, cond}
@@ -8,13 +8,16 @@ use lib.Dec.{eqb·suc-zero}
 use lib.ListN.{length, getD, length-append, take-append-drop}
 use borrow.Author.Tests.{eq-eqb, ne-eqb}
 use Rattle.plpb.specs.Book.{Call, flipCall, countsCall, Answer, refused, accepted, counted}
+use Rattle.plpb.specs.Count.{given}
+use Rattle.counting.specs.Count.{countWords}
+use Rattle.counting.proofs.Marks.{words-uncut}
 use Rattle.words.specs.Words.{numAt, bytesOf, wordBytes}
 use Rattle.words.specs.Writes.{front, put}
-use Rattle.words.proofs.Words.{length-bytesOf}
-use Rattle.words.proofs.Writes.{put-put, front-none}
+use Rattle.words.proofs.Words.{length-wordBytes}
+use Rattle.words.proofs.Writes.{put-put, front-none, wordBytes-append}
 use Rattle.tallies.specs.Calls.{Lent, lent, callRefusal, flipRefusal, flipAssignment, flipTallies, countsBreak, countsMake, answer, leftBy}
 use Rattle.tallies.specs.Demand.{answers, after}
-use Rattle.replay.specs.Replay.{callOf, callsFrom, callsOf, answerWords, answerBytes}
+use Rattle.replay.specs.Replay.{callOf, callsFrom, callsOf, answerSize, answerWords, answerBytes}
 
 -- ---- one call
 
@@ -26,48 +29,55 @@ is-counts : (kind x : ℕ) → (kind ≡ 0 → ⊥) → callOf kind x ≡ counts
 unfolding callOf
 is-counts kind x n = ap (λ (b : Bool). cond b (flipCall x) (countsCall x)) (ne-eqb kind 0 n)
 
-flip-words : (l : Lent) (x k : ℕ) → k ≡ flipRefusal l x → k ∷ 0 ∷ 0 ∷ [] ≡ answerWords (answer l (flipCall x))
-unfolding answer answerWords
-flip-words l x zero e = rw (sym e)
-flip-words l x (suc k) e = rw (sym e, eqb·suc-zero k)
+-- A count of nothing, as it is given out.
+nothing : 0 ∷ 0 ∷ [] ≡ countWords (given 0)
+nothing = words-uncut 0 (omega arith)
 
-counts-words : (l : Lent) (x k : ℕ) → k ≡ callRefusal l x → k ∷ countsBreak l x ∷ countsMake l x ∷ [] ≡ answerWords (answer l (countsCall x))
+flip-words : (l : Lent) (x k : ℕ) → k ≡ flipRefusal l x → k ∷ 0 ∷ 0 ∷ 0 ∷ 0 ∷ [] ≡ answerWords (answer l (flipCall x))
+unfolding answer answerWords
+flip-words l x zero e = rw (sym e, ← nothing)
+flip-words l x (suc k) e = rw (sym e, eqb·suc-zero k, ← nothing)
+
+counts-words : (l : Lent) (x k : ℕ) → k ≡ callRefusal l x → k ∷ (countWords (countsBreak l x) ++ countWords (countsMake l x)) ≡ answerWords (answer l (countsCall x))
 unfolding answer answerWords countsBreak countsMake
 counts-words l x zero e = rw (sym e)
 counts-words l x (suc k) e = rw (sym e, eqb·suc-zero k)
 
 module _ (l : Lent) (kind x k : ℕ) where
   pub flip-made : k ≡ flipRefusal l x → kind ≡ 0
-      → (k ∷ 0 ∷ 0 ∷ [] ≡ answerWords (answer l (callOf kind x)))
+      → (k ∷ 0 ∷ 0 ∷ 0 ∷ 0 ∷ [] ≡ answerWords (answer l (callOf kind x)))
       × (flipAssignment l x ≡ leftBy l (callOf kind x) .assignment)
       × (flipTallies l x ≡ leftBy l (callOf kind x) .tallies)
   unfolding leftBy
   flip-made e z = rw (is-flip kind x z) (flip-words l x k e, refl, refl)
 
-  pub counts-made : k ≡ callRefusal l x → (b m : ℕ) → (kind ≡ 0 → ⊥) → b ≡ countsBreak l x → m ≡ countsMake l x
-      → (k ∷ b ∷ m ∷ [] ≡ answerWords (answer l (callOf kind x)))
+  pub counts-made : k ≡ callRefusal l x → (bs ms : List ℕ) → (kind ≡ 0 → ⊥) → bs ≡ countWords (countsBreak l x) → ms ≡ countWords (countsMake l x)
+      → (k ∷ (bs ++ ms) ≡ answerWords (answer l (callOf kind x)))
       × (l .assignment ≡ leftBy l (callOf kind x) .assignment)
       × (l .tallies ≡ leftBy l (callOf kind x) .tallies)
   unfolding leftBy
-  counts-made e b m n p q = rw (is-counts kind x n, p, q) (counts-words l x k e, refl, refl)
+  counts-made e bs ms n p q = rw (is-counts kind x n, p, q) (counts-words l x k e, refl, refl)
 
 -- ---- an answer written
 
-pub three-words : (to a b c : ℕ) (s : List ℕ) → to + 12 ≤ length s
-    → put (to + 8) (bytesOf 4 c) (put (to + 4) (bytesOf 4 b) (put to (bytesOf 4 a) s)) ≡ put to (wordBytes (a ∷ b ∷ c ∷ [])) s
-unfolding wordBytes
-three-words to a b c s h =
-    let one : length (bytesOf 4 a) ≡ 4 = length-bytesOf 4 a in
-    let two : length (bytesOf 4 a ++ bytesOf 4 b) ≡ 8 = length-append (bytesOf 4 a) (bytesOf 4 b) ∙ ap₂ _+_ one (length-bytesOf 4 b) in
-    let first = rw one at (put-put to (bytesOf 4 a) (bytesOf 4 b) s (rw one (omega arith))) in
-    let second = rw two at (put-put to (bytesOf 4 a ++ bytesOf 4 b) (bytesOf 4 c) s (rw two (omega arith))) in
-    ap (put (to + 8) (bytesOf 4 c)) first ∙ second ∙ ap (λ bs. put to bs s) (simp (append-assoc, append-nil))
+-- Words written behind words.
+pub next-words : (to : ℕ) (ws vs s : List ℕ) → to + 4 * length ws + 4 * length vs ≤ length s
+    → put (to + 4 * length ws) (wordBytes vs) (put to (wordBytes ws) s) ≡ put to (wordBytes (ws ++ vs)) s
+next-words to ws vs s h =
+    let one : length (wordBytes ws) ≡ 4 * length ws = length-wordBytes ws in
+    let two : length (wordBytes vs) ≡ 4 * length vs = length-wordBytes vs in
+    rw one at (put-put to (wordBytes ws) (wordBytes vs) s (rw one (omega arith))) ∙ ap (λ bs. put to bs s) (sym (wordBytes-append ws vs))
 
-answer-size : (a : Answer) → length (wordBytes (answerWords a)) ≡ 12
-unfolding answerWords wordBytes bytesOf
-answer-size (refused n) = refl
-answer-size accepted = refl
-answer-size (counted b m) = refl
+-- One word is its four bytes.
+pub one-word : (w : ℕ) → bytesOf 4 w ≡ wordBytes (w ∷ [])
+unfolding wordBytes
+one-word w = sym (append-nil (bytesOf 4 w))
+
+pub answer-size : (a : Answer) → length (wordBytes (answerWords a)) ≡ answerSize
+unfolding answerWords countWords
+answer-size (refused n) = length-wordBytes _
+answer-size accepted = length-wordBytes _
+answer-size (counted b m) = length-wordBytes _
 
 -- ---- a list of calls
 
@@ -84,13 +94,13 @@ unfolding callsFrom
 calls-more zero at s h = absurd (omega arith)
 calls-more (suc k) at s h = let e : suc k - 1 ≡ k = omega arith in rw e
 
-write-more : (l : Lent) (c : Call) (cs : List Call) (to : ℕ) (out : List ℕ) → to + 12 ≤ length out
-    → put (to + 12) (answerBytes (answers (leftBy l c) cs)) (put to (wordBytes (answerWords (answer l c))) out) ≡ put to (answerBytes (answers l (c ∷ cs))) out
+write-more : (l : Lent) (c : Call) (cs : List Call) (to : ℕ) (out : List ℕ) → to + answerSize ≤ length out
+    → put (to + answerSize) (answerBytes (answers (leftBy l c) cs)) (put to (wordBytes (answerWords (answer l c))) out) ≡ put to (answerBytes (answers l (c ∷ cs))) out
 unfolding answers answerBytes
 write-more l c cs to out h =
     let bs = wordBytes (answerWords (answer l c)) in
     let rest = answerBytes (answers (leftBy l c) cs) in
-    let n : length bs ≡ 12 = answer-size (answer l c) in
+    let n : length bs ≡ answerSize = answer-size (answer l c) in
     ap (λ k. put (to + k) rest (put to bs out)) (sym n) ∙ put-put to bs rest out (rw n h)
 
 -- One turn: a call, and its answer written.
@@ -102,13 +112,13 @@ module _ (l : Lent) (s : List ℕ) (left at x : ℕ) (a t : List ℕ) (some : 0 
       rw (calls-more left at s some, sym named)
       (ap (λ m. after m (callsFrom (left - 1) s (at + 5))) (left-by l (callOf (getD s at 0) x) a t p q))
 
-  pub answers-turn : (to : ℕ) (ws out now : List ℕ) → to + 12 ≤ length out → ws ≡ answerWords (answer l (callOf (getD s at 0) x)) → now ≡ put to (wordBytes ws) out
-      → put (to + 12) (answerBytes (answers (lent (l .tables) (l .terms) a t) (callsFrom (left - 1) s (at + 5)))) now
+  pub answers-turn : (to : ℕ) (ws out now : List ℕ) → to + answerSize ≤ length out → ws ≡ answerWords (answer l (callOf (getD s at 0) x)) → now ≡ put to (wordBytes ws) out
+      → put (to + answerSize) (answerBytes (answers (lent (l .tables) (l .terms) a t) (callsFrom (left - 1) s (at + 5)))) now
       ≡ put to (answerBytes (answers l (callsFrom left s at))) out
   answers-turn to ws out now h w e =
       let c = callOf (getD s at 0) x in
       let cs = callsFrom (left - 1) s (at + 5) in
-      ap₂ (λ (m : Lent) (o : List ℕ). put (to + 12) (answerBytes (answers m cs)) o) (left-by l c a t p q) (e ∙ ap (λ ws'. put to (wordBytes ws') out) w)
+      ap₂ (λ (m : Lent) (o : List ℕ). put (to + answerSize) (answerBytes (answers m cs)) o) (left-by l c a t p q) (e ∙ ap (λ ws'. put to (wordBytes ws') out) w)
       ∙ write-more l c cs to out h
       ∙ ap (λ y. put to (answerBytes (answers l (callOf (getD s at 0) y ∷ cs))) out) named
       ∙ ap (λ ds. put to (answerBytes (answers l ds)) out) (sym (calls-more left at s some))

@@ -12,18 +12,18 @@ use Rattle.tallies.specs.Calls.{Lent, lent, openRefusal, openTallies}
 use Rattle.tallies.specs.Demand.{answers, after, opened}
 use Rattle.tallies.proofs.Refusals.{opens}
 use Rattle.tallies.proofs.Demand3.{agrees}
-use Rattle.replay.specs.Replay.{callsOf, answerBytes, replayRefusal, replayOut, replayAssignment, replayTallies}
+use Rattle.replay.specs.Replay.{answerSize, callsOf, answerBytes, replayRefusal, replayOut, replayAssignment, replayTallies}
 
 -- ---- the refusal
 
 module _ (l : Lent) (list out : List ℕ) where
-  pub no-room : length out / 12 < length list / 5 → 21 ≡ replayRefusal l list out
+  pub no-room : length out / 20 < length list / 5 → 21 ≡ replayRefusal l list out
   unfolding replayRefusal refuse
-  no-room h = rw (lt-ltb (length out) (12 * (length list / 5)) (omega arith))
+  no-room h = rw (lt-ltb (length out) (answerSize * (length list / 5)) (omega arith))
 
-  pub with-room : length list / 5 ≤ length out / 12 → openRefusal l ≡ replayRefusal l list out
+  pub with-room : length list / 5 ≤ length out / 20 → openRefusal l ≡ replayRefusal l list out
   unfolding replayRefusal refuse
-  with-room h = rw (le-ltb (length out) (12 * (length list / 5)) (omega arith))
+  with-room h = rw (le-ltb (length out) (answerSize * (length list / 5)) (omega arith))
 
   pub refused-keeps : (k : ℕ) → k ≡ replayRefusal l list out → (k ≡ 0 → ⊥)
       → (out ≡ replayOut l list out) × (l .assignment ≡ replayAssignment l list out) × (l .tallies ≡ replayTallies l list out)

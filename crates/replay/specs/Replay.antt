@@ -6,11 +6,14 @@ use mathlib.Core.List.{List, [], _∷_, _++_}
 use lib.Dec.{ltb, eqb}
 use lib.ListN.{length, getD}
 use Rattle.plpb.specs.Book.{Call, flipCall, countsCall, Answer, refused, accepted, counted}
+use Rattle.plpb.specs.Count.{given}
+use Rattle.counting.specs.Count.{countWords, markedWords}
 use Rattle.words.specs.Words.{numAt, wordBytes}
 use Rattle.words.specs.Writes.{front}
 use Rattle.format.specs.File.{refuse}
 use Rattle.tallies.specs.Calls.{Lent, plan, told, openRefusal}
 use Rattle.tallies.specs.Demand.{account}
+use Rattle.calls.specs.declared.counts.Counted.{Counted}
 
 -- A call in 5 bytes: its kind, 0 for flip and any other for counts, and its variable.
 unfoldable pub callOf : ℕ → ℕ → Call
@@ -25,11 +28,18 @@ callsFrom (suc k) s at = callOf (getD s at 0) (numAt 4 s (at + 1)) ∷ callsFrom
 unfoldable pub callsOf : List ℕ → List Call
 callsOf s = callsFrom (length s / 5) s 0
 
--- An answer in three words: the refusal, 0 for none; the break count; the make count.
+-- An answer in five words: the refusal, 0 for none; the break count and its mark; the make count and its mark.
 unfoldable pub answerWords : Answer → List ℕ
-answerWords (refused n) = n ∷ 0 ∷ 0 ∷ []
-answerWords accepted = 0 ∷ 0 ∷ 0 ∷ []
-answerWords (counted b m) = 0 ∷ b ∷ m ∷ []
+answerWords (refused n) = n ∷ (countWords (given 0) ++ countWords (given 0))
+answerWords accepted = 0 ∷ (countWords (given 0) ++ countWords (given 0))
+answerWords (counted b m) = 0 ∷ (countWords b ++ countWords m)
+
+-- .. so many bytes, and as the code has it.
+abbrev pub answerSize : ℕ
+answerSize = 20
+
+abbrev pub countedWords : Counted → List ℕ
+countedWords a = a .refusal ∷ (markedWords (a .breaks) ++ markedWords (a .makes))
 
 unfoldable pub answerBytes : List Answer → List ℕ
 answerBytes [] = []
@@ -37,7 +47,7 @@ answerBytes (a ∷ rest) = wordBytes (answerWords a) ++ answerBytes rest
 
 -- 21 where the answers have no room, else as opening is refused.
 unfoldable pub replayRefusal : Lent → List ℕ → List ℕ → ℕ
-replayRefusal l list out = refuse (ltb (length out) (12 * (length list / 5))) 21 (openRefusal l)
+replayRefusal l list out = refuse (ltb (length out) (answerSize * (length list / 5))) 21 (openRefusal l)
 
 -- The answers are the book's, the first n assignment bytes its bits, the tallies their fresh count; all else, and all with a refusal, is as lent.
 unfoldable pub replayOut : Lent → List ℕ → List ℕ → List ℕ

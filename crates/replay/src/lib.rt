@@ -1,19 +1,23 @@
 // Opening, and then a list of calls one after another on the lent buffers: demand 3 as a claim about running code.
 ghost use mathlib.Core.Path.{_≡_};
 ghost use Prim.Native.Nat.{_+_, _*_, _/_, _≤_};
-ghost use mathlib.Core.List.{[], _∷_};
+ghost use Rattle.counting.specs.Count.{markedWords};
 ghost use lib.ListN.{length};
 ghost use Rattle.words.specs.Words.{wordBytes};
 ghost use Rattle.words.specs.Writes.{put, front};
 ghost use Rattle.tallies.specs.Demand.{answers, after};
-ghost use Rattle.replay.specs.Replay.{callOf, callsOf, answerWords, answerBytes, replayRefusal, replayOut, replayAssignment, replayTallies};
+ghost use Rattle.replay.specs.Replay.{callOf, callsOf, answerSize, countedWords, answerWords, answerBytes, replayRefusal, replayOut, replayAssignment, replayTallies};
 ghost use Rattle.tallies.specs.Calls.{lent, answer, leftBy};
 use calls::counts::Counted;
 use calls::counts::counts;
 use calls::flip::flip;
 use calls::open::open;
+use counting::count::Marked;
 use words::read_u32;
 use words::write_u32;
+
+// How many bytes an answer has.
+const ANSWER: usize = 20;
 
 // Makes one call: a flip where its kind is 0, else counts.
 fn make_call(
@@ -24,7 +28,7 @@ fn make_call(
     kind: u8,
     x: u32,
 ) -> Counted
-    ensures { λ r. ⌜ r .refusal ∷ r .breaks ∷ r .makes ∷ []
+    ensures { λ r. ⌜ countedWords r
         ≡ answerWords (answer (lent (now (tables .entry)) (now (terms .entry)) (now (assignment .entry)) (now (tallies .entry))) (callOf kind x)) ⌝ }
     ensures { λ _. ⌜ now (assignment .exit)
         ≡ leftBy (lent (now (tables .entry)) (now (terms .entry)) (now (assignment .entry)) (now (tallies .entry))) (callOf kind x) .assignment ⌝ }
@@ -35,21 +39,30 @@ fn make_call(
         let refusal = flip(tables, terms, assignment, tallies, x);
         return Counted {
             refusal,
-            breaks: 0,
-            makes: 0,
+            breaks: Marked::ZERO,
+            makes: Marked::ZERO,
         };
     }
     counts(tables, terms, assignment, tallies, x)
 }
 
-// Writes an answer's three words at a place.
-fn write_answer(out: &mut [u8], to: usize, refusal: u32, breaks: u32, makes: u32)
-    requires { ⌜ to + 12 ≤ length (now out) ⌝ }
-    ensures { λ _. ⌜ now (out .exit) ≡ put to (wordBytes (refusal ∷ breaks ∷ makes ∷ [])) (now (out .entry)) ⌝ }
+// Writes a count's two words at a place.
+fn write_count(out: &mut [u8], to: usize, count: Marked)
+    requires { ⌜ to + 8 ≤ length (now out) ⌝ }
+    ensures { λ _. ⌜ now (out .exit) ≡ put to (wordBytes (markedWords count)) (now (out .entry)) ⌝ }
 {
-    write_u32(out, to, refusal);
-    write_u32(out, to + 4, breaks);
-    write_u32(out, to + 8, makes);
+    write_u32(out, to, count.value);
+    write_u32(out, to + 4, count.cut);
+}
+
+// Writes an answer's five words at a place.
+fn write_answer(out: &mut [u8], to: usize, answer: Counted)
+    requires { ⌜ to + answerSize ≤ length (now out) ⌝ }
+    ensures { λ _. ⌜ now (out .exit) ≡ put to (wordBytes (countedWords answer)) (now (out .entry)) ⌝ }
+{
+    write_u32(out, to, answer.refusal);
+    write_count(out, to + 4, answer.breaks);
+    write_count(out, to + 12, answer.makes);
 }
 
 // Makes the calls of a list, each on what the one before it left.
@@ -61,7 +74,7 @@ fn make_calls(
     list: &[u8],
     out: &mut [u8],
 )
-    requires { ⌜ 12 * (length (now list) / 5) ≤ length (now out) ⌝ }
+    requires { ⌜ answerSize * (length (now list) / 5) ≤ length (now out) ⌝ }
     ensures { λ _. ⌜ now (out .exit)
         ≡ front
         (answerBytes
@@ -81,14 +94,14 @@ fn make_calls(
         let kind = list[at];
         let x = read_u32(list, at + 1);
         let a = make_call(tables, terms, assignment, tallies, kind, x);
-        write_answer(out, to, a.refusal, a.breaks, a.makes);
+        write_answer(out, to, a);
         left -= 1;
         at += 5;
-        to += 12;
+        to += ANSWER;
     }
 }
 
-// Opens, and then makes the calls of `list`, 5 bytes each; `out` has room for 12 bytes of answer to each.
+// Opens, and then makes the calls of `list`, 5 bytes each; `out` has room for the bytes of an answer to each.
 pub fn replay(
     tables: &[u8],
     terms: &[u8],
@@ -110,7 +123,7 @@ pub fn replay(
         ≡ replayTallies (lent (now (tables .entry)) (now (terms .entry)) (now (assignment .entry)) (now (tallies .entry))) (now (list .entry))
         (now (out .entry)) ⌝ }
 {
-    if out.len() / 12 < list.len() / 5 {
+    if out.len() / ANSWER < list.len() / 5 {
         return 21;
     }
     let refusal = open(tables, terms, assignment, tallies);

@@ -10,7 +10,8 @@ use lib.ListN.{getD, set, take}
 use lib.Seq.{take-take, take-set-lt, getD-take}
 use Rattle.plpb.specs.Lists.{_or_, all}
 use Rattle.plpb.specs.Plan.{Assignment, isVariable, isLocked}
-use Rattle.plpb.specs.Count.{cappedBreak, cappedMake}
+use Rattle.plpb.specs.Expansion.{breakCount, makeCount}
+use Rattle.plpb.specs.Count.{given}
 use Rattle.plpb.specs.Tallies.{freshCount}
 use Rattle.plpb.specs.Book.{flipCall, countsCall, Answer, refused, accepted, counted}
 use Rattle.plpb.proofs.Locks.{variable-range}
@@ -179,7 +180,7 @@ counts-within l m s x = go (callRefusal l x) refl
         let t = takes l x z .opening .loaded in
         let p = plan-both l m s t in
         let b = bits-both l m s t in
-        rw (z, sym (call-both l m s x) ∙ z) (ap₂ (λ q c. cappedBreak q c x) p b, ap₂ (λ q c. cappedMake q c x) p b)
+        rw (z, sym (call-both l m s x) ∙ z) (ap₂ (λ q c. given (breakCount q c x)) p b, ap₂ (λ q c. given (makeCount q c x)) p b)
     go (suc k) z = rw (z, sym (call-both l m s x) ∙ z, eqb·suc-zero k) (refl, refl)
 
 pub calls-within : CallsWithin

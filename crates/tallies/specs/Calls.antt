@@ -8,7 +8,8 @@ use lib.Dec.{ltb, eqb}
 use lib.ListN.{length, getD, set, take}
 use Rattle.plpb.specs.Lists.{_or_}
 use Rattle.plpb.specs.Plan.{Plan, Assignment, isVariable, isLocked}
-use Rattle.plpb.specs.Count.{cappedBreak, cappedMake}
+use Rattle.plpb.specs.Expansion.{breakCount, makeCount}
+use Rattle.plpb.specs.Count.{Count, given}
 use Rattle.plpb.specs.Tallies.{freshCount}
 use Rattle.plpb.specs.Book.{Call, flipCall, countsCall, Answer, refused, accepted, counted}
 use Rattle.format.specs.File.{refuse}
@@ -81,12 +82,12 @@ flipTallies l x =
     (withTallies (plan l) (bitsOf (plan l .variables) (turned (l .assignment) x)) (l .tallies))
     (l .tallies)
 
--- The capped numbers of expansion clauses that the variable's flip would spoil and mend; 0 with a refusal.
-unfoldable pub countsBreak : Lent → ℕ → ℕ
-countsBreak l x = cond (eqb (callRefusal l x) 0) (cappedBreak (plan l) (bits l) x) 0
+-- The counts of expansion clauses that the variable's flip would spoil and mend; 0, uncut, with a refusal.
+unfoldable pub countsBreak : Lent → ℕ → Count
+countsBreak l x = given (cond (eqb (callRefusal l x) 0) (breakCount (plan l) (bits l) x) 0)
 
-unfoldable pub countsMake : Lent → ℕ → ℕ
-countsMake l x = cond (eqb (callRefusal l x) 0) (cappedMake (plan l) (bits l) x) 0
+unfoldable pub countsMake : Lent → ℕ → Count
+countsMake l x = given (cond (eqb (callRefusal l x) 0) (makeCount (plan l) (bits l) x) 0)
 
 -- One call of a list, on what is lent: what it answers.
 unfoldable pub answer : Lent → Call → Answer

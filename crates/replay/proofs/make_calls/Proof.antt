@@ -8,7 +8,7 @@ use lib.ListN.{length}
 use Rattle.words.specs.Writes.{put, front}
 use Rattle.tallies.specs.Calls.{Lent}
 use Rattle.tallies.specs.Demand.{answers, after}
-use Rattle.replay.specs.Replay.{callsFrom, callsOf, answerBytes}
+use Rattle.replay.specs.Replay.{callsFrom, callsOf, answerSize, answerBytes}
 use Rattle.replay.proofs.Made.{after-turn, answers-turn, answers-first, answers-last, after-last}
 use Rattle.replay.proofs.make_calls.Statement.{statement}
 use Rattle.replay.proofs.make_calls.Tie as tie
@@ -16,7 +16,7 @@ use Rattle.replay.proofs.make_calls.Tie as tie
 abbrev Inv-loop : tie.InvT-loop
 Inv-loop tables terms assignment₀ tallies₀ list out₀ left₀ at₀ to₀ assignment tallies out left at to =
     (at + 5 * left ≤ length list)
-    × (to + 12 * left ≤ length out)
+    × (to + answerSize * left ≤ length out)
     × (put to (answerBytes (answers (record { tables = tables; terms = terms; assignment = assignment; tallies = tallies }) (callsFrom left list at))) out
     ≡ front (answerBytes (answers (record { tables = tables; terms = terms; assignment = assignment₀; tallies = tallies₀ }) (callsOf list))) out₀)
     × (after (record { tables = tables; terms = terms; assignment = assignment; tallies = tallies }) (callsFrom left list at)
@@ -52,10 +52,14 @@ sub-left : tie.Need-sub-left Inv-loop μ-loop
 sub-left c = search needs
 
 add-at : tie.Need-add-at Inv-loop μ-loop
-add-at c = search needs
+add-at c =
+    let b = c .before .before .before .before .before .before .before .before .before .before .before .before .before in
+    record { fits = omega (arith, b .before .before .before .before .before .before .before .before .good .1 .1 .1 .1 .0 .1, b .loop-test .taken, b .before .loop .inv .0) }
 
 add-to : tie.Need-add-to Inv-loop μ-loop
-add-to c = search needs
+add-to c =
+    let b = c .before .before .before .before .before .before .before .before .before .before .before .before .before in
+    record { fits = omega (arith, b .before .before .before .before .before .before .before .before .good .1 .1 .1 .1 .1 .0 .1, b .loop-test .taken, b .before .loop .inv .1, b .before .loop .inv .6) }
 
 loop-less : tie.Need-loop-less Inv-loop μ-loop
 loop-less c = search needs
@@ -68,7 +72,7 @@ loop-again c =
     let b = r .before .before .before in
     let e = m .make-call .ensures in
     let some : 0 < b .loop .left = r .before .before .loop-test .taken in
-    let room : b .loop .to + 12 ≤ length (b .loop .out) = omega (arith, b .loop .inv .1) in (
+    let room : b .loop .to + answerSize ≤ length (b .loop .out) = omega (arith, b .loop .inv .1) in (
       omega (arith, b .loop .inv .0),
       omega (arith, b .loop .inv .1, w .write-answer .kept .0),
       answers-turn _ _ (b .loop .left) (b .loop .at) _ _ _ some (r .read-u32 .ensures) (e .1 .0) (e .1 .1) (b .loop .to) _ (b .loop .out) _ room (e .0) (w .write-answer .ensures) ∙ b .loop .inv .2,

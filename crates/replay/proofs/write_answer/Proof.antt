@@ -1,50 +1,40 @@
--- `replay::write_answer` meets its contract: three words written one behind the other. Assumes nothing.
+-- `replay::write_answer` meets its contract: the refusal and two counts written one behind the other. Assumes nothing.
 use Prim.Native.Nat.{_+_}
+use native.Mathlib.Omega.{arith}
+use mathlib.Core.List.{[], _∷_, _++_}
 use mathlib.Core.Path.{ap, _∙_}
-use Rattle.words.specs.Words.{bytesOf}
-use Rattle.words.specs.Writes.{put}
 use borrow.Author.Needs.{needs}
-use Rattle.replay.proofs.Made.{three-words}
+use Rattle.words.specs.Words.{wordBytes}
+use Rattle.words.specs.Writes.{put}
+use Rattle.counting.specs.Count.{markedWords}
+use Rattle.replay.proofs.Made.{one-word, next-words}
 use Rattle.replay.proofs.write_answer.Statement.{statement}
 use Rattle.replay.proofs.write_answer.Tie as tie
 
-write-u32-requires : tie.Need-write-u32-requires
-write-u32-requires c κs = search needs
-
-add-write-u32 : tie.Need-add-write-u32
-add-write-u32 c = search needs
-
-write-u32-requires-2 : tie.Need-write-u32-requires-2
-write-u32-requires-2 c κs = search needs
-
-add-write-u32-2 : tie.Need-add-write-u32-2
-add-write-u32-2 c = search needs
-
-write-u32-requires-3 : tie.Need-write-u32-requires-3
-write-u32-requires-3 c κs = search needs
-
-same-length : tie.Need-same-length
-same-length c = search needs
-
 returns : tie.Need-returns
 returns c =
-    let third = c .before .before in
-    let second = third .before .before .before .before in
+    let second = c .before .before .before .before .before .before in
     let first = second .before .before .before .before in
-    let at = first .before .before .before in
-    third .write-u323 .ensures
-    ∙ ap (put (at .args .to + 8) (bytesOf 4 (at .args .makes)))
-    (second .write-u322 .ensures ∙ ap (put (at .args .to + 4) (bytesOf 4 (at .args .breaks))) (first .write-u32 .ensures))
-    ∙ three-words (at .args .to) (at .args .refusal) (at .args .breaks) (at .args .makes) (at .args .out .now) (at .pre)
+    let start = first .before .before .before in
+    let at = start .args in
+    let out = at .out .now in
+    let breaks = markedWords (at .answer .breaks) in
+    let makes = markedWords (at .answer .makes) in
+    c .before .before .write-count2 .ensures
+    ∙ ap (put (at .to + 12) (wordBytes makes))
+    (second .write-count .ensures
+    ∙ ap (put (at .to + 4) (wordBytes breaks)) (first .write-u32 .ensures ∙ ap (λ bs. put (at .to) bs out) (one-word (at .answer .refusal)))
+    ∙ next-words (at .to) (at .answer .refusal ∷ []) breaks out (omega (arith, start .pre)))
+    ∙ next-words (at .to) (at .answer .refusal ∷ breaks) makes out (omega (arith, start .pre))
 
 pub write-answer-spec : {M : Type 1} → statement M
 write-answer-spec =
     tie.close
     (tie.spec
-    write-u32-requires
-    add-write-u32
-    write-u32-requires-2
-    add-write-u32-2
-    write-u32-requires-3
-    same-length
+    (λ c κs. search needs)
+    (λ c. search needs)
+    (λ c κs. search needs)
+    (λ c. search needs)
+    (λ c κs. search needs)
+    (λ c. search needs)
     returns)
