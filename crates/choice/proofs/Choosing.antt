@@ -145,8 +145,8 @@ module _ (p : Plan) (a : Assignment) where
   least-attained : (x : ℕ) (xs : List ℕ) → 0 < length (keep (hasBreak p a (leastBreak p a (x ∷ xs))) (x ∷ xs))
   unfolding leastBreak keep hasBreak
   least-attained x [] =
-      let e : cappedBreak p a x ≡ min (cappedBreak p a x) cap = omega (arith, count-small p a x) in
-      rw (eq-eqb (cappedBreak p a x) (min (cappedBreak p a x) cap) e) (omega arith)
+      let e : cappedBreak p a x ≡ min (cappedBreak p a x) (suc cap) = omega (arith, count-small p a x) in
+      rw (eq-eqb (cappedBreak p a x) (min (cappedBreak p a x) (suc cap)) e) (omega arith)
   least-attained x (y ∷ ys) = attained-more x (leastBreak p a (y ∷ ys)) (y ∷ ys) (least-attained y ys)
 
   pub least-some : (xs : List ℕ) → 0 < length xs → 0 < length (keep (hasBreak p a (leastBreak p a xs)) xs)

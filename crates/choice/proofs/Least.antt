@@ -15,7 +15,7 @@ use Rattle.plpb.specs.Plan.{Plan, Assignment}
 use Rattle.plpb.specs.Count.{cap, cappedBreak}
 use Rattle.plpb.specs.Choice.{leastBreak}
 use Rattle.plpb.specs.Expansion.{breakCount}
-use Rattle.plpb.proofs.Capped.{capped-le-cap}
+use Rattle.plpb.proofs.Capped.{capped-most}
 use Rattle.numbers.specs.Finding.{marked}
 use Rattle.numbers.proofs.Keep.{row-more, row-end}
 use Rattle.free.specs.Marks.{Written, hasBreak, parting, lowering, LeastSoFar}
@@ -32,11 +32,11 @@ lowers false c = refl
 -- ---- the least of some
 
 module _ (p : Plan) (a : Assignment) where
-  pub count-small : (x : ℕ) → cappedBreak p a x ≤ cap
+  pub count-small : (x : ℕ) → cappedBreak p a x ≤ suc cap
   unfolding cappedBreak
-  count-small x = capped-le-cap (breakCount p a x)
+  count-small x = capped-most (breakCount p a x)
 
-  least-small : (xs : List ℕ) → leastBreak p a xs ≤ cap
+  least-small : (xs : List ℕ) → leastBreak p a xs ≤ suc cap
   unfolding leastBreak
   least-small [] = omega arith
   least-small (x ∷ xs) = omega (arith, count-small x)
@@ -75,8 +75,8 @@ module _ (p : Plan) (a : Assignment) where
 
   -- ---- variable by variable
 
-  pub least-start : (s : List ℕ) → LeastSoFar p a 0 cap s s
-  least-start s =
+  pub least-start : {least : ℕ} (s : List ℕ) → least ≡ suc cap → LeastSoFar p a 0 least s s
+  least-start s e =
       record {
         written = none-written s;
         small = omega arith;

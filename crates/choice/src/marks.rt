@@ -112,15 +112,15 @@ pub fn mark_free(tables: &[u8], terms: &[u8], assignment: &[u8], marks: &mut [u8
     count_marked(marks, n, 2)
 }
 
-// The exact count, where the least is asked for.
-fn break_count(tables: &[u8], terms: &[u8], assignment: &[u8], place: usize) -> u32
+// Where the exact count stands, when the least is asked for.
+fn break_count(tables: &[u8], terms: &[u8], assignment: &[u8], place: usize) -> u64
     requires { ⌜ Ready (now tables) (now terms) (now assignment) × (place < planOfTables (now tables) (now terms) .variables) ⌝ }
     ensures { λ r. ⌜ r
         ≡ cappedBreak (planOfTables (now (tables .entry)) (now (terms .entry)))
         (lentBits (now (tables .entry)) (now (terms .entry)) (now (assignment .entry))) (place + 1) ⌝ }
 {
     let counts = counts_core(tables, terms, assignment, variable_at(place));
-    counts.breaks.value
+    counts.breaks.rank()
 }
 
 fn lowered(mark: u8) -> u8
@@ -146,10 +146,10 @@ fn least_mark(
     tables: &[u8],
     terms: &[u8],
     assignment: &[u8],
-    least: u32,
+    least: u64,
     place: usize,
     marks: &mut [u8],
-) -> u32
+) -> u64
     requires { ⌜ Ready (now tables) (now terms) (now assignment) × (place < planOfTables (now tables) (now terms) .variables)
         × (place < length (now marks)) ⌝ }
     ensures { λ r. ⌜ ((s : List ℕ)
@@ -187,7 +187,7 @@ fn least_marks(tables: &[u8], terms: &[u8], assignment: &[u8], n: usize, marks: 
         (marked (now (marks .entry)) (planOfTables (now (tables .entry)) (now (terms .entry)) .variables) 1)))) n (now (marks .entry))
         (now (marks .exit)) ⌝ }
 {
-    let mut least = Count::CAP.value;
+    let mut least = Count::CUT.rank();
     let mut i = 0;
     while i < n {
         least = least_mark(tables, terms, assignment, least, i, marks);

@@ -45,7 +45,7 @@ pub record Written (k : ℕ → ℕ → ℕ) (i : ℕ) (entry exit : List ℕ) :
   pub left : (j : ℕ) → i ≤ j → getD exit j 0 ≡ getD entry j 0
   pub size : length exit ≡ length entry
 
--- A variable has a given capped break count.
+-- A variable's break count stands at a given place.
 unfoldable pub hasBreak : Plan → Assignment → ℕ → ℕ → Bool
 hasBreak p a b x = eqb (cappedBreak p a x) b
 
@@ -68,6 +68,6 @@ lowering mark = cond (eqb mark 2) 1 mark
 -- The first i marks are parted by the least count among them: none of those variables has a lower one, and with those behind them the least is that of all.
 pub record LeastSoFar (p : Plan) (a : Assignment) (i least : ℕ) (entry exit : List ℕ) : Type 0 where
   pub written : Written (parting (hasBreak p a least)) i entry exit
-  pub small : least ≤ cap
+  pub small : least ≤ suc cap
   pub low : (j : ℕ) → j < i → getD entry j 0 ≡ 1 → least ≤ cappedBreak p a (suc j)
   pub rest : min least (leastBreak p a (keep (λ x. eqb (getD entry (x - 1) 0) 1) (row (1 + i) (p .variables - i)))) ≡ leastBreak p a (marked entry (p .variables) 1)

@@ -1,5 +1,6 @@
 -- `break_count` meets its contract: of both counts the one asked for.
 -- Assumes nothing.
+use borrow.Author.Needs.{needs}
 use native.Mathlib.Omega.{arith}
 use mathlib.Core.Path.{_∙_, ap}
 use Rattle.plpb.specs.Count.{cappedBreak}
@@ -18,7 +19,8 @@ counts-core-requires c κs =
     (at .pre .0, omega (arith, c .variable-at .ensures), omega (arith, c .variable-at .ensures, at .pre .1))
 
 returns : tie.Need-returns
-returns c = c .counts-core .ensures .breaks ∙ ap (cappedBreak _ _) (c .before .variable-at .ensures)
+returns c =
+    c .rank .ensures .0 ∙ c .before .counts-core .ensures .breaks ∙ ap (cappedBreak _ _) (c .before .before .variable-at .ensures)
 
 pub break-count-spec : {M : Type 1} → statement M
-break-count-spec = tie.close (tie.spec variable-at-requires counts-core-requires returns)
+break-count-spec = tie.close (tie.spec variable-at-requires counts-core-requires (λ c κs. search needs) returns)

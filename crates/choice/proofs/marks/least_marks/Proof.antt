@@ -1,8 +1,8 @@
 -- `least_marks` meets its contract. The invariant: the first i marks are parted by the least count among them. The measure is what is left.
 -- Assumes nothing.
 use Prim.Native.Nat.{_-_, _≤_}
+use borrow.Author.Needs.{needs}
 use native.Mathlib.Omega.{arith}
-use Rattle.plpb.specs.Count.{cap}
 use Rattle.format.specs.Tables.{planOfTables}
 use Rattle.breaks.specs.Breaks.{lentBits}
 use Rattle.free.specs.Marks.{LeastSoFar}
@@ -18,12 +18,11 @@ abbrev μ-loop : tie.MeasureT-loop
 μ-loop tables terms assignment n marks₀ least₀ i₀ marks least i = n - i
 
 loop-holds : tie.Need-loop-holds Inv-loop μ-loop
-unfolding cap
-loop-holds c = (omega arith, least-start _ _ _)
+loop-holds c = (omega arith, least-start _ _ _ (c .rank .ensures .0))
 
 least-mark-requires : tie.Need-least-mark-requires Inv-loop μ-loop
 least-mark-requires c κs =
-    let at = c .before .before .before .before .before .before .before in
+    let at = c .before .before .before .before .before .before .before .before in
     let now = c .before .before .loop in
     let l = c .before .loop-test .taken in
     (at .pre .0, omega (arith, at .pre .1, l), omega (arith, at .pre .2, l, now .inv .1 .written .size))
@@ -34,7 +33,7 @@ loop-again c = (omega arith, c .before .before .least-mark .ensures _ (c .before
 returns : tie.Need-returns Inv-loop μ-loop
 returns c =
     let now = c .before .loop in
-    least-end _ _ (now .inv .1) (c .before .before .before .before .before .before .pre .1) (now .inv .0) (c .loop-test .left)
+    least-end _ _ (now .inv .1) (c .before .before .before .before .before .before .before .pre .1) (now .inv .0) (c .loop-test .left)
 
 pub least-marks-spec : {M : Type 1} → statement M
 least-marks-spec =
@@ -42,6 +41,7 @@ least-marks-spec =
     (tie.spec
     Inv-loop
     μ-loop
+    (λ c κs. search needs)
     loop-holds
     least-mark-requires
     (λ c. omega arith)
