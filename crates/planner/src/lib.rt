@@ -1,9 +1,11 @@
 // The planner's C interface: numbers and byte slices in, numbers out. include/planner.h declares it.
 // Each function promises what the function that it calls promises.
 ghost use mathlib.Core.Path.{_≡_};
+ghost use Rattle.counting.specs.Count.{countWords, markedWords};
 ghost use Rattle.tallies.specs.Calls.{openRefusal, openTallies, callRefusal, flipRefusal, flipAssignment, flipTallies, countsBreak, countsMake, lent};
 ghost use Rattle.search.specs.Calls.{Searches, HandsOut, lentAll};
 ghost use Rattle.tables.specs.Load.{refusalOf, offsetOf, loading, tablesAfter, termsAfter};
+use calls::counts::Counted;
 use calls::counts::counts;
 use calls::flip::flip;
 use calls::open::open;
@@ -13,13 +15,6 @@ use settings::Settings;
 use tables::load;
 use verdict::Loaded;
 use verdict::numbers;
-
-#[repr(C)]
-pub struct Counted {
-    pub refusal: u32,
-    pub breaks: u32,
-    pub makes: u32,
-}
 
 #[no_mangle]
 pub extern "C" fn planner_load(file: &[u8], tables: &mut [u8], terms: &mut [u8]) -> Loaded
@@ -72,17 +67,12 @@ pub extern "C" fn planner_counts(
 ) -> Counted
     ensures { λ r. ⌜ r .refusal
         ≡ callRefusal (lent (now (tables .entry)) (now (terms .entry)) (now (assignment .entry)) (now (tallies .entry))) variable ⌝ }
-    ensures { λ r. ⌜ r .breaks
-        ≡ countsBreak (lent (now (tables .entry)) (now (terms .entry)) (now (assignment .entry)) (now (tallies .entry))) variable ⌝ }
-    ensures { λ r. ⌜ r .makes
-        ≡ countsMake (lent (now (tables .entry)) (now (terms .entry)) (now (assignment .entry)) (now (tallies .entry))) variable ⌝ }
+    ensures { λ r. ⌜ markedWords (r .breaks)
+        ≡ countWords (countsBreak (lent (now (tables .entry)) (now (terms .entry)) (now (assignment .entry)) (now (tallies .entry))) variable) ⌝ }
+    ensures { λ r. ⌜ markedWords (r .makes)
+        ≡ countWords (countsMake (lent (now (tables .entry)) (now (terms .entry)) (now (assignment .entry)) (now (tallies .entry))) variable) ⌝ }
 {
-    let c = counts(tables, terms, assignment, tallies, variable);
-    Counted {
-        refusal: c.refusal,
-        breaks: c.breaks,
-        makes: c.makes,
-    }
+    counts(tables, terms, assignment, tallies, variable)
 }
 
 // What is handed out satisfies every clause and has the cost stated, whatever else is read of the contract.

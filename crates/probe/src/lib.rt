@@ -3,14 +3,17 @@
 ghost use mathlib.Core.Path.{_≡_};
 ghost use Prim.Native.Nat.{_+_, _<_};
 ghost use Rattle.plpb.specs.Search.{third as thirdOf};
+ghost use Rattle.plpb.specs.Count.{given};
 ghost use Rattle.counting.specs.Bound.{boundOf};
-ghost use Rattle.counting.specs.Shares.{sharesIn, cappedShares, joinedShares};
-ghost use Rattle.probe.specs.Answers.{binomialAnswer, factorsAnswer, differenceAnswer, threeIn, boundIf, standingFor, sharesAnswer};
+ghost use Rattle.counting.specs.Count.{number, countWords, markedWords};
+ghost use Rattle.counting.specs.Shares.{sharesIn, joinedShares};
+ghost use Rattle.probe.specs.Answers.{binomialAnswer, factorsAnswer, differenceAnswer, numberIn, threeIn, threeWords, shareWords, boundIf, standingFor, sharesAnswer};
 use counting::binomial::binomial;
 use counting::binomial::difference;
 use counting::binomial::reported;
 use counting::bound::Bound;
 use counting::count::Count;
+use counting::count::Marked;
 use counting::shares::Shares;
 use counting::shares::literal_absent;
 use counting::shares::literal_false;
@@ -19,24 +22,28 @@ use counting::tightening::third;
 
 #[repr(C)]
 pub struct Three {
-    pub e: u32,
-    pub f: u32,
-    pub g: u32,
+    pub e: Marked,
+    pub f: Marked,
+    pub g: Marked,
 }
 
 impl Three {
-    const NONE: Three = Three { e: 0, f: 0, g: 0 };
+    const NONE: Three = Three {
+        e: Marked::ZERO,
+        f: Marked::ZERO,
+        g: Marked::ZERO,
+    };
 }
 
 // m over k.
 #[no_mangle]
-pub extern "C" fn probe_binomial(m: u64, k: u64) -> u32
-    ensures { λ r. ⌜ r ≡ binomialAnswer m k ⌝ }
+pub extern "C" fn probe_binomial(m: u64, k: u64) -> Marked
+    ensures { λ r. ⌜ markedWords r ≡ countWords (given (binomialAnswer m k)) ⌝ }
 {
     if 4294967295 < m {
-        return 0;
+        return Marked::ZERO;
     }
-    binomial(m, k).value
+    binomial(m, k).marked()
 }
 
 // How many factors m over k costs.
@@ -52,15 +59,15 @@ pub extern "C" fn probe_factors(m: u64, k: u64) -> u32
 
 // m + w over k less m over k.
 #[no_mangle]
-pub extern "C" fn probe_difference(m: u32, w: u32, k: u64) -> u32
-    ensures { λ r. ⌜ r ≡ differenceAnswer m w k ⌝ }
+pub extern "C" fn probe_difference(m: u32, w: u32, k: u64) -> Marked
+    ensures { λ r. ⌜ markedWords r ≡ countWords (given (differenceAnswer m w k)) ⌝ }
 {
     let low = m as u64;
     let more = w as u64;
     if 4294967295 < low + more {
-        return 0;
+        return Marked::ZERO;
     }
-    difference(low, more, k).value
+    difference(low, more, k).marked()
 }
 
 fn bound(present: bool, size: u64) -> Bound
@@ -74,29 +81,42 @@ fn bound(present: bool, size: u64) -> Bound
 }
 
 fn flat(s: Shares) -> Three
-    ensures { λ r. ⌜ threeIn r ≡ sharesIn s ⌝ }
+    ensures { λ r. ⌜ threeWords r ≡ shareWords (sharesIn s) ⌝ }
 {
     Three {
-        e: s.e.value,
-        f: s.f.value,
-        g: s.g.value,
+        e: s.e.marked(),
+        f: s.f.marked(),
+        g: s.g.marked(),
     }
+}
+
+// A count from what stands for one.
+fn lifted_count(m: Marked) -> Count
+    ensures { λ r. ⌜ number r ≡ numberIn m ⌝ }
+{
+    if m.cut == 0 {
+        return Count {
+            value: m.value,
+            cut: false,
+        };
+    }
+    Count::CUT
 }
 
 fn lifted(s: Three) -> Shares
     ensures { λ r. ⌜ sharesIn r ≡ threeIn s ⌝ }
 {
     Shares {
-        e: Count { value: s.e },
-        f: Count { value: s.f },
-        g: Count { value: s.g },
+        e: lifted_count(s.e),
+        f: lifted_count(s.f),
+        g: lifted_count(s.g),
     }
 }
 
 // A literal that weighs more than the sum it counts in is answered by 0 too.
 fn shares(case: u32, w: u64, n: u64, p: u64, a: Bound, b: Bound) -> Three
     requires { ⌜ n + p < 4294967296 ⌝ }
-    ensures { λ r. ⌜ threeIn r ≡ sharesAnswer (standingFor case w) n p (boundOf a) (boundOf b) ⌝ }
+    ensures { λ r. ⌜ threeWords r ≡ shareWords (sharesAnswer (standingFor case w) n p (boundOf a) (boundOf b)) ⌝ }
 {
     if case == 0 {
         return flat(literal_absent(n, p, a, b));
@@ -125,7 +145,7 @@ pub extern "C" fn probe_shares(
     upper: bool,
     b: u64,
 ) -> Three
-    ensures { λ r. ⌜ threeIn r ≡ sharesAnswer (standingFor case w) n p (boundIf lower a) (boundIf upper b) ⌝ }
+    ensures { λ r. ⌜ threeWords r ≡ shareWords (sharesAnswer (standingFor case w) n p (boundIf lower a) (boundIf upper b)) ⌝ }
 {
     let falses = n as u64;
     let trues = p as u64;
@@ -145,7 +165,7 @@ pub extern "C" fn probe_shares(
 // The shares of a clause's rules so far, joined with those of one more.
 #[no_mangle]
 pub extern "C" fn probe_joined(clause: Three, rule: Three) -> Three
-    ensures { λ r. ⌜ threeIn r ≡ cappedShares (joinedShares (threeIn clause) (threeIn rule)) ⌝ }
+    ensures { λ r. ⌜ threeWords r ≡ shareWords (joinedShares (threeIn clause) (threeIn rule)) ⌝ }
 {
     flat(lifted(clause).joined(lifted(rule)))
 }
