@@ -47,13 +47,13 @@ impl Count {
     pub fn of(n: u64) -> Count
         ensures { λ r. ⌜ number r ≡ capped n ⌝ }
     {
-        if (Count::CAP.value as u64) < n {
-            return Count::CUT;
+        if n <= Count::CAP.value as u64 {
+            return Count {
+                value: n as u32,
+                cut: false,
+            };
         }
-        Count {
-            value: n as u32,
-            cut: false,
-        }
+        Count::CUT
     }
 
     // Where it stands among counts: a cut one above all others.

@@ -10,11 +10,11 @@ use Rattle.counting.proofs.count.Count.of.Tie as tie
 
 returns : tie.Need-returns
 unfolding cap
-returns c = sym (capped-large _ (c .if1 .taken))
+returns c = sym (capped-small _ (omega (arith, c .if1 .taken)))
 
 returns-2 : tie.Need-returns-2
 unfolding cap
-returns-2 c = sym (capped-small _ (omega (arith, c .if1 .left)))
+returns-2 c = sym (capped-large _ (omega (arith, c .if1 .left)))
 
 pub of-spec : {M : Type 1} → statement M
-of-spec = tie.close (tie.spec (λ c. search needs) returns (λ c. search needs) returns-2)
+of-spec = tie.close (tie.spec (λ c. search needs) (λ c. search needs) returns returns-2)
