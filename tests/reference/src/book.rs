@@ -1,6 +1,6 @@
-//! The plain book of demand 3 (document 01, "Tallies"; document 02, T-01).
+//! The plain book of demand 3 (document 01, "Tallies"; document 02, T-01 and T-08).
 
-use crate::counts::Counter;
+use crate::counts::{Count, Counter};
 use crate::plan::{flipped, Plan};
 use crate::tallies::Tallies;
 
@@ -15,7 +15,10 @@ pub enum Call {
 #[derive(Clone, Copy, Debug, PartialEq, Eq)]
 pub enum Answer {
     Flipped,
-    Counts { break_count: u32, make_count: u32 },
+    Counts {
+        break_count: Count,
+        make_count: Count,
+    },
     Refused(u32),
 }
 
@@ -38,7 +41,8 @@ impl<'a> Book<'a> {
 
     /// "A variable outside 1 to n: 23, and no bit changes. Flip: accepted, and that bit turns
     /// over. Counts: the capped numbers of expansion clauses that turning that bit over would
-    /// spoil and mend; no bit changes." "A flip of a locked variable is one of the refused calls:
+    /// spoil and mend; no bit changes." "A binomial now also says whether it was cut, and so do [..]
+    /// both counts above it." "A flip of a locked variable is one of the refused calls:
     /// the book answers 26, and no bit changes", "26 for a flip of a locked variable, after 23".
     pub fn call(&mut self, call: Call) -> Answer {
         let (Call::Flip(variable) | Call::Counts(variable)) = call;
@@ -55,8 +59,8 @@ impl<'a> Book<'a> {
             Call::Counts(_) => {
                 let counts = self.counter.counts(&self.tallies(), &self.bits, variable);
                 Answer::Counts {
-                    break_count: counts.break_count.capped(),
-                    make_count: counts.make_count.capped(),
+                    break_count: counts.break_count.given(),
+                    make_count: counts.make_count.given(),
                 }
             }
         }

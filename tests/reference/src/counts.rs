@@ -7,9 +7,51 @@
 use crate::literals::{Literal, Literals};
 use crate::plan::Plan;
 use crate::tallies::Tallies;
+use std::cmp::Ordering;
 
 /// "Each count given out is the true number or 4,294,967,295, whichever is smaller."
 pub const CAP: u128 = 4_294_967_295;
+
+/// A count as it is given out. "A count of 4,294,967,295 may be true or cut." "The counts of
+/// document 01, and what is claimed of them, carry this mark." (document 02, T-08)
+#[derive(Clone, Copy, Debug, PartialEq, Eq)]
+pub struct Count {
+    /// The true number, or 4,294,967,295 where it is cut.
+    pub value: u32,
+    /// Whether the true number is larger than 4,294,967,295.
+    pub cut: bool,
+}
+
+impl Count {
+    pub const ZERO: Count = Count::uncut(0);
+    pub const CAP: Count = Count::uncut(u32::MAX);
+    pub const CUT: Count = Count {
+        value: u32::MAX,
+        cut: true,
+    };
+
+    pub const fn uncut(value: u32) -> Count {
+        Count { value, cut: false }
+    }
+}
+
+/// "A cut count is greater than any uncut one; two cut ones are equal."
+impl Ord for Count {
+    fn cmp(&self, other: &Count) -> Ordering {
+        match (self.cut, other.cut) {
+            (true, true) => Ordering::Equal,
+            (true, false) => Ordering::Greater,
+            (false, true) => Ordering::Less,
+            (false, false) => self.value.cmp(&other.value),
+        }
+    }
+}
+
+impl PartialOrd for Count {
+    fn partial_cmp(&self, other: &Count) -> Option<Ordering> {
+        Some(self.cmp(other))
+    }
+}
 
 /// A whole number from 0: exact, or above the cap by an amount that does not matter.
 #[derive(Clone, Copy, Debug, PartialEq, Eq)]
@@ -32,7 +74,8 @@ impl Number {
         }
     }
 
-    /// A product with 0 is 0. Any other is at least as large as each of its numbers.
+    /// A product with 0 is 0: "zero times a cut one is zero and uncut". Any other is at least as
+    /// large as each of its numbers.
     pub fn times(self, other: Number) -> Number {
         match (self, other) {
             (Exact(0), _) | (_, Exact(0)) => Exact(0),
@@ -41,11 +84,11 @@ impl Number {
         }
     }
 
-    /// "The true number or 4,294,967,295, whichever is smaller."
-    pub fn capped(self) -> u32 {
+    /// "The true number or 4,294,967,295, whichever is smaller", and whether it was cut.
+    pub fn given(self) -> Count {
         match self {
-            Exact(n) => n.min(CAP) as u32,
-            AboveCap => CAP as u32,
+            Exact(n) if n <= CAP => Count::uncut(n as u32),
+            Exact(_) | AboveCap => Count::CUT,
         }
     }
 }

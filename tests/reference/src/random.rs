@@ -1,6 +1,7 @@
 //! Random plans, assignments, settings, calls and damaged files; the same seed gives the same.
 
 use crate::book::Call;
+use crate::counts::CAP;
 use crate::file::{
     write, write_field, write_numbers, write_settings, LOCKS, MOST_BOUND, MOST_CLAUSES, MOST_RULES,
     MOST_TERMS, MOST_VARIABLES, MOST_WEIGHT,
@@ -307,6 +308,100 @@ pub fn heavy_plan(random: &mut Random) -> Plan {
             .map(|upper| upper + b - 1 - reading.upper.unwrap());
     }
     plan
+}
+
+/// A rule over one variable that holds where it is at home, and whose parts a flip away from there
+/// spoils `weight` times.
+fn home_rule(random: &mut Random, variable: usize, home: bool, weight: i64) -> Rule {
+    let rule = |lower, weight, upper| Rule {
+        lower,
+        upper,
+        terms: vec![Term { variable, weight }],
+    };
+    match (home, random.percent(50)) {
+        (false, true) => rule(None, weight, Some(0)),
+        (false, false) => rule(Some(0), -weight, None),
+        (true, true) => rule(Some(weight), weight, None),
+        (true, false) => rule(None, -weight, Some(-weight)),
+    }
+}
+
+/// Clauses of which a flip of the variable away from home spoils so many in the expansion, as long as
+/// the variable `door` is 0, which each of them has for a way out: the product of two weights, and
+/// what is left of the number.
+fn home_clauses(
+    random: &mut Random,
+    (variable, home): (usize, bool),
+    door: usize,
+    number: i64,
+) -> Vec<Clause> {
+    let first = random.between((number / MOST_WEIGHT).max(1), MOST_WEIGHT.min(number));
+    let second = (number / first).min(MOST_WEIGHT);
+    let rest = number - first * second;
+    let way_out = Rule {
+        lower: Some(1),
+        upper: None,
+        terms: vec![Term {
+            variable: door,
+            weight: 1,
+        }],
+    };
+    let mut clause = |weights: &[i64]| {
+        let mut rules: Vec<Rule> = weights
+            .iter()
+            .map(|&weight| home_rule(random, variable, home, weight))
+            .collect();
+        rules.insert(random.below(rules.len() + 1), way_out.clone());
+        Clause { rules }
+    };
+    let mut clauses = vec![clause(&[first, second])];
+    clauses.extend((rest > 0).then(|| clause(&[rest])));
+    clauses
+}
+
+/// A plan in which some variables have, where all are at home, break counts around the cap: the cap
+/// itself, its neighbours, or far from it. One clause asks that one of them leave home; what that
+/// spoils is met again by the last variable, the door, which may be locked.
+pub fn cap_plan(random: &mut Random) -> Plan {
+    let n = 1 + random.below(4);
+    let door = n + 1;
+    let homes = random.assignment(n);
+    let all_cut = random.percent(20);
+    let mut clauses = Vec::new();
+    for variable in 1..=n {
+        let number = match random.below(8) {
+            0..=6 if all_cut => CAP as i64 + random.between(1, 1_000_000_000),
+            0..=2 => CAP as i64,
+            3..=6 => CAP as i64 + random.between(-1, 1),
+            _ => random.between(1, 1_000_000),
+        };
+        let home = (variable, homes[variable - 1]);
+        clauses.extend(home_clauses(random, home, door, number));
+    }
+    let away = |variable: usize| Term {
+        variable,
+        weight: if homes[variable - 1] { -1 } else { 1 },
+    };
+    let at_home = homes.iter().filter(|&&home| home).count() as i64;
+    let leave = Clause {
+        rules: vec![Rule {
+            lower: Some(1 - at_home),
+            upper: None,
+            terms: (1..=n).map(away).collect(),
+        }],
+    };
+    clauses.insert(random.below(clauses.len() + 1), leave);
+    let locked = random.percent(60).then_some(Lock {
+        variable: door,
+        value: random.percent(10),
+    });
+    let objective_terms = random.below(n + 1);
+    Plan {
+        variables: door,
+        objective: random.terms(n, objective_terms, 9),
+        locks: locked.into_iter().collect(),
+        clauses,
+    }
 }
 
 /// A plan of the owner's kind: zones with "between two and four marshals, or no course uses it",

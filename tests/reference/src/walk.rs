@@ -1,7 +1,7 @@
-//! The walk (document 01, "The walk"; document 02, T-01 and T-06; paper 004, Algorithms 1 and 2; paper
-//! 000, Algorithm 1).
+//! The walk (document 01, "The walk"; document 02, T-01, T-06 and T-08; paper 004, Algorithms 1 and
+//! 2; paper 000, Algorithm 1).
 
-use crate::counts::Counter;
+use crate::counts::{Count, Counter};
 use crate::file::Refusal;
 use crate::plan::{flipped, Clause, Plan};
 use crate::tallies::Tallies;
@@ -229,10 +229,18 @@ pub fn choosable(plan: &Plan, clause: &Clause) -> Vec<usize> {
 pub enum How {
     /// Among those with break count 0.
     Free,
-    /// Among the least break counts, as many as tie.
-    Least { count: u32, tied: usize },
+    /// Among the least break counts.
+    Least(Least),
     /// Among all.
     Any,
+}
+
+/// The least break count, how many variables tie in it, and whether another one's is cut.
+#[derive(Clone, Copy, Debug, PartialEq, Eq)]
+pub struct Least {
+    pub count: Count,
+    pub tied: usize,
+    pub beside_cut: bool,
 }
 
 /// A variable, and how it was chosen.
@@ -245,29 +253,91 @@ pub struct Chosen {
 /// "Choice (Algorithm 2, SKC) among the clause's variables, each once: if any has break count 0,
 /// pick among those. Otherwise a number r with r mod 1000 < noise leads to a pick among the least
 /// break counts, else to a pick among all." That number is a pick among 1,000, so that it discards as
-/// picks do. Least is least of the counts given out, the capped ones.
+/// picks do. "'Least' in the choice follows this order": that of the counts given out, with their
+/// marks.
 pub fn choose(
     variables: &[usize],
-    break_count: impl Fn(usize) -> u32,
+    break_count: impl Fn(usize) -> Count,
     noise: u32,
     numbers: &mut Numbers,
 ) -> Result<Chosen, Short> {
-    let breaks: Vec<u32> = variables.iter().map(|&v| break_count(v)).collect();
+    let breaks: Vec<Count> = variables.iter().map(|&v| break_count(v)).collect();
     let least = *breaks.iter().min().expect("there is one to choose");
     let with_least: Vec<usize> = (0..variables.len())
         .filter(|&place| breaks[place] == least)
         .map(|place| variables[place])
         .collect();
-    let (among, how) = if least == 0 {
+    let (among, how) = if least == Count::ZERO {
         (&with_least[..], How::Free)
     } else if numbers.pick(NOISE_PLACES)? < noise as usize {
-        let (count, tied) = (least, with_least.len());
-        (&with_least[..], How::Least { count, tied })
+        let how = Least {
+            count: least,
+            tied: with_least.len(),
+            beside_cut: !least.cut && breaks.iter().any(|count| count.cut),
+        };
+        (&with_least[..], How::Least(how))
     } else {
         (variables, How::Any)
     };
     let variable = among[numbers.pick(among.len())?];
     Ok(Chosen { variable, how })
+}
+
+/// What came up in choices among the least break counts, so that a test can tell whether it tried
+/// what the marks of counts are for.
+#[derive(Clone, Copy, Debug, Default, PartialEq, Eq)]
+pub struct Leasts {
+    /// The least is cut and one variable's alone.
+    pub cut_alone: u64,
+    /// The least is cut, so that all are, and they tie.
+    pub cut_ties: u64,
+    /// The least is one below the cap.
+    pub below_cap: u64,
+    /// The least is the cap itself, uncut.
+    pub uncut_cap: u64,
+    /// Of these, those beside one that is cut: by the numbers given out alone the two would tie.
+    pub uncut_cap_beside_cut: u64,
+    /// The least is any uncut number, beside one that is cut.
+    pub uncut_beside_cut: u64,
+}
+
+impl Leasts {
+    /// Each count with its name.
+    pub fn named(&self) -> [(&'static str, u64); 6] {
+        [
+            ("least cut alone", self.cut_alone),
+            ("least cut ties", self.cut_ties),
+            ("least below the cap", self.below_cap),
+            ("least uncut at the cap", self.uncut_cap),
+            ("uncut at the cap beside cut", self.uncut_cap_beside_cut),
+            ("uncut beside cut", self.uncut_beside_cut),
+        ]
+    }
+
+    fn count(&mut self, least: Least) {
+        let Least {
+            count,
+            tied,
+            beside_cut,
+        } = least;
+        self.cut_alone += (count.cut && tied == 1) as u64;
+        self.cut_ties += (count.cut && tied > 1) as u64;
+        self.below_cap += (count == Count::uncut(u32::MAX - 1)) as u64;
+        self.uncut_cap += (count == Count::CAP) as u64;
+        self.uncut_cap_beside_cut += (count == Count::CAP && beside_cut) as u64;
+        self.uncut_beside_cut += beside_cut as u64;
+    }
+}
+
+impl std::ops::AddAssign for Leasts {
+    fn add_assign(&mut self, more: Leasts) {
+        self.cut_alone += more.cut_alone;
+        self.cut_ties += more.cut_ties;
+        self.below_cap += more.below_cap;
+        self.uncut_cap += more.uncut_cap;
+        self.uncut_cap_beside_cut += more.uncut_cap_beside_cut;
+        self.uncut_beside_cut += more.uncut_beside_cut;
+    }
 }
 
 /// What came up in a search, so that a test can tell whether it tried what it is for.
@@ -276,10 +346,7 @@ pub struct Seen {
     pub free: u64,
     pub least: u64,
     pub any: u64,
-    /// Choices of the least count where that count is at the cap.
-    pub capped: u64,
-    /// Of these, those with more than one variable.
-    pub ties_at_the_cap: u64,
+    pub leasts: Leasts,
     /// Tries that met a clause with no unlocked variable.
     pub stuck: u64,
     /// Choices in a clause that has locked variables too.
@@ -292,10 +359,9 @@ impl Seen {
         match how {
             How::Free => self.free += 1,
             How::Any => self.any += 1,
-            How::Least { count, tied } => {
+            How::Least(least) => {
                 self.least += 1;
-                self.capped += (count == u32::MAX) as u64;
-                self.ties_at_the_cap += (count == u32::MAX && tied > 1) as u64;
+                self.leasts.count(least);
             }
         }
     }
@@ -336,7 +402,7 @@ fn call(
             progress.seen.partly_locked += (variables.len() < all) as u64;
             let break_count = |variable| {
                 let counts = counter.counts(&tallies, &assignment, variable);
-                counts.break_count.capped()
+                counts.break_count.given()
             };
             let numbers = &mut progress.numbers;
             let chosen = choose(&variables, break_count, settings.noise, numbers)?;

@@ -233,7 +233,7 @@ fn picks() -> Vec<Worked> {
     table
 }
 
-/// Counts at the cap tie.
+/// Least break counts on both sides of the cap.
 fn ties() -> Vec<Worked> {
     let both = |w: i64| {
         let first: [Rule; 1] = [at_least(1, &[(1, 1), (2, 1)])];
@@ -244,8 +244,8 @@ fn ties() -> Vec<Worked> {
         rows(
             "At 000 only x1 + x2 ≥ 1 is unsatisfied. Of the clause (w·x1 + 2w·x2 ≤ 2) or \
              (x3 ≥ 1) x1 would spoil w over 3 and x2 2w over 3. Noise 1,000 leads to the least: \
-             where both are above the cap they tie, and number 1 takes x2; else x1 is alone. Then \
-             x3 alone has break 0.",
+             where both are cut they tie, and number 1 takes x2; else x1 is alone. Then x3 alone \
+             has break 0.",
             both(w),
             settings(1_000, 1, 3, LINEAR),
             &[(&[0, 0, 0, 1, 0, 0], answer)],
@@ -254,6 +254,46 @@ fn ties() -> Vec<Worked> {
     let mut table = row(10, "floor 0 1 2 6 101");
     table.extend(row(100_000, "floor 0 1 2 6 011"));
     table
+}
+
+/// 'Least' with counts at the cap, above it and below it.
+fn cut_counts() -> Vec<Worked> {
+    let spoils = |variable, [v, w]: [i64; 2]| {
+        let low = |weight| at_most(0, &[(variable, weight)]);
+        [low(v), low(w), at_least(1, &[(3, 1)])]
+    };
+    let row = |first, second, answers: [&str; 2]| {
+        let leave = [at_least(1, &[(1, 1), (2, 1)])];
+        let clauses: [&[Rule]; 3] = [&leave, &spoils(1, first), &spoils(2, second)];
+        rows(
+            "At 000 only x1 + x2 ≥ 1 is unsatisfied. Of (v·x ≤ 0) or (w·x ≤ 0) or (x3 ≥ 1) the \
+             flip of x would spoil v·w. 65,535·65,537 is 4,294,967,295, which is the true number \
+             and less than any that is cut; 65,536² is cut, and so is 65,536·65,537, and these \
+             tie. Noise 1,000 leads to the least, where 0 takes the first and 1 the second of \
+             two. Then x3 alone has break 0.",
+            plan(3, &[], &clauses),
+            settings(1_000, 1, 3, LINEAR),
+            &[
+                (&[0, 0, 0, 0, 0, 0], answers[0]),
+                (&[0, 0, 0, 1, 0, 0], answers[1]),
+            ],
+        )
+    };
+    let (at_cap, above, far) = ([65_535, 65_537], [65_536, 65_536], [65_536, 65_537]);
+    let below = [65_535, 65_536];
+    let (x1, x2) = ("floor 0 1 2 6 101", "floor 0 1 2 6 011");
+    [
+        row(at_cap, above, [x1, x1]),
+        row(above, at_cap, [x2, x2]),
+        row(above, far, [x1, x2]),
+        row(far, above, [x1, x2]),
+        row(at_cap, at_cap, [x1, x2]),
+        row(at_cap, below, [x2, x2]),
+        row(below, above, [x1, x1]),
+    ]
+    .into_iter()
+    .flatten()
+    .collect()
 }
 
 /// The highest number there is.
@@ -564,6 +604,7 @@ pub fn walks() -> Vec<Worked> {
         starts(),
         picks(),
         ties(),
+        cut_counts(),
         discarded_places(),
         discarded_noise(),
         lbs(),

@@ -4,6 +4,7 @@ mod common;
 
 use common::*;
 use reference::book::{Answer, Book, Call};
+use reference::counts::Count;
 use reference::expansion;
 use reference::random::{call, full_plan, small_plan, Random};
 use reference::tallies::Tallies;
@@ -32,14 +33,18 @@ fn fresh_tallies_by_hand() {
     assert_eq!(tallies.unsatisfied_clauses(), [1]);
 }
 
+/// Counts that are not cut.
+fn counted(break_count: u32, make_count: u32) -> Answer {
+    Answer::Counts {
+        break_count: Count::uncut(break_count),
+        make_count: Count::uncut(make_count),
+    }
+}
+
 #[test]
 fn calls_by_hand() {
     let plan = plan(3, &[], &[&[between(1, &[(1, 1), (2, 1), (3, 1)], 1)]]);
     let mut book = Book::open(&plan, &bits("000"));
-    let counted = |break_count, make_count| Answer::Counts {
-        break_count,
-        make_count,
-    };
     for (call, answer, after) in [
         (Call::Counts(1), counted(0, 1), "000"),
         (Call::Flip(1), Answer::Flipped, "100"),
@@ -67,10 +72,6 @@ fn calls_with_locks_by_hand() {
     let free = plan(3, &[], &[&[between(1, &[(1, 1), (2, 1), (3, 1)], 1)]]);
     let plan = locking(free, &[(1, 1), (3, 0)]);
     let mut book = Book::open(&plan, &bits("001"));
-    let counted = |break_count, make_count| Answer::Counts {
-        break_count,
-        make_count,
-    };
     for (call, answer, after) in [
         (Call::Flip(1), Answer::Refused(26), "001"),
         (Call::Flip(3), Answer::Refused(26), "001"),
@@ -86,6 +87,36 @@ fn calls_with_locks_by_hand() {
     ] {
         assert_eq!(book.call(call), answer, "{call:?}");
         assert_eq!(book.bits(), bits(after), "{call:?}");
+    }
+}
+
+/// x1 spoils 4,294,967,295 clauses, which is given out as it is; x2 one more, which is cut. Turned over
+/// they mend as many.
+#[test]
+fn counts_at_the_cap_and_above_it_by_hand() {
+    let product =
+        |variable, [v, w]: [i64; 2]| [at_most(0, &[(variable, v)]), at_most(0, &[(variable, w)])];
+    let plan = plan(
+        2,
+        &[],
+        &[&product(1, [65_535, 65_537]), &product(2, [65_536, 65_536])],
+    );
+    let answer = |break_count, make_count| Answer::Counts {
+        break_count,
+        make_count,
+    };
+    let zero = Count::ZERO;
+    let mut book = Book::open(&plan, &bits("00"));
+    for (call, wanted) in [
+        (Call::Counts(1), answer(Count::CAP, zero)),
+        (Call::Counts(2), answer(Count::CUT, zero)),
+        (Call::Flip(1), Answer::Flipped),
+        (Call::Flip(2), Answer::Flipped),
+        (Call::Counts(1), answer(zero, Count::CAP)),
+        (Call::Counts(2), answer(zero, Count::CUT)),
+        (Call::Counts(3), Answer::Refused(23)),
+    ] {
+        assert_eq!(book.call(call), wanted, "{call:?}");
     }
 }
 
@@ -115,18 +146,11 @@ fn any_list_of_calls() {
                     flipped[variable - 1] += 1;
                     flips += 1;
                 }
-                (
-                    Call::Counts(_),
-                    Answer::Counts {
-                        break_count,
-                        make_count,
-                    },
-                ) => {
+                (Call::Counts(_), Answer::Counts { .. }) => {
                     assert!(named);
-                    let spoiled = expansion::spoiled(&lists, &before, variable);
-                    let mended = expansion::mended(&lists, &before, variable);
-                    let given = (break_count as usize, make_count as usize);
-                    assert_eq!(given, (spoiled, mended));
+                    let spoiled = expansion::spoiled(&lists, &before, variable) as u32;
+                    let mended = expansion::mended(&lists, &before, variable) as u32;
+                    assert_eq!(answer, counted(spoiled, mended));
                     counts += 1;
                 }
                 (Call::Flip(_), Answer::Refused(26)) => {

@@ -4,10 +4,11 @@ mod common;
 
 use common::*;
 use reference::big::Big;
-use reference::counts::{choices, choices_with, counts, Number, CAP, MOST_COPIES};
+use reference::counts::{choices, choices_with, counts, Count, Number, CAP, MOST_COPIES};
 use reference::exact::{self, binomial};
 use reference::plan::Plan;
-use reference::random::{heavy_plan, Random};
+use reference::random::{cap_plan, heavy_plan, Random};
+use std::cmp::Ordering;
 
 fn power_of_two(exponent: u32) -> Big {
     (0..exponent).fold(Big::from(1), |n, _| n.add(&n))
@@ -60,12 +61,16 @@ fn exact_binomials_obey_pascal() {
     assert_eq!(binomial(100, 50, 49), None);
 }
 
-/// A number of `counts` is right if it is exact, or above the cap and said to be so.
+/// A number of `counts` is right if it is exact, or above the cap and said to be so; and what is given
+/// out is the smaller of the true number and the cap, cut exactly where the true number is above it.
 fn agrees(number: Number, true_number: &Big) -> bool {
-    match number {
+    let (cap, given) = (Big::from(CAP), number.given());
+    let right = match number {
         Number::Exact(n) => true_number.to_u128() == Some(n),
-        Number::AboveCap => *true_number > Big::from(CAP),
-    }
+        Number::AboveCap => *true_number > cap,
+    };
+    let smaller = true_number.clone().min(cap.clone());
+    right && Big::from(given.value as u128) == smaller && given.cut == (*true_number > cap)
 }
 
 #[test]
@@ -131,15 +136,63 @@ fn sums_and_products_of_numbers() {
     assert_eq!(large.times(Number::Exact(2)), above);
     assert_eq!(Number::Exact(6).times(Number::Exact(7)), Number::Exact(42));
     assert_eq!(Number::Exact(6).plus(Number::Exact(7)), Number::Exact(13));
-    for (number, capped) in [
-        (CAP - 1, 4_294_967_294),
-        (CAP, 4_294_967_295),
-        (CAP + 1, 4_294_967_295),
-        (u128::MAX, 4_294_967_295),
+}
+
+/// "A count of 4,294,967,295 may be true or cut."
+#[test]
+fn counts_given_out() {
+    let cut = Count {
+        value: 4_294_967_295,
+        cut: true,
+    };
+    let uncut = |value| Count { value, cut: false };
+    for (number, given) in [
+        (Number::ZERO, uncut(0)),
+        (Number::Exact(CAP - 1), uncut(4_294_967_294)),
+        (Number::Exact(CAP), uncut(4_294_967_295)),
+        (Number::Exact(CAP + 1), cut),
+        (Number::Exact(u128::MAX), cut),
+        (Number::AboveCap, cut),
     ] {
-        assert_eq!(Number::Exact(number).capped(), capped);
+        assert_eq!(number.given(), given, "{number:?}");
     }
-    assert_eq!(above.capped(), 4_294_967_295);
+    // "Zero times a cut one is zero and uncut"; one that is cut stays so in every other sum and
+    // product, and a sum of two that are not may be.
+    let (zero, one) = (Number::ZERO, Number::ONE);
+    for above in [Number::AboveCap, Number::Exact(CAP + 1)] {
+        assert_eq!(zero.times(above).given(), uncut(0));
+        assert_eq!(above.times(zero).given(), uncut(0));
+        assert_eq!(one.times(above).given(), cut);
+        assert_eq!(above.plus(zero).given(), cut);
+        assert_eq!(above.plus(above).given(), cut);
+    }
+    let exact = |n| Number::Exact(n);
+    assert_eq!(exact(CAP).plus(zero).given(), uncut(4_294_967_295));
+    assert_eq!(exact(CAP).plus(one).given(), cut);
+    assert_eq!(exact(CAP).times(one).given(), uncut(4_294_967_295));
+    assert_eq!(
+        exact(65_535).times(exact(65_537)).given(),
+        uncut(4_294_967_295)
+    );
+    assert_eq!(exact(65_536).times(exact(65_536)).given(), cut);
+}
+
+/// "A cut count is greater than any uncut one; two cut ones are equal."
+#[test]
+fn the_order_of_counts() {
+    let rising = [
+        Count::ZERO,
+        Count::uncut(1),
+        Count::uncut(4_294_967_294),
+        Count::CAP,
+        Count::CUT,
+    ];
+    for (i, x) in rising.iter().enumerate() {
+        for (j, y) in rising.iter().enumerate() {
+            assert_eq!(x.cmp(y), i.cmp(&j));
+        }
+    }
+    assert_eq!(Count::CUT.cmp(&Number::AboveCap.given()), Ordering::Equal);
 }
 
 /// A clause of rules w·x1 ≤ 0: at x1 = 0 each has e = w and g = 0, so its break count is the
@@ -151,15 +204,14 @@ fn product_clause(weights: &[i64]) -> Vec<reference::plan::Rule> {
 #[test]
 fn counts_around_the_cap() {
     // 65,535·65,537 is the cap itself; 65,536² is one more; 65,535·65,536 + 65,534 one less.
-    for (clauses, true_number, capped) in [
-        (vec![vec![65_535, 65_537]], CAP, 4_294_967_295),
-        (vec![vec![65_536, 65_536]], CAP + 1, 4_294_967_295),
-        (
-            vec![vec![65_535, 65_536], vec![65_534]],
-            CAP - 1,
-            4_294_967_294,
-        ),
-        (vec![vec![65_535, 65_537], vec![1]], CAP + 1, 4_294_967_295),
+    let below = Count::uncut(4_294_967_294);
+    for (clauses, true_number, given) in [
+        (vec![vec![65_535, 65_537]], CAP, Count::CAP),
+        (vec![vec![3, 5, 17, 257, 65_537]], CAP, Count::CAP),
+        (vec![vec![65_536, 65_536]], CAP + 1, Count::CUT),
+        (vec![vec![65_535, 65_536], vec![65_534]], CAP - 1, below),
+        (vec![vec![65_535, 65_536], vec![65_535]], CAP, Count::CAP),
+        (vec![vec![65_535, 65_537], vec![1]], CAP + 1, Count::CUT),
     ] {
         let clauses: Vec<_> = clauses
             .iter()
@@ -169,7 +221,7 @@ fn counts_around_the_cap() {
         let plan = plan(1, &[], &lists);
         let down = counts(&plan, &bits("0"), 1);
         assert_eq!(down.break_count, Number::Exact(true_number));
-        assert_eq!(down.break_count.capped(), capped);
+        assert_eq!(down.break_count.given(), given);
         assert_eq!(down.make_count, Number::ZERO);
         // Back again the same clauses are mended.
         let up = counts(&plan, &bits("1"), 1);
@@ -192,8 +244,16 @@ fn products_above_the_cap_are_not_subtracted() {
     assert_eq!(at.make_count, Number::ZERO);
 }
 
+/// How many counts were below the cap and not 0, how many the cap itself, how many above it.
+#[derive(Default, Debug)]
+struct Met {
+    below: usize,
+    at: usize,
+    above: usize,
+}
+
 /// Break and make count are right, exact or above the cap, for each variable.
-fn check(plan: &Plan, assignment: &[bool], above: &mut [usize; 2]) {
+fn check(plan: &Plan, assignment: &[bool], met: &mut Met) {
     for variable in 1..=plan.variables {
         let Some((break_count, make_count)) = exact::counts(plan, assignment, variable, 400) else {
             continue;
@@ -201,9 +261,11 @@ fn check(plan: &Plan, assignment: &[bool], above: &mut [usize; 2]) {
         let by_formula = counts(plan, assignment, variable);
         assert!(agrees(by_formula.break_count, &break_count), "{plan:?}");
         assert!(agrees(by_formula.make_count, &make_count), "{plan:?}");
-        for number in [&break_count, &make_count] {
-            if *number > Big::from(0) {
-                above[usize::from(*number > Big::from(CAP))] += 1;
+        for number in [break_count, make_count] {
+            match number.cmp(&Big::from(CAP)) {
+                Ordering::Less => met.below += usize::from(number > Big::from(0)),
+                Ordering::Equal => met.at += 1,
+                Ordering::Greater => met.above += 1,
             }
         }
     }
@@ -212,14 +274,27 @@ fn check(plan: &Plan, assignment: &[bool], above: &mut [usize; 2]) {
 #[test]
 fn heavy_counts_agree_with_the_printed_equations() {
     let mut random = Random::new(3);
-    let mut above = [0; 2];
+    let mut met = Met::default();
     for _ in 0..6_000 {
         let plan = heavy_plan(&mut random);
         let assignment = random.assignment(plan.variables);
-        check(&plan, &assignment, &mut above);
+        check(&plan, &assignment, &mut met);
     }
     // Both sides of the cap were met often.
-    assert!(above[0] > 500 && above[1] > 500, "{above:?}");
+    assert!(met.below > 500 && met.above > 500, "{met:?}");
+}
+
+/// The same around the cap, which few plans reach by chance.
+#[test]
+fn counts_around_the_cap_agree_with_the_printed_equations() {
+    let mut random = Random::new(4);
+    let mut met = Met::default();
+    for _ in 0..3_000 {
+        let plan = cap_plan(&mut random);
+        let assignment = random.assignment(plan.variables);
+        check(&plan, &assignment, &mut met);
+    }
+    assert!(met.below.min(met.at).min(met.above) > 500, "{met:?}");
 }
 
 #[test]

@@ -3,9 +3,10 @@
 mod common;
 
 use common::*;
+use reference::counts::Count;
 use reference::plan::Plan;
 use reference::random::{
-    self, full_plan, locked_full_plan, race_plan, small_met_plan, small_plan, Random,
+    self, cap_plan, full_plan, locked_full_plan, race_plan, small_met_plan, small_plan, Random,
 };
 use reference::walk::*;
 use reference::worked::walks;
@@ -34,7 +35,7 @@ fn walked(plan: &Plan, settings: Settings, numbers: &[u32]) -> String {
 #[test]
 fn walks_worked_out_by_hand() {
     let table = walks();
-    assert!(table.len() >= 110, "{}", table.len());
+    assert!(table.len() >= 124, "{}", table.len());
     for row in table {
         let answer = walked(&row.plan, row.settings, &row.numbers);
         assert_eq!(answer, row.answer, "{}", row.why);
@@ -51,15 +52,20 @@ fn lbs_goes_over_to_linear_for_good() {
     assert_eq!(costs, [11, 2, 1]);
 }
 
+/// A choice among the variables 3, 5, 8 and 9 with these break counts, and how many numbers it used.
+fn chosen_by(breaks: [Count; 4], noise: u32, list: &[u32]) -> (Result<usize, Short>, usize) {
+    let variables = [3, 5, 8, 9];
+    let mut numbers = Numbers::new(list);
+    let place = |variable| variables.iter().position(|&each| each == variable).unwrap();
+    let count = |variable: usize| breaks[place(variable)];
+    let chosen = choose(&variables, count, noise, &mut numbers);
+    (chosen.map(|chosen| chosen.variable), numbers.used())
+}
+
 #[test]
 fn choice_by_hand() {
-    let variables = [3, 5, 8, 9];
     let chosen = |breaks: [u32; 4], noise: u32, list: &[u32]| {
-        let mut numbers = Numbers::new(list);
-        let place = |variable| variables.iter().position(|&each| each == variable).unwrap();
-        let count = |variable: usize| breaks[place(variable)];
-        let chosen = choose(&variables, count, noise, &mut numbers);
-        (chosen.map(|chosen| chosen.variable), numbers.used())
+        chosen_by(breaks.map(Count::uncut), noise, list)
     };
     // Break count 0: a pick among those, at any noise, with one number.
     for noise in [0, 1_000] {
@@ -84,12 +90,36 @@ fn choice_by_hand() {
     assert_eq!(chosen([4, 2, 2, 9], 296, &[u32::MAX, 500, 3]), (Ok(9), 3));
     assert_eq!(chosen([4, 2, 2, 9], 1, &[u32::MAX - 295]), (Err(Short), 1));
     assert_eq!(chosen([4, 2, 2, 9], 1, &[u32::MAX - 296, 0]), (Ok(3), 2));
-    // Counts at the cap tie.
+    // Equal ones tie, at the cap too.
     assert_eq!(chosen([u32::MAX; 4], 1_000, &[0, 3]), (Ok(9), 2));
     // The noise number is used up even where none is left for the pick.
     assert_eq!(chosen([4, 2, 2, 9], 500, &[499]), (Err(Short), 1));
     assert_eq!(chosen([4, 2, 2, 9], 500, &[500]), (Err(Short), 1));
     assert_eq!(chosen([4, 2, 2, 9], 500, &[]), (Err(Short), 0));
+}
+
+/// "'Least' in the choice follows this order": cut ones tie and come after every uncut one.
+#[test]
+fn choice_with_cut_counts() {
+    let (cap, cut) = (Count::CAP, Count::CUT);
+    let least = |breaks, number| chosen_by(breaks, 1_000, &[0, number]);
+    // All are cut: each can be picked.
+    for (number, variable) in [(0, 3), (1, 5), (2, 8), (3, 9)] {
+        assert_eq!(least([cut; 4], number), (Ok(variable), 2));
+    }
+    // One at the cap is less than those that are cut, and two of them tie.
+    assert_eq!(least([cut, cut, cap, cut], 3), (Ok(8), 2));
+    assert_eq!(least([cut, cap, cut, cap], 0), (Ok(5), 2));
+    assert_eq!(least([cut, cap, cut, cap], 1), (Ok(9), 2));
+    assert_eq!(least([cap, cap, cap, cut], 5), (Ok(8), 2));
+    // Any lower one is less than both.
+    let below = Count::uncut(4_294_967_294);
+    assert_eq!(least([cut, cap, cut, below], 0), (Ok(9), 2));
+    assert_eq!(least([cut, Count::uncut(1), cap, below], 0), (Ok(5), 2));
+    // Break count 0 needs no noise number, whatever the others are.
+    assert_eq!(chosen_by([cut, cap, Count::ZERO, cut], 0, &[7]), (Ok(8), 1));
+    // Among all, where the noise number says so.
+    assert_eq!(chosen_by([cut, cap, cut, cut], 0, &[0, 3]), (Ok(9), 2));
 }
 
 /// "The largest multiple of m up to 4,294,967,296": a multiple, no larger, and the next one is.
@@ -185,6 +215,23 @@ fn plans_with_locks() {
     }
     let least = stuck.min(partly).min(found.min(floors) as u64);
     assert!(least > 100, "{stuck} {partly} {found} {floors}");
+}
+
+/// Choices among the least break counts where some are cut, or the cap itself.
+#[test]
+fn plans_around_the_cap() {
+    let mut random = Random::new(36);
+    let mut leasts = Leasts::default();
+    for _ in 0..1_000 {
+        let plan = cap_plan(&mut random);
+        let mut settings = random::settings(&mut random);
+        settings.noise = settings.noise.max(500);
+        let list = random.any_numbers(100);
+        let answer = search(&plan, &settings, &list).unwrap();
+        leasts += check(&plan, &settings, &list, &answer).leasts;
+    }
+    let named = leasts.named();
+    assert!(named.iter().all(|&(_, count)| count > 100), "{named:?}");
 }
 
 /// l(O) is no more than the cost of any assignment that obeys the locks, and some has that cost.
