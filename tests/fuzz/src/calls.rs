@@ -4,8 +4,9 @@ use crate::figures::Figures;
 use crate::making;
 use harness::guarded::Guarded;
 use harness::layout::{self, ASSIGNMENT, TABLES, TALLIES, TERM_TABLE};
-use harness::planner::{counts, flip, open};
+use harness::planner::{counts, flip, open, Counted};
 use reference::book::{Answer, Book, Call};
+use reference::counts::Count;
 use reference::plan::Plan;
 use reference::random::{self, Random};
 use reference::tallies::Tallies;
@@ -32,23 +33,35 @@ fn opened(lent: &[Guarded; 4]) -> Result<(Plan, Vec<bool>), u32> {
     Ok((plan, bits))
 }
 
-/// What the book answers to a call where 25 is not met: refusal, break count, make count.
-fn booked(lent: &[Guarded; 4], call: Call) -> Result<(Plan, Vec<bool>, [u32; 2]), u32> {
+/// What the book answers to a call where 25 is not met; and the plan, and the bits after it.
+fn booked(lent: &[Guarded; 4], call: Call) -> Result<(Plan, Vec<bool>, Answer), u32> {
     let (plan, bits) = opened(lent)?;
     if lent[3].bytes()[..TALLIES] != layout::tallies(&Tallies::fresh(&plan, &bits)) {
         return Err(25);
     }
     let mut book = Book::open(&plan, &bits);
-    let counted = match book.call(call) {
-        Answer::Refused(refusal) => return Err(refusal),
-        Answer::Flipped => [0, 0],
-        Answer::Counts {
-            break_count,
-            make_count,
-        } => [break_count, make_count],
-    };
+    let answer = book.call(call);
+    if let Answer::Refused(refusal) = answer {
+        return Err(refusal);
+    }
     let bits = book.bits().to_vec();
-    Ok((plan, bits, counted))
+    Ok((plan, bits, answer))
+}
+
+/// On which side of the cap each count of an answer lies.
+fn note_counts(figures: &mut Figures, answer: Answer) {
+    let Answer::Counts {
+        break_count,
+        make_count,
+    } = answer
+    else {
+        return;
+    };
+    let both = [break_count, make_count];
+    figures.note("cut count", both.contains(&Count::CUT));
+    figures.note("uncut count at the cap", both.contains(&Count::CAP));
+    let below = |count: &Count| *count != Count::ZERO && *count < Count::CAP;
+    figures.note("count below the cap", both.iter().any(below));
 }
 
 /// Writes an assignment and its tallies into what is lent.
@@ -94,15 +107,14 @@ pub fn case(random: &mut Random, name: &str, figures: &mut Figures) -> u32 {
         Call::Flip(variable) | Call::Counts(variable) => variable,
     };
     let mut wanted = lent.clone();
-    let mut refusal = 0;
-    let mut counted = [0, 0];
+    let mut answer = Counted::refused(0);
     if name == "open" {
         match opened(&lent) {
             Ok((plan, bits)) => {
                 figures.note("opened against locks", !plan.obeyed(&bits));
                 write(&mut wanted, &plan, &bits);
             }
-            Err(number) => refusal = number,
+            Err(refusal) => answer = Counted::refused(refusal),
         }
     } else {
         let call = match name {
@@ -110,32 +122,28 @@ pub fn case(random: &mut Random, name: &str, figures: &mut Figures) -> u32 {
             _ => Call::Counts(variable),
         };
         match booked(&lent, call) {
-            Ok((plan, bits, both)) => {
+            Ok((plan, bits, booked)) => {
                 let locked = plan.lock(variable as usize).is_some();
                 figures.note("counts of a locked variable", locked);
+                note_counts(figures, booked);
                 write(&mut wanted, &plan, &bits);
-                counted = both;
+                answer = booked.into();
             }
-            Err(number) => refusal = number,
+            Err(refusal) => answer = Counted::refused(refusal),
         }
     }
     let [tables, terms, assignment, tallies] = &mut lent;
     let (tables, terms) = (tables.bytes(), terms.bytes());
-    let answer = match name {
-        "open" => (
-            open(tables, terms, assignment.bytes(), tallies.lend()),
-            [0, 0],
-        ),
+    let given = match name {
+        "open" => Counted::refused(open(tables, terms, assignment.bytes(), tallies.lend())),
         "flip" => {
             let refusal = flip(tables, terms, assignment.lend(), tallies.lend(), variable);
-            (refusal, [0, 0])
+            Counted::refused(refusal)
         }
-        _ => {
-            let answer = counts(tables, terms, assignment.bytes(), tallies.bytes(), variable);
-            (answer.refusal, [answer.break_count, answer.make_count])
-        }
+        _ => counts(tables, terms, assignment.bytes(), tallies.bytes(), variable),
     };
-    assert_eq!(answer, (refusal, counted), "{name} of {variable}");
+    assert_eq!(given, answer, "{name} of {variable}");
+    let refusal = answer.refusal;
     assert!(
         lent == wanted,
         "{name} of {variable} left other bytes: {refusal}"

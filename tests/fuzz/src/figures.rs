@@ -10,8 +10,8 @@ pub struct Figures {
     cases: [u64; CASES.len()],
 }
 
-/// What a fuzz run is to come upon: cases of locks, then of picks.
-pub const CASES: [&str; 11] = [
+/// What a fuzz run is to come upon: cases of locks, of picks, of counts and of the least among them.
+pub const CASES: [&str; 20] = [
     "stuck",
     "found with locks",
     "opened against locks",
@@ -23,6 +23,15 @@ pub const CASES: [&str; 11] = [
     "kept below a limit",
     "kept at the top",
     "high starts",
+    "cut count",
+    "uncut count at the cap",
+    "count below the cap",
+    "least cut alone",
+    "least cut ties",
+    "least below the cap",
+    "least uncut at the cap",
+    "uncut at the cap beside cut",
+    "uncut beside cut",
 ];
 
 /// By the numbers of the C interface.
@@ -100,7 +109,7 @@ impl fmt::Display for Figures {
         for (name, count) in ENDINGS.iter().zip(self.endings) {
             write!(f, " {name}: {count}")?;
         }
-        write!(f, "\nlocks and picks:")?;
+        write!(f, "\nlocks, picks and counts:")?;
         for (name, count) in CASES.iter().zip(self.cases) {
             write!(f, " {name}: {count}")?;
         }

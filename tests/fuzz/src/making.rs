@@ -10,8 +10,9 @@ pub fn plan(random: &mut Random) -> Plan {
             let locks = [0, 1, 100, 512][random.below(4)];
             random::locked_full_plan(random, locks)
         }
-        1..=9 => random::race_plan(random),
-        10..=19 => random::heavy_plan(random),
+        1..=7 => random::race_plan(random),
+        8..=13 => random::heavy_plan(random),
+        14..=19 => random::cap_plan(random),
         20..=39 => random::small_plan(random),
         _ => random::small_met_plan(random),
     }

@@ -57,7 +57,7 @@ pub fn case(random: &mut Random, figures: &mut Figures) -> Searched {
     let lent = Lent::sized(random, &tables, &terms, &numbers, lengths);
     let (answer, seen) = lent.check_seen(&settings(random));
     figures.note("stuck", seen.stuck > 0);
-    for (name, count) in seen.picks.named() {
+    for (name, count) in seen.picks.named().into_iter().chain(seen.leasts.named()) {
         figures.note(name, count > 0);
     }
     let locked = || layout::loaded(&tables, &terms).is_some_and(|plan| !plan.locks.is_empty());

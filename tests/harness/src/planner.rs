@@ -1,5 +1,7 @@
 //! The planner's C interface as Rust sees it (include/planner.h).
 
+use reference::book::Answer;
+use reference::counts::Count;
 use reference::walk::Settings;
 
 /// What loading answers.
@@ -10,13 +12,50 @@ pub struct Loaded {
     pub offset: usize,
 }
 
-/// What counts answers.
+/// What counts answers; a mark is 1 where its count is cut, else 0.
 #[repr(C)]
 #[derive(Clone, Copy, Debug, PartialEq, Eq)]
 pub struct Counted {
     pub refusal: u32,
     pub break_count: u32,
+    pub break_cut: u32,
     pub make_count: u32,
+    pub make_cut: u32,
+}
+
+impl Counted {
+    /// The answer with these counts.
+    pub fn of(break_count: Count, make_count: Count) -> Counted {
+        Counted {
+            refusal: 0,
+            break_count: break_count.value,
+            break_cut: break_count.cut as u32,
+            make_count: make_count.value,
+            make_cut: make_count.cut as u32,
+        }
+    }
+
+    /// The answer with this refusal: every other field is 0.
+    pub fn refused(refusal: u32) -> Counted {
+        Counted {
+            refusal,
+            ..Counted::of(Count::ZERO, Count::ZERO)
+        }
+    }
+}
+
+/// What counts answers where the book does so.
+impl From<Answer> for Counted {
+    fn from(answer: Answer) -> Counted {
+        match answer {
+            Answer::Counts {
+                break_count,
+                make_count,
+            } => Counted::of(break_count, make_count),
+            Answer::Refused(refusal) => Counted::refused(refusal),
+            Answer::Flipped => Counted::refused(0),
+        }
+    }
 }
 
 /// What a search answers; the ending by its number.

@@ -1,5 +1,6 @@
 //! A list of calls made one after another by the proved `replay_calls`.
 
+use crate::planner::Counted;
 use reference::book::{Answer, Call};
 
 mod raw {
@@ -58,18 +59,19 @@ pub fn call_bytes(call: Call, other: u8) -> Vec<u8> {
     bytes
 }
 
-/// An answer in three words.
+/// How many bytes an answer has.
+pub const ANSWER: usize = 20;
+
+/// An answer in five words: refusal, break count and its mark, make count and its mark; all but the
+/// first are 0 for a flip.
 pub fn answer_bytes(answer: Answer) -> Vec<u8> {
-    let words = match answer {
-        Answer::Flipped => [0, 0, 0],
-        Answer::Counts {
-            break_count,
-            make_count,
-        } => [0, break_count, make_count],
-        Answer::Refused(number) => [number, 0, 0],
-    };
-    words
-        .iter()
-        .flat_map(|word: &u32| word.to_le_bytes())
-        .collect()
+    let Counted {
+        refusal,
+        break_count,
+        break_cut,
+        make_count,
+        make_cut,
+    } = answer.into();
+    let words: [u32; ANSWER / 4] = [refusal, break_count, break_cut, make_count, make_cut];
+    words.iter().flat_map(|word| word.to_le_bytes()).collect()
 }

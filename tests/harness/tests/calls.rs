@@ -5,7 +5,9 @@ use harness::guarded::Guarded;
 use harness::layout::{self, ASSIGNMENT, TABLES, TALLIES, TERM_TABLE};
 use harness::planner::{counts, flip, open, Counted};
 use reference::book::{Answer, Book, Call};
+use reference::counts::Count;
 use reference::expansion;
+use reference::making::difference_over_2;
 use reference::plan::Plan;
 use reference::random::{self, Random};
 use reference::tallies::Tallies;
@@ -76,31 +78,12 @@ impl Lent {
         )
     }
 
-    /// One call of the book on what is lent.
-    fn call(&mut self, call: Call) -> Answer {
+    /// Makes one call, and compares its answer with the book's.
+    fn check(&mut self, call: Call, wanted: Answer) {
+        let wanted = Counted::from(wanted);
         match call {
-            Call::Flip(variable) => match self.flip(variable) {
-                0 => Answer::Flipped,
-                refusal => Answer::Refused(refusal),
-            },
-            Call::Counts(variable) => match self.counts(variable) {
-                Counted {
-                    refusal: 0,
-                    break_count,
-                    make_count,
-                } => Answer::Counts {
-                    break_count,
-                    make_count,
-                },
-                Counted {
-                    refusal,
-                    break_count,
-                    make_count,
-                } => {
-                    assert_eq!((break_count, make_count), (0, 0));
-                    Answer::Refused(refusal)
-                }
-            },
+            Call::Flip(variable) => assert_eq!(self.flip(variable), wanted.refusal, "{call:?}"),
+            Call::Counts(variable) => assert_eq!(self.counts(variable), wanted, "{call:?}"),
         }
     }
 
@@ -119,8 +102,10 @@ impl Lent {
 struct Met {
     flips: u32,
     counts: u32,
-    /// Counts calls with a count at the cap.
-    capped: u32,
+    /// Counts that are cut, that are the cap itself, and that are neither.
+    cut: u32,
+    at_the_cap: u32,
+    below: u32,
     refused: u32,
     /// Flips of locked variables.
     locked: u32,
@@ -141,7 +126,13 @@ impl Met {
                 make_count,
             } => {
                 self.counts += 1;
-                self.capped += (break_count.max(make_count) == u32::MAX) as u32;
+                for count in [break_count, make_count] {
+                    match count {
+                        Count::CUT => self.cut += 1,
+                        Count::CAP => self.at_the_cap += 1,
+                        _ => self.below += 1,
+                    }
+                }
             }
         }
     }
@@ -159,7 +150,7 @@ fn check_list(random: &mut Random, plan: &Plan, length: usize, met: &mut Met) {
     for _ in 0..length {
         let call = random::call(random, plan.variables);
         let wanted = book.call(call);
-        assert_eq!(lent.call(call), wanted, "{call:?}");
+        lent.check(call, wanted);
         met.count(wanted);
         if let Call::Counts(variable) = call {
             met.counts_of_locked += plan.lock(variable as usize).is_some() as u32;
@@ -206,10 +197,42 @@ fn lists_of_calls_on_large_plans() {
     }
     assert!(met.flips.min(met.counts).min(met.locked) > 100, "{met:?}");
     // On both sides of the cap.
-    assert!(
-        heavy.capped > 30 && heavy.counts - heavy.capped > 30,
-        "{heavy:?}"
-    );
+    assert!(heavy.cut.min(heavy.below) > 30, "{heavy:?}");
+}
+
+/// Counts of 4,294,967,295 that are true, and some that are cut.
+#[test]
+fn lists_of_calls_around_the_cap() {
+    let mut random = Random::new(27);
+    let mut met = Met::default();
+    for _ in 0..400 {
+        let plan = random::cap_plan(&mut random);
+        check_list(&mut random, &plan, 30, &mut met);
+    }
+    let least = met.cut.min(met.at_the_cap).min(met.below);
+    assert!(least > 500, "{met:?}");
+}
+
+/// A difference that is the cap itself, of two binomials that are cut; and its neighbours.
+#[test]
+fn differences_at_the_cap() {
+    let mut random = Random::new(28);
+    for (m, w) in [(252_645_127, 17), (286_331_146, 15), (84_215_020, 51)] {
+        for (m, spoiled) in [
+            (m - 1, Count::uncut(u32::MAX - w)),
+            (m, Count::CAP),
+            (m + 1, Count::CUT),
+        ] {
+            let (plan, mut bits) = difference_over_2(m, w as i64);
+            let mut lent = Lent::new(&mut random, &plan, &bits);
+            assert_eq!(lent.open(), 0);
+            assert_eq!(lent.counts(1), Counted::of(spoiled, Count::ZERO));
+            assert_eq!(lent.flip(1), 0);
+            assert_eq!(lent.counts(1), Counted::of(Count::ZERO, spoiled));
+            bits[0] = true;
+            assert_eq!(lent.assignment.bytes()[..bits.len()], layout::bits(&bits));
+        }
+    }
 }
 
 /// Counts against the expansion written out.
@@ -226,11 +249,9 @@ fn counts_by_brute_expansion() {
         let mut lent = Lent::new(&mut random, &plan, &bits);
         assert_eq!(lent.open(), 0);
         for variable in 1..=plan.variables {
-            let wanted = Counted {
-                refusal: 0,
-                break_count: expansion::spoiled(&parts, &bits, variable) as u32,
-                make_count: expansion::mended(&parts, &bits, variable) as u32,
-            };
+            let [spoiled, mended] = [expansion::spoiled, expansion::mended]
+                .map(|count| Count::uncut(count(&parts, &bits, variable) as u32));
+            let wanted = Counted::of(spoiled, mended);
             assert_eq!(lent.counts(variable as u32), wanted);
             counted += 1;
         }
@@ -354,7 +375,7 @@ fn refusals_in_their_order() {
             "{met:?}, round {round}"
         );
         if counted.refusal != 0 {
-            assert_eq!((counted.break_count, counted.make_count), (0, 0));
+            assert_eq!(counted, Counted::refused(counted.refusal));
         }
         let flipped = lent.flip(variable);
         assert_eq!(flipped, first(&CONDITIONS), "{met:?}, round {round}");
@@ -399,12 +420,8 @@ fn each_buffer_one_byte_short() {
             for variable in [1, plan.variables as u32, 0] {
                 assert_eq!(lent.open(), 21, "buffer {place}");
                 assert_eq!(lent.flip(variable), 21, "buffer {place}");
-                let refused = Counted {
-                    refusal: 21,
-                    break_count: 0,
-                    make_count: 0,
-                };
-                assert_eq!(lent.counts(variable), refused, "buffer {place}");
+                let counted = lent.counts(variable);
+                assert_eq!(counted, Counted::refused(21), "buffer {place}");
                 assert!(lent == before, "buffer {place}: a byte changed");
             }
         }

@@ -1,21 +1,31 @@
-//! Capped binomials, differences, shares and clause counts against the reference's exact integers.
+//! Binomials, differences, sums, products, shares and clause counts, with their marks, against the
+//! reference's exact integers.
 
 use harness::probe::{
-    binomial, difference, factors, joined, shares, third, Standing, Three, START,
+    binomial, difference, factors, joined, joined_marked, shares, third, Marked, Standing, Three,
+    START,
 };
 use reference::big::Big;
-use reference::counts::{self, choices, choices_with, CAP};
+use reference::counts::{self, choices, choices_with, Count, Number, CAP};
 use reference::exact;
 use reference::literals::Literal;
 use reference::random::Random;
 
 const LARGEST: i64 = 512_000_000;
 
-/// The exact binomial, cut at the cap; by the reference's own rule where it cannot be written out.
-fn expected(m: i64, k: i64) -> u32 {
+/// A true number as it is given out.
+fn given(number: &Big) -> Count {
+    number
+        .to_u128()
+        .map_or(Number::AboveCap, Number::Exact)
+        .given()
+}
+
+/// The exact binomial as it is given out; by the reference's own rule where it cannot be written out.
+fn expected(m: i64, k: i64) -> Count {
     match exact::binomial(m, k, 400) {
-        Some(n) => n.to_u128().map_or(CAP, |n| n.min(CAP)) as u32,
-        None => choices(m, Some(k)).capped(),
+        Some(n) => given(&n),
+        None => choices(m, Some(k)).given(),
     }
 }
 
@@ -29,7 +39,7 @@ fn pascals_triangle_and_beyond() {
 }
 
 /// For each k the m at which m over k passes the cap, and its neighbours, from both ends of the
-/// row.
+/// row. Only for k = 1 is the cap itself reached.
 #[test]
 fn around_the_cap() {
     for k in 1..=40_i64 {
@@ -37,7 +47,7 @@ fn around_the_cap() {
         while low < high {
             let m = (low + high) / 2;
             match choices(m, Some(k)) {
-                counts::Number::Exact(n) if n < CAP => low = m + 1,
+                Number::Exact(n) if n <= CAP => low = m + 1,
                 _ => high = m,
             }
         }
@@ -53,9 +63,12 @@ fn around_the_cap() {
             }
         }
     }
-    // 4,294,967,295 over 1 is the cap itself, and one less is below it.
-    assert_eq!(binomial(4_294_967_295, 1), u32::MAX);
-    assert_eq!(binomial(4_294_967_294, 1), u32::MAX - 1);
+    // 4,294,967,295 over 1 is the cap itself, and not cut; one less is below it.
+    for k in [1, 4_294_967_294] {
+        assert_eq!(binomial(4_294_967_295, k), Count::CAP);
+    }
+    assert_eq!(binomial(4_294_967_294, 1), Count::uncut(4_294_967_294));
+    assert_eq!(binomial(4_294_967_295, 2), Count::CUT);
 }
 
 /// Worked out by hand from the sentence of T-03: m, k and the factors.
@@ -131,16 +144,48 @@ fn factors_of_whole_rows_and_of_random_binomials() {
 /// "Tempting, and wrong": the difference of two capped binomials would be 0 here.
 #[test]
 fn tempting_and_wrong() {
-    assert_eq!(binomial(100_001, 2), u32::MAX);
-    assert_eq!(binomial(100_000, 2), u32::MAX);
-    assert_eq!(difference(100_000, 1, 2), 100_000);
+    let number = Count::uncut(100_000);
+    assert_eq!(binomial(100_001, 2), Count::CUT);
+    assert_eq!(binomial(100_000, 2), Count::CUT);
+    assert_eq!(difference(100_000, 1, 2), number);
     // x1 + 100,000·x2 ≤ 1 at 1,1: x1 has make count 100,000.
     let rule = shares(Standing::On(1), 0, 100_001, None, Some(2));
-    assert_eq!(rule.f, 100_000);
-    assert_eq!(joined(START, rule).f, 100_000);
+    assert_eq!(rule.f, number);
+    assert_eq!(joined(START, rule).f, number);
     // l(O) = −7, v = −2: m = −4. l(O) = −1, v = 0: m = −1.
     assert_eq!(third(-7 - 4), -4);
     assert_eq!(third(-1), -1);
+}
+
+/// m + w over 2 less m over 2 is w·(2m + w − 1)/2. For every w that has such an m, the m at which this
+/// is the cap: both binomials are above it, and the difference is not cut. One more is, one less is
+/// not.
+#[test]
+fn differences_at_the_cap() {
+    let mut met = 0;
+    for w in 1..100_000_u64 {
+        let twice = 2 * CAP as u64;
+        let sum = twice / w + 1;
+        if !twice.is_multiple_of(w) || sum < w || !(sum - w).is_multiple_of(2) {
+            continue;
+        }
+        let m = (sum - w) / 2;
+        if m == 0 || m + 1 + w > CAP as u64 {
+            continue;
+        }
+        assert_eq!(binomial(m + w, 2), Count::CUT);
+        let (w, m) = (w as u32, m as u32);
+        assert_eq!(difference(m, w, 2), Count::CAP, "{m} and {w}");
+        assert_eq!(difference(m + 1, w, 2), Count::CUT, "{m} and {w}");
+        let below = Count::uncut(u32::MAX - w);
+        assert_eq!(difference(m - 1, w, 2), below, "{m} and {w}");
+        met += 1;
+    }
+    assert!(met > 20, "{met}");
+    // Over 1 it is w.
+    for w in [u32::MAX - 1, u32::MAX] {
+        assert_eq!(difference(0, w, 1), Count::uncut(w));
+    }
 }
 
 #[test]
@@ -181,40 +226,42 @@ fn some_choice(random: &mut Random, m: i64) -> i64 {
 #[test]
 fn random_binomials_and_differences() {
     let mut random = Random::new(1);
-    let (mut zero, mut exact, mut cut) = (0, 0, 0);
+    let (mut zero, mut exact, mut cut, mut from_cut) = (0, 0, 0, 0);
     for _ in 0..200_000 {
         let m = some_size(&mut random);
         let w = (1 + some_size(&mut random)).min(1_000_000);
         let k = some_choice(&mut random, m + w);
         assert_eq!(
             binomial(m as u64, k as u64),
-            choices(m, Some(k)).capped(),
+            choices(m, Some(k)).given(),
             "{m} over {k}"
         );
         let m = m.min(LARGEST - w).max(0);
         let got = difference(m as u32, w as u32, k as u64);
         assert_eq!(
             got,
-            choices_with(m, w, Some(k)).capped(),
+            choices_with(m, w, Some(k)).given(),
             "{m} and {w} over {k}"
         );
+        let both_cut = choices(m, Some(k)).given().cut && got != Count::ZERO;
         match got {
-            0 => zero += 1,
-            u32::MAX => cut += 1,
+            Count::ZERO => zero += 1,
+            Count { cut: true, .. } => cut += 1,
+            _ if both_cut => from_cut += 1,
             _ => exact += 1,
         }
     }
     assert!(
-        zero > 1_000 && exact > 1_000 && cut > 1_000,
-        "{zero} {exact} {cut}"
+        zero.min(exact).min(cut) > 1_000 && from_cut > 100,
+        "{zero} {exact} {cut} {from_cut}"
     );
 }
 
-fn capped(parts: counts::Parts) -> Three {
+fn given_parts(parts: counts::Parts) -> Three {
     Three {
-        e: parts.e.capped(),
-        f: parts.f.capped(),
-        g: parts.g.capped(),
+        e: parts.e.given(),
+        f: parts.f.given(),
+        g: parts.g.given(),
     }
 }
 
@@ -260,7 +307,7 @@ fn shares_of_random_rules() {
     let mut random = Random::new(2);
     for _ in 0..100_000 {
         let (wanted, got) = some_rule(&mut random, some_size);
-        assert_eq!(got, capped(wanted));
+        assert_eq!(got, given_parts(wanted));
     }
 }
 
@@ -279,26 +326,145 @@ fn clauses_of_random_rules() {
             .collect();
         let parts: Vec<_> = rules.iter().map(|(wanted, _)| *wanted).collect();
         let wanted = counts::clause_counts(&parts);
+        let left = parts
+            .iter()
+            .fold(Number::ONE, |left, rule| left.times(rule.g));
         let got = rules
             .iter()
             .fold(START, |clause, (_, rule)| joined(clause, *rule));
-        assert_eq!(got.e, wanted.break_count.capped());
-        assert_eq!(got.f, wanted.make_count.capped());
-        nonzero += (got.e > 0) as u32;
-        uncut += (got.e > 0 && got.e < u32::MAX) as u32;
+        assert_eq!(got.e, wanted.break_count.given());
+        assert_eq!(got.f, wanted.make_count.given());
+        assert_eq!(got.g, left.given());
+        nonzero += (got.e != Count::ZERO) as u32;
+        uncut += (got.e != Count::ZERO && !got.e.cut) as u32;
     }
     assert!(nonzero > 1_000 && uncut > 1_000, "{nonzero} {uncut}");
 }
 
-/// Π(e+g) − Πg of numbers past the cap: subtracting capped products would give 0.
+/// Π(e+g) − Πg of numbers past the cap: subtracting cut products would give 0.
 #[test]
-fn no_capped_products_are_subtracted() {
+fn no_cut_products_are_subtracted() {
     let (e, g) = (3_u32, 100_000_u32);
-    let rule = Three { e, f: 0, g };
+    let rule = Three {
+        e: Count::uncut(e),
+        f: Count::ZERO,
+        g: Count::uncut(g),
+    };
     let exact = Big::from((e + g) as u128)
         .mul(&Big::from((e + g) as u128))
         .sub(&Big::from(g as u128).mul(&Big::from(g as u128)));
     let got = joined(joined(START, rule), rule);
-    assert_eq!(Some(got.e as u128), exact.to_u128());
-    assert_eq!(got.g, u32::MAX);
+    assert_eq!(got.e, given(&exact));
+    assert_eq!((got.e.cut, got.f, got.g), (false, Count::ZERO, Count::CUT));
+}
+
+/// A count from both sides of the cap, and around the roots of it.
+fn some_count(random: &mut Random) -> Count {
+    match random.below(8) {
+        0 => Count::CUT,
+        1 => Count::uncut(u32::MAX - random.below(2) as u32),
+        2 | 3 => Count::uncut(random.below(3) as u32),
+        4 => Count::uncut(65_535 + random.below(3) as u32),
+        _ => Count::uncut(random.number() >> random.below(32)),
+    }
+}
+
+fn some_three(random: &mut Random) -> Three {
+    Three {
+        e: some_count(random),
+        f: some_count(random),
+        g: some_count(random),
+    }
+}
+
+/// What a count is known to be.
+fn known(count: Count) -> Number {
+    match count.cut {
+        true => Number::AboveCap,
+        false => Number::Exact(count.value as u128),
+    }
+}
+
+/// The product and the sum of two counts, as joining works them out: x·(0 + y) + 0·0 and
+/// 1·(x + y) + 0·x.
+fn product_and_sum(x: Count, y: Count) -> [Count; 2] {
+    let zero = Count::ZERO;
+    let three = |e, g| Three { e, f: zero, g };
+    let product = joined(three(x, zero), three(zero, y));
+    let sum = joined(three(Count::uncut(1), zero), three(x, y));
+    [product.e, sum.e]
+}
+
+#[test]
+fn products_and_sums_by_hand() {
+    let (zero, one, cap, cut) = (Count::ZERO, Count::uncut(1), Count::CAP, Count::CUT);
+    let number = Count::uncut;
+    for (x, y, product, sum) in [
+        (zero, cut, zero, cut),
+        (cut, zero, zero, cut),
+        (one, cut, cut, cut),
+        (cut, cut, cut, cut),
+        (zero, cap, zero, cap),
+        (cap, one, cap, cut),
+        (one, cap, cap, cut),
+        (cap, cap, cut, cut),
+        (number(65_535), number(65_537), cap, number(131_072)),
+        (number(65_536), number(65_536), cut, number(131_072)),
+        (number(u32::MAX - 1), one, number(u32::MAX - 1), cap),
+        (number(u32::MAX - 1), number(2), cut, cut),
+        (number(1 << 31), number(2), cut, number((1 << 31) + 2)),
+        (number(1 << 31), number(1 << 31), cut, cut),
+    ] {
+        assert_eq!(product_and_sum(x, y), [product, sum], "{x:?} {y:?}");
+        assert_eq!(
+            [
+                known(x).times(known(y)).given(),
+                known(x).plus(known(y)).given()
+            ],
+            [product, sum]
+        );
+    }
+}
+
+/// Joining any two: e·(e' + g') + g·e', the same of f, and g·g'. What stands in the value of a cut
+/// count does not matter, nor which mark but 0 it has.
+#[test]
+fn joining_any_counts() {
+    let mut random = Random::new(6);
+    let (mut cut, mut at_the_cap, mut zero_by_cut) = (0, 0, 0);
+    for _ in 0..200_000 {
+        let (clause, rule) = (some_three(&mut random), some_three(&mut random));
+        let [left, more] = [clause.g, rule.g].map(known);
+        let changed = |so_far, this| {
+            let (so_far, this) = (known(so_far), known(this));
+            so_far.times(this.plus(more)).plus(left.times(this)).given()
+        };
+        let wanted = Three {
+            e: changed(clause.e, rule.e),
+            f: changed(clause.f, rule.f),
+            g: left.times(more).given(),
+        };
+        let mut noisy = |count: Count| match count.cut {
+            true => Marked {
+                value: random.number(),
+                cut: [1, 2, 1 << 31, u32::MAX][random.below(4)],
+            },
+            false => count.into(),
+        };
+        let [clause_in, rule_in] = [clause, rule].map(|three| Three {
+            e: noisy(three.e),
+            f: noisy(three.f),
+            g: noisy(three.g),
+        });
+        assert_eq!(
+            joined_marked(clause_in, rule_in),
+            wanted,
+            "{clause:?} {rule:?}"
+        );
+        cut += wanted.e.cut as u32;
+        at_the_cap += (wanted.e == Count::CAP || wanted.g == Count::CAP) as u32;
+        zero_by_cut += (wanted.g == Count::ZERO && (clause.g.cut || rule.g.cut)) as u32;
+    }
+    let least = cut.min(at_the_cap).min(zero_by_cut);
+    assert!(least > 1_000, "{cut} {at_the_cap} {zero_by_cut}");
 }

@@ -68,8 +68,16 @@ fn sizes_offsets_and_numbers() {
             offset_of!(Counted, break_count),
         ),
         (
+            "offsetof(planner_counted, break_cut)",
+            offset_of!(Counted, break_cut),
+        ),
+        (
             "offsetof(planner_counted, make_count)",
             offset_of!(Counted, make_count),
+        ),
+        (
+            "offsetof(planner_counted, make_cut)",
+            offset_of!(Counted, make_cut),
         ),
         ("sizeof(planner_searched)", size_of::<Searched>()),
         (

@@ -2,15 +2,42 @@
 
 use harness::guarded::Guarded;
 use harness::layout::{self, ASSIGNMENT, TABLES, TALLIES, TERM_TABLE};
-use harness::replay::{answer_bytes, call_bytes, replay};
+use harness::replay::{answer_bytes, call_bytes, replay, ANSWER};
 use reference::book::{Answer, Book, Call};
+use reference::counts::Count;
 use reference::plan::Plan;
 use reference::random::{self, Random};
 use reference::tallies::Tallies;
 
-/// Replays a list on noisy buffers and compares every byte with the book. It gives how many calls
-/// were flips of locked variables.
-fn check(random: &mut Random, plan: &Plan, list: &[u8], room: usize) -> usize {
+/// What came up in lists of calls.
+#[derive(Default, Debug)]
+struct Met {
+    /// Flips of locked variables.
+    locked: u32,
+    /// Counts that are cut, and that are the cap itself.
+    cut: u32,
+    at_the_cap: u32,
+}
+
+impl Met {
+    fn count(&mut self, answer: Answer) {
+        match answer {
+            Answer::Refused(26) => self.locked += 1,
+            Answer::Counts {
+                break_count,
+                make_count,
+            } => {
+                let both = [break_count, make_count];
+                self.cut += both.contains(&Count::CUT) as u32;
+                self.at_the_cap += both.contains(&Count::CAP) as u32;
+            }
+            _ => {}
+        }
+    }
+}
+
+/// Replays a list on noisy buffers and compares every byte with the book.
+fn check(random: &mut Random, plan: &Plan, list: &[u8], room: usize, met: &mut Met) {
     let bits = random.assignment(plan.variables);
     let (tables, terms) = layout::tables(plan);
     let mut start = layout::bits(&bits);
@@ -21,7 +48,6 @@ fn check(random: &mut Random, plan: &Plan, list: &[u8], room: usize) -> usize {
     let mut assignment = Guarded::holding(&start, 1);
     let mut tallies = Guarded::holding(&noise[..TALLIES + 7], 2);
     let mut out = Guarded::holding(&noise[..room], 3);
-    let mut locked = 0;
     let (mut a, mut t, mut o) = (assignment.clone(), tallies.clone(), out.clone());
     let refusal = replay(
         &tables,
@@ -31,7 +57,7 @@ fn check(random: &mut Random, plan: &Plan, list: &[u8], room: usize) -> usize {
         list,
         out.lend(),
     );
-    if room / 12 < list.len() / 5 {
+    if room / ANSWER < list.len() / 5 {
         assert_eq!(refusal, 21);
     } else {
         assert_eq!(refusal, 0);
@@ -44,8 +70,8 @@ fn check(random: &mut Random, plan: &Plan, list: &[u8], room: usize) -> usize {
                 Call::Counts(variable)
             };
             let answer = book.call(call);
-            locked += (answer == Answer::Refused(26)) as usize;
-            o.lend()[12 * i..12 * i + 12].copy_from_slice(&answer_bytes(answer));
+            met.count(answer);
+            o.lend()[ANSWER * i..ANSWER * (i + 1)].copy_from_slice(&answer_bytes(answer));
         }
         a.lend()[..plan.variables].copy_from_slice(&layout::bits(book.bits()));
         t.lend()[..TALLIES].copy_from_slice(&layout::tallies(&Tallies::fresh(plan, book.bits())));
@@ -55,7 +81,6 @@ fn check(random: &mut Random, plan: &Plan, list: &[u8], room: usize) -> usize {
         "{} bytes of calls left other bytes",
         list.len()
     );
-    locked
 }
 
 fn list(random: &mut Random, plan: &Plan, length: usize) -> Vec<u8> {
@@ -67,20 +92,22 @@ fn list(random: &mut Random, plan: &Plan, length: usize) -> Vec<u8> {
 #[test]
 fn long_lists() {
     let mut random = Random::new(31);
-    let mut locked = 0;
+    let mut met = Met::default();
     for round in 0..120 {
-        let plan = match round % 4 {
+        let plan = match round % 5 {
             0 => random::locked_full_plan(&mut random, [0, 100, 512][round % 3]),
             1 => random::heavy_plan(&mut random),
             2 => random::race_plan(&mut random),
+            3 => random::cap_plan(&mut random),
             _ => random::small_plan(&mut random),
         };
         let length = [0, 1, 7, 300][random.below(4)];
         let calls = list(&mut random, &plan, length);
-        let room = 12 * length + random.below(30);
-        locked += check(&mut random, &plan, &calls, room);
+        let room = ANSWER * length + random.below(30);
+        check(&mut random, &plan, &calls, room, &mut met);
     }
-    assert!(locked > 500, "{locked}");
+    let least = met.locked.min(met.cut).min(met.at_the_cap);
+    assert!(least > 100 && met.locked > 500, "{met:?}");
 }
 
 #[test]
@@ -91,8 +118,8 @@ fn any_bytes_and_any_room() {
         let bytes: Vec<u8> = (0..random.below(60))
             .map(|_| random.number() as u8 % 7)
             .collect();
-        let room = random.below(12 * (bytes.len() / 5) + 13);
-        check(&mut random, &plan, &bytes, room);
+        let room = random.below(ANSWER * (bytes.len() / 5 + 1) + 1);
+        check(&mut random, &plan, &bytes, room, &mut Met::default());
     }
 }
 
@@ -111,7 +138,7 @@ fn refused_openings_change_nothing() {
             24
         };
         let mut tallies = vec![7; TALLIES];
-        let mut out = vec![9; 120];
+        let mut out = vec![9; 10 * ANSWER];
         let calls = list(&mut random, &plan, 10);
         let before = assignment.clone();
         assert_eq!(
@@ -125,7 +152,7 @@ fn refused_openings_change_nothing() {
             ),
             wanted
         );
-        assert!(assignment == before && tallies == vec![7; TALLIES] && out == vec![9; 120]);
+        assert!(assignment == before && tallies == vec![7; TALLIES] && out == vec![9; 10 * ANSWER]);
         assert_eq!(
             replay(
                 &tables[..TABLES - 1],
@@ -137,6 +164,6 @@ fn refused_openings_change_nothing() {
             ),
             21
         );
-        assert!(assignment == before && tallies == vec![7; TALLIES] && out == vec![9; 120]);
+        assert!(assignment == before && tallies == vec![7; TALLIES] && out == vec![9; 10 * ANSWER]);
     }
 }

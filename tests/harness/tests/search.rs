@@ -6,7 +6,7 @@ use harness::searching::{refused, Lent, ENDINGS, SIZES};
 use reference::file::{parse, parse_settings, write_numbers};
 use reference::plan::Plan;
 use reference::random::{self, Random};
-use reference::walk::{Picks, Settings, LBS, LINEAR};
+use reference::walk::{Leasts, Picks, Settings, LBS, LINEAR};
 use reference::worked::walks;
 
 /// Searches on noisy buffers and compares all with the reference.
@@ -183,11 +183,11 @@ fn random_small_plans() {
     came_up(&picks, 100);
 }
 
-/// Counts on both sides of the cap, and ties at it.
+/// Counts on both sides of the cap, and ties above it.
 #[test]
 fn heavy_plans() {
     let mut random = Random::new(45);
-    let (mut met, mut least, mut capped, mut ties) = ([0; 6], 0, 0, 0);
+    let (mut met, mut least, mut leasts) = ([0; 6], 0, Leasts::default());
     for _ in 0..1_000 {
         let plan = random::heavy_plan(&mut random);
         let mut settings = random::settings(&mut random);
@@ -198,14 +198,36 @@ fn heavy_plans() {
         let (answer, seen) = Lent::new(&mut random, &plan, &numbers).check_seen(&settings);
         met[answer.ending as usize] += 1;
         least += seen.least;
-        capped += seen.capped;
-        ties += seen.ties_at_the_cap;
+        leasts += seen.leasts;
     }
     assert!(met[1..].iter().all(|&count| count > 20), "{met:?}");
+    let (alone, ties) = (leasts.cut_alone, leasts.cut_ties);
     assert!(
-        ties > 100 && least - capped > 100,
-        "{least} {capped} {ties}"
+        ties > 100 && least - alone - ties > 100,
+        "{least} {leasts:?}"
     );
+}
+
+/// Least counts at the cap and beside it: of two that are given out as 4,294,967,295, one cut and one
+/// not, the latter is less; two that are cut tie.
+#[test]
+fn plans_around_the_cap() {
+    let mut random = Random::new(53);
+    let (mut met, mut leasts) = ([0; 6], Leasts::default());
+    for _ in 0..2_000 {
+        let plan = random::cap_plan(&mut random);
+        let mut settings = random::settings(&mut random);
+        if random.percent(50) {
+            settings.noise = 1_000;
+        }
+        let numbers = list(&mut random, 60);
+        let (answer, seen) = Lent::new(&mut random, &plan, &numbers).check_seen(&settings);
+        met[answer.ending as usize] += 1;
+        leasts += seen.leasts;
+    }
+    assert!(met[1..].iter().all(|&count| count > 20), "{met:?}");
+    let named = leasts.named();
+    assert!(named.iter().all(|&(_, count)| count > 100), "{named:?}");
 }
 
 #[test]

@@ -1,5 +1,6 @@
 //! Short ways to write plans, assignments and settings.
 
+use crate::file::MOST_WEIGHT;
 use crate::plan::{Clause, Lock, Plan, Rule, Term};
 use crate::walk::Settings;
 
@@ -61,6 +62,21 @@ pub fn locking(mut plan: Plan, locks: &[(usize, u8)]) -> Plan {
 /// An assignment from digits, variable 1 first.
 pub fn bits(digits: &str) -> Vec<bool> {
     digits.chars().map(|digit| digit == '1').collect()
+}
+
+/// A plan and an assignment at which variable 1 would spoil m + w over 2 less m over 2 clauses: the
+/// rule is w·x1 + Σ ≤ 1, and the weights of the sum, where all are 1, come to m. m is above 0.
+pub fn difference_over_2(m: i64, w: i64) -> (Plan, Vec<bool>) {
+    let mut list = vec![(1, w)];
+    let mut left = m;
+    while left > 0 {
+        let weight = left.min(MOST_WEIGHT);
+        list.push((list.len() + 1, weight));
+        left -= weight;
+    }
+    let mut assignment = vec![true; list.len()];
+    assignment[0] = false;
+    (plan(list.len(), &[], &[&[at_most(1, &list)]]), assignment)
 }
 
 pub fn settings(noise: u32, tries: u32, flips: u32, mode: u32) -> Settings {

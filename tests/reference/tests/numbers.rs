@@ -244,6 +244,24 @@ fn products_above_the_cap_are_not_subtracted() {
     assert_eq!(at.make_count, Number::ZERO);
 }
 
+/// The mark of a difference is that of its own number: both binomials are far above the cap.
+#[test]
+fn differences_at_the_cap() {
+    for (m, w) in [(252_645_127, 17), (286_331_146, 15), (84_215_020, 51)] {
+        assert_eq!(choices(m, Some(2)).given(), Count::CUT);
+        for (m, given) in [
+            (m - 1, Count::uncut(4_294_967_295 - w as u32)),
+            (m, Count::CAP),
+            (m + 1, Count::CUT),
+        ] {
+            let (plan, at) = difference_over_2(m, w);
+            let spoiled = counts(&plan, &at, 1);
+            assert_eq!(spoiled.break_count.given(), given, "{m} and {w}");
+            assert_eq!(spoiled.make_count, Number::ZERO);
+        }
+    }
+}
+
 /// How many counts were below the cap and not 0, how many the cap itself, how many above it.
 #[derive(Default, Debug)]
 struct Met {
