@@ -35,7 +35,7 @@ typedef struct {
     size_t offset;
 } plain_loaded;
 typedef struct {
-    uint32_t refusal, breaks, makes;
+    uint32_t refusal, breaks, break_cut, makes, make_cut;
 } plain_counted;
 typedef struct {
     uint32_t refusal, ending;

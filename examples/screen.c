@@ -233,7 +233,14 @@ static int search(planner_settings settings, size_t length) {
     return 0;
 }
 
-static const char *or_more(uint32_t count) { return count == UINT32_MAX ? " or more" : ""; }
+/* A count that is cut stands for every number above the largest that can be given out. */
+static void show_count(const char *what, uint32_t count, uint32_t cut) {
+    if (cut) {
+        printf("%s more than 4,294,967,295", what);
+    } else {
+        printf("%s %u", what, (unsigned)count);
+    }
+}
 
 /* What a flip would do: it is made on a copy. That of a locked site is refused, as it is in earnest. */
 static void show_flip(uint32_t variable) {
@@ -252,8 +259,9 @@ static void show_flip(uint32_t variable) {
     printf("%s is %s. %s it: ", names[variable - 1], chosen ? "chosen" : "not chosen", chosen ? "Without" : "With");
     show_standing(&trial);
     show_changes(&state, &trial);
-    printf("Of the plan's full expansion this would spoil %u%s and mend %u%s.\n", (unsigned)counted.break_count,
-           or_more(counted.break_count), (unsigned)counted.make_count, or_more(counted.make_count));
+    show_count("Of the plan's full expansion this would spoil", counted.break_count, counted.break_cut);
+    show_count(" and mend", counted.make_count, counted.make_cut);
+    printf(".\n");
 }
 
 static void flip(uint32_t variable) {

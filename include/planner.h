@@ -159,10 +159,13 @@ typedef struct {
     uint32_t refusal;
 } planner_flipped;
 
+/* A count that is cut is greater than any that is not, whatever the two numbers; two that are cut count as equal. */
 typedef struct {
     uint32_t refusal;
-    uint32_t break_count; /* 4,294,967,295 stands for that number and for every greater one */
+    uint32_t break_count; /* the true number, or 4,294,967,295 if that is greater */
+    uint32_t break_cut;   /* 1 where the true number is greater than 4,294,967,295, else 0 */
     uint32_t make_count;
+    uint32_t make_cut;
 } planner_counted;
 
 /* How a search ended. */
@@ -223,8 +226,9 @@ uint32_t planner_flip(const uint8_t *tables, size_t tables_length, const uint8_t
                       uint32_t variable);
 
 /* The break count and the make count of a variable: how many clauses of the plan's full propositional expansion its
- * flip would spoil and mend, or 4,294,967,295 if there are more. Writes nothing.
- * As for planner_flip, but for PLANNER_LOCKED: a locked variable is counted as any other. The counts are 0 with a
+ * flip would spoil and mend. A number greater than 4,294,967,295 is given out as that one, with the mark that it is
+ * cut; without the mark a count is exact, 4,294,967,295 too. Writes nothing.
+ * As for planner_flip, but for PLANNER_LOCKED: a locked variable is counted as any other. Counts and marks are 0 with a
  * refusal. */
 planner_counted planner_counts(const uint8_t *tables, size_t tables_length, const uint8_t *terms, size_t terms_length,
                                const uint8_t *assignment, size_t assignment_length, const uint8_t *tallies,
@@ -232,11 +236,12 @@ planner_counted planner_counts(const uint8_t *tables, size_t tables_length, cons
 
 /* Searches for an assignment that meets every clause, then for cheaper ones, by the walk of Liu and Truszczynski with
  * the SKC choice. A locked variable has its value from each try's start on and is not chosen; a try that picks a clause
- * without an unlocked variable ends there. noise is how many of 1,000 choices take the least break count where every one
- * spoils something; the others take any. Each call of the walk has so many tries of so many flips. numbers is a list of
- * any length, each number of 4 bytes, little-endian: the same plan, settings and list give the same answer. A pick among
- * m discards each number at or above the largest multiple of m up to 4,294,967,296 and takes the next, so that no place
- * is favoured; the noise number is such a pick among 1,000. A last number of fewer than 4 bytes is not read.
+ * without an unlocked variable ends there. noise is how many of 1,000 choices take the least break count, cut ones
+ * being the greatest, where every one spoils something; the others take any. Each call of the walk has so many tries of
+ * so many flips. numbers is a list of any length, each number of 4 bytes, little-endian: the same plan, settings and
+ * list give the same answer. A pick among m discards each number at or above the largest multiple of m up to
+ * 4,294,967,296 and takes the next, so that no place is favoured; the noise number is such a pick among 1,000. A last
+ * number of fewer than 4 bytes is not read.
  * PLANNER_BUFFER_TOO_SMALL (a buffer other than numbers), PLANNER_NOT_LOADED, PLANNER_WRONG_NOISE, PLANNER_WRONG_TRIES,
  * PLANNER_WRONG_FLIPS, PLANNER_WRONG_MODE; with a refusal every other field of the answer is 0.
  * Accepted: the answer is that of the walk. With a find (finds is not 0: ending 1, 2 or 4) the first n bytes of
@@ -396,7 +401,8 @@ static inline int planner_state_meets(const planner_state *state, uint32_t claus
 
 PLANNER_GUARD(sizeof(void *) == 8 && sizeof(size_t) == 8);
 PLANNER_GUARD(sizeof(planner_loaded) == 16 && offsetof(planner_loaded, offset) == 8);
-PLANNER_GUARD(sizeof(planner_counted) == 12 && offsetof(planner_counted, make_count) == 8);
+PLANNER_GUARD(sizeof(planner_counted) == 20 && offsetof(planner_counted, break_cut) == 8);
+PLANNER_GUARD(offsetof(planner_counted, make_count) == 12 && offsetof(planner_counted, make_cut) == 16);
 PLANNER_GUARD(sizeof(planner_searched) == 40 && offsetof(planner_searched, cost) == 8);
 PLANNER_GUARD(offsetof(planner_searched, finds) == 16 && offsetof(planner_searched, used) == 32);
 PLANNER_GUARD(sizeof(planner_plan) == PLANNER_TABLES_SIZE + PLANNER_TERMS_SIZE);

@@ -3,6 +3,7 @@
 
 use crate::report::plain;
 use reference::book::{Answer, Book, Call};
+use reference::counts::Count;
 use reference::file::{parse, parse_numbers, parse_settings, Refusal};
 use reference::plan::Plan;
 use reference::program::{contents, MOST_BYTES};
@@ -277,9 +278,9 @@ impl Screen<'_> {
         let name = self.name(variable);
         self.say_with("", &name, &format!(" is {stands}. {with} it: {standing}"));
         self.changes(&before, &after);
-        let count = |count: u32| match count {
-            u32::MAX => format!("{count} or more"),
-            _ => count.to_string(),
+        let count = |count: Count| match count.cut {
+            true => "more than 4,294,967,295".to_string(),
+            false => count.value.to_string(),
         };
         self.say(&format!(
             "Of the plan's full expansion this would spoil {} and mend {}.\n",

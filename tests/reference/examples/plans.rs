@@ -4,7 +4,7 @@
 
 use reference::file::{write, write_numbers};
 use reference::plan::{Clause, Lock, Plan, Rule, Term};
-use reference::random::{full_plan, Random};
+use reference::random::{cap_plan, full_plan, Random};
 
 /// A rule over some variables, with weights up to `most`.
 fn rule(random: &mut Random, n: usize, count: usize, most: i64) -> Rule {
@@ -98,6 +98,32 @@ fn wide(random: &mut Random) -> Plan {
     }
 }
 
+/// Plans side by side, each with variables of its own.
+fn beside(plans: &[Plan]) -> Plan {
+    let mut all = Plan {
+        variables: 0,
+        objective: Vec::new(),
+        locks: Vec::new(),
+        clauses: Vec::new(),
+    };
+    for plan in plans {
+        let mut plan = plan.clone();
+        let rules = plan.clauses.iter_mut().flat_map(|clause| &mut clause.rules);
+        let terms = rules.flat_map(|rule| &mut rule.terms);
+        for term in terms.chain(&mut plan.objective) {
+            term.variable += all.variables;
+        }
+        for lock in &mut plan.locks {
+            lock.variable += all.variables;
+        }
+        all.variables += plan.variables;
+        all.objective.extend(plan.objective);
+        all.locks.extend(plan.locks);
+        all.clauses.extend(plan.clauses);
+    }
+    all
+}
+
 fn main() -> std::io::Result<()> {
     let folder = std::env::args().nth(1).expect("usage: plans FOLDER");
     let mut random = Random::new(2026);
@@ -120,9 +146,14 @@ fn main() -> std::io::Result<()> {
         plan.locks = (1..=plan.variables).step_by(every).map(lock).collect();
         plan
     };
-    let plans = plans
-        .into_iter()
-        .chain([("locked", locked(4)), ("stuck", locked(1))]);
+    // Choices among break counts that are the cap itself, or cut, or one below it.
+    let parts: Vec<Plan> = (0..40).map(|_| cap_plan(&mut random)).collect();
+    let more = [
+        ("locked", locked(4)),
+        ("stuck", locked(1)),
+        ("cap", beside(&parts)),
+    ];
+    let plans = plans.into_iter().chain(more);
     for (name, plan) in plans {
         std::fs::write(format!("{folder}/{name}.plan"), write(&plan))?;
     }
