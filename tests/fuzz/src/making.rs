@@ -12,8 +12,8 @@ pub fn plan(random: &mut Random) -> Plan {
         }
         1..=7 => random::race_plan(random),
         8..=13 => random::heavy_plan(random),
-        14..=19 => random::cap_plan(random),
-        20..=39 => random::small_plan(random),
+        14..=25 => random::cap_plan(random),
+        26..=42 => random::small_plan(random),
         _ => random::small_met_plan(random),
     }
 }

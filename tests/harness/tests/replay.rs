@@ -93,7 +93,7 @@ fn list(random: &mut Random, plan: &Plan, length: usize) -> Vec<u8> {
 fn long_lists() {
     let mut random = Random::new(31);
     let mut met = Met::default();
-    for round in 0..120 {
+    for round in 0..300 {
         let plan = match round % 5 {
             0 => random::locked_full_plan(&mut random, [0, 100, 512][round % 3]),
             1 => random::heavy_plan(&mut random),

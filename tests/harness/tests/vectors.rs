@@ -131,7 +131,7 @@ fn counts_of_a_separately_written_program() {
         count += 1;
     }
     assert!(
-        count >= 140 && cut >= 15 && uncut >= 50,
+        count >= 140 && cut >= 10 && uncut >= 50,
         "{count} {cut} {uncut}"
     );
 }

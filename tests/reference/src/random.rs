@@ -372,7 +372,8 @@ pub fn cap_plan(random: &mut Random) -> Plan {
         let number = match random.below(8) {
             0..=6 if all_cut => CAP as i64 + random.between(1, 1_000_000_000),
             0..=2 => CAP as i64,
-            3..=6 => CAP as i64 + random.between(-1, 1),
+            3..=4 => CAP as i64 + 1,
+            5..=6 => CAP as i64 - 1,
             _ => random.between(1, 1_000_000),
         };
         let home = (variable, homes[variable - 1]);
