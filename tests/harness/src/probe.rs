@@ -79,20 +79,7 @@ mod raw {
             upper: bool,
             b: u64,
         ) -> Three<Marked>;
-        pub fn probe_joined(
-            clause_e: u32,
-            clause_e_cut: u32,
-            clause_f: u32,
-            clause_f_cut: u32,
-            clause_g: u32,
-            clause_g_cut: u32,
-            rule_e: u32,
-            rule_e_cut: u32,
-            rule_f: u32,
-            rule_f_cut: u32,
-            rule_g: u32,
-            rule_g_cut: u32,
-        ) -> Three<Marked>;
+        pub fn probe_joined(clause: Three<Marked>, rule: Three<Marked>) -> Three<Marked>;
         pub fn probe_third(a: i64) -> i64;
     }
 }
@@ -147,22 +134,7 @@ pub fn joined(clause: Three, rule: Three) -> Three {
 
 /// The same of counts with any marks.
 pub fn joined_marked(clause: Three<Marked>, rule: Three<Marked>) -> Three {
-    let joined = unsafe {
-        raw::probe_joined(
-            clause.e.value,
-            clause.e.cut,
-            clause.f.value,
-            clause.f.cut,
-            clause.g.value,
-            clause.g.cut,
-            rule.e.value,
-            rule.e.cut,
-            rule.f.value,
-            rule.f.cut,
-            rule.g.value,
-            rule.g.cut,
-        )
-    };
+    let joined = unsafe { raw::probe_joined(clause, rule) };
     joined.map(Count::from)
 }
 
