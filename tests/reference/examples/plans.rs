@@ -3,8 +3,9 @@
 //! cargo run --release -p reference --example plans -- FOLDER
 
 use reference::file::{write, write_numbers};
+use reference::making::{at_least, at_most, plan};
 use reference::plan::{Clause, Lock, Plan, Rule, Term};
-use reference::random::{cap_plan, full_plan, Random};
+use reference::random::{full_plan, Random};
 
 /// A rule over some variables, with weights up to `most`.
 fn rule(random: &mut Random, n: usize, count: usize, most: i64) -> Rule {
@@ -98,30 +99,28 @@ fn wide(random: &mut Random) -> Plan {
     }
 }
 
-/// Plans side by side, each with variables of its own.
-fn beside(plans: &[Plan]) -> Plan {
-    let mut all = Plan {
-        variables: 0,
-        objective: Vec::new(),
-        locks: Vec::new(),
-        clauses: Vec::new(),
+/// Groups of three variables: one of the first two must be 1, and each of these would spoil as many
+/// clauses as the product of its two weights unless the third is 1. 65,535·65,537 is the cap itself,
+/// 65,536² is one more and cut, so that the least break count is told by its mark.
+fn cap(groups: usize) -> Plan {
+    let spoils = |variable, [v, w]: [i64; 2], door| {
+        let low = |weight| at_most(0, &[(variable, weight)]);
+        vec![low(v), low(w), at_least(1, &[(door, 1)])]
     };
-    for plan in plans {
-        let mut plan = plan.clone();
-        let rules = plan.clauses.iter_mut().flat_map(|clause| &mut clause.rules);
-        let terms = rules.flat_map(|rule| &mut rule.terms);
-        for term in terms.chain(&mut plan.objective) {
-            term.variable += all.variables;
-        }
-        for lock in &mut plan.locks {
-            lock.variable += all.variables;
-        }
-        all.variables += plan.variables;
-        all.objective.extend(plan.objective);
-        all.locks.extend(plan.locks);
-        all.clauses.extend(plan.clauses);
-    }
-    all
+    let (at_cap, above) = ([65_535, 65_537], [65_536, 65_536]);
+    let clauses: Vec<Vec<Rule>> = (0..groups)
+        .flat_map(|group| {
+            let [x, y, door] = [1, 2, 3].map(|place| 3 * group + place);
+            let [first, second] = [[at_cap, above], [above, at_cap]][group % 2];
+            [
+                vec![at_least(1, &[(x, 1), (y, 1)])],
+                spoils(x, first, door),
+                spoils(y, second, door),
+            ]
+        })
+        .collect();
+    let clauses: Vec<&[Rule]> = clauses.iter().map(Vec::as_slice).collect();
+    plan(3 * groups, &[], &clauses)
 }
 
 fn main() -> std::io::Result<()> {
@@ -146,12 +145,10 @@ fn main() -> std::io::Result<()> {
         plan.locks = (1..=plan.variables).step_by(every).map(lock).collect();
         plan
     };
-    // Choices among break counts that are the cap itself, or cut, or one below it.
-    let parts: Vec<Plan> = (0..40).map(|_| cap_plan(&mut random)).collect();
     let more = [
         ("locked", locked(4)),
         ("stuck", locked(1)),
-        ("cap", beside(&parts)),
+        ("cap", cap(32)),
     ];
     let plans = plans.into_iter().chain(more);
     for (name, plan) in plans {
