@@ -74,7 +74,10 @@ pub fn binomial(m: u64, k: u64) -> Count
         return Count::ZERO;
     }
     if m < ROWS {
-        return tabled(m, k);
+        return Count {
+            value: tabled(m, k),
+            cut: false,
+        };
     }
     by_factors(m, k).count
 }
@@ -93,7 +96,10 @@ pub fn reported(m: u64, k: u64) -> Report
     }
     if m < ROWS {
         return Report {
-            count: tabled(m, k),
+            count: Count {
+                value: tabled(m, k),
+                cut: false,
+            },
             factors: 0,
         };
     }

@@ -3,23 +3,18 @@ ghost use mathlib.Core.Path.{_≡_};
 ghost use Prim.Native.Nat.{_≤_, _<_};
 ghost use Rattle.plpb.specs.Equations.{binom};
 ghost use Rattle.plpb.specs.Factors.{triangleRows};
-ghost use Rattle.counting.specs.Count.{number};
 ghost use Rattle.counting.specs.Pascal.{tens, tenAt};
-use crate::count::Count;
 
 pub const ROWS: u64 = 35;
 
 // m over k. Row by row it stands at m(m + 1)/2 + k.
-pub fn tabled(m: u64, k: u64) -> Count
+pub fn tabled(m: u64, k: u64) -> u32
     requires { ⌜ (m < triangleRows) × (k ≤ m) ⌝ }
-    ensures { λ r. ⌜ number r ≡ binom m k ⌝ }
+    ensures { λ r. ⌜ r ≡ binom m k ⌝ }
 {
     let place = m * (m + 1) / 2 + k;
     let ten = tens_from_0(place / 10);
-    Count {
-        value: ten[(place % 10) as usize],
-        cut: false,
-    }
+    ten[(place % 10) as usize]
 }
 
 // The entries from 10p on. The 630 are constants of ten each, for the compiler lays a constant array on the stack where it is read; and which it is
