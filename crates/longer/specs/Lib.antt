@@ -1,0 +1,3 @@
+-- What is claimed of two searches whose lists of numbers differ in length.
+pub mod Answers
+pub mod Longer
