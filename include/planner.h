@@ -32,7 +32,8 @@
  * Time: load, open, flip and counts take microseconds. A search works through the list of numbers: a flip takes at
  * least two of them. With 16,384 numbers it takes from a tenth of a second to some seconds on a server's core, more
  * on a slow one. It cannot be stopped or asked how far it is. To show something early, search with the first part of
- * the list, then with a longer one: the search with a part that runs short finds the first finds of the longer one.
+ * the list, then with a longer one: a search that did not run short answers the same with a longer list, and one that ran
+ * short with a find ends with a cost no higher.
  */
 #ifndef PLANNER_H
 #define PLANNER_H
