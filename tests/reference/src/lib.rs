@@ -8,11 +8,13 @@
 pub mod big;
 pub mod book;
 pub mod counts;
+pub mod csv;
 pub mod exact;
 pub mod expansion;
 pub mod file;
 pub mod literals;
 pub mod making;
+pub mod mapper;
 pub mod plan;
 pub mod program;
 pub mod random;
