@@ -1,6 +1,6 @@
 // From the mapper's two lists to a plan file.
-use lists::is_yes;
-use lists::judge;
+use entries::is_yes;
+use entries::judge;
 use rows::row::read_row;
 use rows::value::Value;
 use rows::value::empty;

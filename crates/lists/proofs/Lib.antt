@@ -1,0 +1,2 @@
+-- What holds of the plan that two lists mean.
+pub mod Solutions

@@ -1,0 +1,4 @@
+-- The mapper's two lists, in reading order.
+pub mod Lists
+pub mod Choices
+pub mod Refusals
