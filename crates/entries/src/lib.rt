@@ -1,18 +1,43 @@
 // The mapper's two lists judged: "Turned away, with list and row from 1".
+ghost use mathlib.Core.Path.{_≡_};
+ghost use mathlib.Core.Bool.{true, false, not};
+ghost use lib.Dec.{eqb};
+ghost use Rattle.plpb.specs.Lists.{_and_, _or_};
+ghost use mathlib.Core.List.{List};
+ghost use Prim.Native.Nat.{ℕ};
+ghost use lib.ListN.{length};
+ghost use Rattle.rows.specs.Values.{gather, sameValue};
+ghost use Rattle.rows.specs.Reading.{Holds};
+ghost use Rattle.lists.specs.Refusals.{Entry, isName, isNumber, siteFormed, zoneFormed, siteFault, zoneFault, rowFault, judged, refusalOf};
+ghost use Rattle.lists.specs.Refusals.{yesBytes, noBytes, siteRows, zoneRows};
+ghost use Rattle.entries.specs.Judging.{entriesOf, OfBytes, ownFault, Well, zoneColumn, missing, Says, Tells};
 use rows::row::Row;
 use rows::row::among;
 use rows::row::column;
 use rows::row::read_row;
 use rows::value::Value;
-use rows::value::same;
 
-// "Sites: code, carry metres, zone." "Zones: zone, least, most, and `yes` or `no` for 'may stay empty'." A list's rows have three columns or
-// four; the column of the key, and of the zone in each list.
+// The columns of the key and of the zone: "Sites: code, carry metres, zone." "Zones: zone, least, most, and `yes` or `no`".
 const KEY: usize = 0;
 
-pub const SITE_ZONE: usize = 2;
+const SITE_ZONE: usize = 2;
 
-pub const ZONE_NAME: usize = 0;
+const ZONE_NAME: usize = 0;
+
+// "A code or zone has 1 to 16 bytes and a number 1 to 7 digits"
+const LONGEST_NAME: usize = 16;
+
+const LONGEST_NUMBER: usize = 7;
+
+// "Metres are 0 to 1,000,000, least and most 0 to 512."
+const MOST_METRES: u64 = 1000000;
+
+const MOST_SITES: u64 = 512;
+
+// The bytes of `yes` and `no` as numbers to the base 256.
+const YES: u64 = 7955827;
+
+const NO: u64 = 28271;
 
 // What rows come to: the number that the first row at fault meets, 0 for none, and how many rows stand before it.
 pub struct Judged {
@@ -20,7 +45,7 @@ pub struct Judged {
     pub rows: usize,
 }
 
-// A refusal's number, list and row, or no refusal, 0; then the sites and zones there are.
+// A refusal's number, list and row, all 0 without one; then how many sites and zones there are.
 pub struct Verdict {
     pub refusal: u32,
     pub list: u32,
@@ -29,94 +54,133 @@ pub struct Verdict {
     pub zones: usize,
 }
 
-fn is_name(v: Value) -> bool {
-    if v.length < 1 { false } else { v.length <= 16 }
-}
-
-fn is_number(v: Value) -> bool {
+fn is_name(v: Value) -> bool
+    ensures { λ r. ⌜ ((bytes : List ℕ) → v ≡ gather bytes → r ≡ isName bytes) ⌝ }
+{
     if v.length < 1 {
         return false;
     }
-    if 7 < v.length {
+    v.length <= LONGEST_NAME
+}
+
+fn is_number(v: Value) -> bool
+    ensures { λ r. ⌜ ((bytes : List ℕ) → v ≡ gather bytes → r ≡ isNumber bytes) ⌝ }
+{
+    if v.length < 1 {
+        return false;
+    }
+    if LONGEST_NUMBER < v.length {
         return false;
     }
     v.digits
 }
 
-pub fn is_yes(v: Value) -> bool {
-    if v.length != 3 {
+// A word of at most 8 bytes is one number.
+fn is_word(v: Value, length: usize, word: u64) -> bool
+    ensures { λ r. ⌜ r ≡ (eqb (v .length) length and eqb (v .low) word and eqb (v .high) 0) ⌝ }
+{
+    if v.length != length {
         return false;
     }
-    v.low == 7955827
-}
-
-fn is_no(v: Value) -> bool {
-    if v.length != 2 {
+    if v.low != word {
         return false;
     }
-    v.low == 28271
+    v.high == 0
 }
 
-fn site_formed(row: Row) -> bool {
+pub fn is_yes(v: Value) -> bool
+    ensures { λ r. ⌜ r ≡ sameValue v (gather yesBytes) ⌝ }
+{
+    is_word(v, 3, YES)
+}
+
+fn is_no(v: Value) -> bool
+    ensures { λ r. ⌜ r ≡ sameValue v (gather noBytes) ⌝ }
+{
+    is_word(v, 2, NO)
+}
+
+fn site_formed(row: Row) -> bool
+    ensures { λ r. ⌜ ((x : Entry) → Holds x row → r ≡ siteFormed x) ⌝ }
+{
+    let first = row.first;
+    let second = row.second;
+    let third = row.third;
     if !row.ok {
         return false;
     }
-    if !is_name(row.first) {
+    if !is_name(first) {
         return false;
     }
-    if !is_number(row.second) {
+    if !is_number(second) {
         return false;
     }
-    is_name(row.third)
+    is_name(third)
 }
 
-fn zone_formed(row: Row) -> bool {
+// The last column of a zone.
+fn is_answer(v: Value) -> bool
+    ensures { λ r. ⌜ r ≡ (sameValue v (gather yesBytes) or sameValue v (gather noBytes)) ⌝ }
+{
+    if is_yes(v) { true } else { is_no(v) }
+}
+
+fn zone_formed(row: Row) -> bool
+    ensures { λ r. ⌜ ((x : Entry) → Holds x row → OfBytes x → r ≡ zoneFormed x) ⌝ }
+{
+    let first = row.first;
+    let second = row.second;
+    let third = row.third;
+    let fourth = row.fourth;
     if !row.ok {
         return false;
     }
-    if !is_name(row.first) {
+    if !is_name(first) {
         return false;
     }
-    if !is_number(row.second) {
+    if !is_number(second) {
         return false;
     }
-    if !is_number(row.third) {
+    if !is_number(third) {
         return false;
     }
-    if is_yes(row.fourth) {
-        return true;
-    }
-    is_no(row.fourth)
+    is_answer(fourth)
 }
 
 // "51 malformed row, 52 number out of its range"
-fn site_fault(row: Row) -> u32 {
+fn site_fault(row: Row) -> u32
+    ensures { λ r. ⌜ ((x : Entry) → Holds x row → r ≡ siteFault x) ⌝ }
+{
+    let metres = row.second;
     if !site_formed(row) {
         return 51;
     }
-    let metres = row.second;
-    if 1000000 < metres.number {
+    if MOST_METRES < metres.number {
         return 52;
     }
     0
 }
 
-fn zone_fault(row: Row) -> u32 {
+fn zone_fault(row: Row) -> u32
+    ensures { λ r. ⌜ ((x : Entry) → Holds x row → OfBytes x → r ≡ zoneFault x) ⌝ }
+{
+    let least = row.second;
+    let most = row.third;
     if !zone_formed(row) {
         return 51;
     }
-    let least = row.second;
-    if 512 < least.number {
+    if MOST_SITES < least.number {
         return 52;
     }
-    let most = row.third;
-    if 512 < most.number {
+    if MOST_SITES < most.number {
         return 52;
     }
     0
 }
 
-fn row_fault(row: Row, zones: bool) -> u32 {
+fn own_fault(row: Row, zones: bool) -> u32
+    ensures { λ r. ⌜ ((x : Entry) → Holds x row → OfBytes x → r ≡ ownFault zones x) ⌝ }
+{
     if zones {
         zone_fault(row)
     } else {
@@ -125,16 +189,19 @@ fn row_fault(row: Row, zones: bool) -> u32 {
 }
 
 // "The first row at fault decides, by the lower number": 51, 52, then 53.
-pub fn judge_list(s: &[u8], zones: bool) -> Judged {
+pub fn judge_list(s: &[u8], zones: bool) -> Judged
+    ensures { λ r. ⌜ Says (judged (rowFault zones (entriesOf zones (now (s .entry)))) (entriesOf zones (now (s .entry)))) r ⌝ }
+{
     let mut at = 0;
     let mut k = 0;
     while at < s.len() {
         let row = read_row(s, at, zones);
-        let fault = row_fault(row, zones);
+        let fault = own_fault(row, zones);
         if fault != 0 {
             return Judged { fault, rows: k };
         }
-        if among(s, zones, k, KEY, row.first) {
+        let key = row.first;
+        if among(s, zones, k, KEY, key) {
             return Judged { fault: 53, rows: k };
         }
         at = row.next;
@@ -143,23 +210,25 @@ pub fn judge_list(s: &[u8], zones: bool) -> Judged {
     Judged { fault: 0, rows: k }
 }
 
-fn zone_column(zones: bool) -> usize {
+fn zone_column(zones: bool) -> usize
+    ensures { λ r. ⌜ r ≡ zoneColumn zones ⌝ }
+{
     if zones { ZONE_NAME } else { SITE_ZONE }
 }
 
 // The first row of a list whose zone no row of the other list has.
-pub fn judge_zones(s: &[u8], zones: bool, other: &[u8], rows: usize, fault: u32) -> Judged {
+fn judge_zones(s: &[u8], zones: bool, other: &[u8], rows: usize, fault: u32) -> Judged
+    requires { ⌜ Well zones (now s) × (rows ≡ length (entriesOf (not zones) (now other))) × (fault ≡ 0 → ⊥) ⌝ }
+    ensures { λ r. ⌜ Says (judged (missing fault zones (entriesOf zones (now (s .entry))) (entriesOf (not zones) (now (other .entry))))
+        (entriesOf zones (now (s .entry)))) r ⌝ }
+{
+    let own = zone_column(zones);
+    let theirs = zone_column(!zones);
     let mut at = 0;
     let mut k = 0;
     while at < s.len() {
         let row = read_row(s, at, zones);
-        if !among(
-            other,
-            !zones,
-            rows,
-            zone_column(!zones),
-            column(row, zone_column(zones)),
-        ) {
+        if !among(other, !zones, rows, theirs, column(row, own)) {
             return Judged { fault, rows: k };
         }
         at = row.next;
@@ -168,7 +237,9 @@ pub fn judge_zones(s: &[u8], zones: bool, other: &[u8], rows: usize, fault: u32)
     Judged { fault: 0, rows: k }
 }
 
-fn refused(refusal: u32, list: u32, row: usize) -> Verdict {
+fn refused(refusal: u32, list: u32, row: usize) -> Verdict
+    ensures { λ r. ⌜ r ≡ record { refusal = refusal; list = list; row = row; sites = 0; zones = 0 } ⌝ }
+{
     Verdict {
         refusal,
         list,
@@ -178,8 +249,41 @@ fn refused(refusal: u32, list: u32, row: usize) -> Verdict {
     }
 }
 
-// "sites before zones; 54 and then 55 come after both lists"; "then, with both 0, 4 when the plan would be too large or has no site".
-pub fn judge(sites: &[u8], zones: &[u8]) -> Verdict {
+// "54 and then 55 come after both lists"; "then, with both 0, 4 when the plan would be too large or has no site". Where no other row is at fault, a plan
+// is too large only by its sites.
+fn judge_both(sites: &[u8], s: usize, zones: &[u8], z: usize) -> Verdict
+    requires { ⌜ Well false (now sites) × Well true (now zones) × (s ≡ length (siteRows (now sites))) × (z ≡ length (zoneRows (now zones))) ⌝ }
+    ensures { λ r. ⌜ Tells (refusalOf (siteRows (now (sites .entry))) (zoneRows (now (zones .entry)))) (siteRows (now (sites .entry)))
+        (zoneRows (now (zones .entry))) r ⌝ }
+{
+    let unlisted = judge_zones(sites, false, zones, z, 54);
+    if unlisted.fault != 0 {
+        return refused(unlisted.fault, 1, unlisted.rows + 1);
+    }
+    let unused = judge_zones(zones, true, sites, s, 55);
+    if unused.fault != 0 {
+        return refused(unused.fault, 2, unused.rows + 1);
+    }
+    if s == 0 {
+        return refused(4, 0, 0);
+    }
+    if 512 < s {
+        return refused(4, 0, 0);
+    }
+    Verdict {
+        refusal: 0,
+        list: 0,
+        row: 0,
+        sites: s,
+        zones: z,
+    }
+}
+
+// "sites before zones"
+pub fn judge(sites: &[u8], zones: &[u8]) -> Verdict
+    ensures { λ r. ⌜ Tells (refusalOf (siteRows (now (sites .entry))) (zoneRows (now (zones .entry)))) (siteRows (now (sites .entry)))
+        (zoneRows (now (zones .entry))) r ⌝ }
+{
     let s = judge_list(sites, false);
     if s.fault != 0 {
         return refused(s.fault, 1, s.rows + 1);
@@ -188,25 +292,5 @@ pub fn judge(sites: &[u8], zones: &[u8]) -> Verdict {
     if z.fault != 0 {
         return refused(z.fault, 2, z.rows + 1);
     }
-    let unlisted = judge_zones(sites, false, zones, z.rows, 54);
-    if unlisted.fault != 0 {
-        return refused(54, 1, unlisted.rows + 1);
-    }
-    let unused = judge_zones(zones, true, sites, s.rows, 55);
-    if unused.fault != 0 {
-        return refused(55, 2, unused.rows + 1);
-    }
-    if s.rows == 0 {
-        return refused(4, 0, 0);
-    }
-    if 512 < s.rows {
-        return refused(4, 0, 0);
-    }
-    Verdict {
-        refusal: 0,
-        list: 0,
-        row: 0,
-        sites: s.rows,
-        zones: z.rows,
-    }
+    judge_both(sites, s.rows, zones, z.rows)
 }

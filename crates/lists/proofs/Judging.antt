@@ -56,6 +56,18 @@ module _ (f : ℕ → ℕ) where
       go true h = omega arith
       go false h = omega arith
 
+-- The row at fault is one of them.
+pub judged-before : (f : ℕ → ℕ) (left k : ℕ) → (judgedFrom f left k .fault ≡ 0 → ⊥) → judgedFrom f left k .rows < k + left
+unfolding judgedFrom
+judged-before f zero k n = absurd (n refl)
+judged-before f (suc left) k n = go (eqb (f k) 0) n (judged-before f left (suc k))
+  where
+    go : (t : Bool) → (cond t (judgedFrom f left (suc k)) (record { fault = f k; rows = k }) .fault ≡ 0 → ⊥)
+        → ((judgedFrom f left (suc k) .fault ≡ 0 → ⊥) → judgedFrom f left (suc k) .rows < suc k + left)
+        → cond t (judgedFrom f left (suc k)) (record { fault = f k; rows = k }) .rows < k + suc left
+    go true m h = omega (arith, h m)
+    go false m h = omega arith
+
 -- Refusals one after another.
 module _ (list : ℕ) (j : Judged) (o : Refusal) where
   pub list-on : j .fault ≡ 0 → inList list j o ≡ o

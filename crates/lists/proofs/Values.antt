@@ -259,19 +259,27 @@ apart-from u t (b ∷ v) (c ∷ w) n l m p q k h e f =
 empty-packed : Packed empty
 empty-packed = record { low-fits = omega arith; high-fits = omega arith }
 
-pub same-alike : (v w : List ℕ) → length v ≤ 16 → length w ≤ 16 → Bytes v → Bytes w → sameValue (gather v) (gather w) ≡ sameBytes v w
+short-alike : (v w : List ℕ) → length v ≤ 16 → length w ≤ 16 → Bytes v → Bytes w → sameValue (gather v) (gather w) ≡ true → v ≡ w
 unfolding sameValue
-same-alike v w l m p q = same-test _ _ to from
-  where
-    to : (eqb (gather v .length) (gather w .length) and eqb (gather v .low) (gather w .low) and eqb (gather v .high) (gather w .high)) ≡ true → sameBytes v w ≡ true
-    to h =
-        let n : gather v .length ≡ gather w .length = eqb-true _ _ (and-left _ _ (and-left _ _ h)) in
-        let len : length v ≡ length w = sym (short-length v l) ∙ n ∙ short-length w m in
-        let e = eqb-true _ _ (and-right _ _ (and-left _ _ h)) in
-        let f = eqb-true _ _ (and-right _ _ h) in
-        eq-same v w (apart-from empty empty v w refl len (omega arith) empty-packed empty-packed p q e f .2)
+short-alike v w l m p q h =
+    let n : gather v .length ≡ gather w .length = eqb-true _ _ (and-left _ _ (and-left _ _ h)) in
+    let len : length v ≡ length w = sym (short-length v l) ∙ n ∙ short-length w m in
+    let e = eqb-true _ _ (and-right _ _ (and-left _ _ h)) in
+    let f = eqb-true _ _ (and-right _ _ h) in
+    apart-from empty empty v w refl len (omega arith) empty-packed empty-packed p q e f .2
 
-    from : sameBytes v w ≡ true → (eqb (gather v .length) (gather w .length) and eqb (gather v .low) (gather w .low) and eqb (gather v .high) (gather w .high)) ≡ true
+-- One of at most 16 bytes is told from every other.
+pub same-alike : (v w : List ℕ) → length w ≤ 16 → Bytes v → Bytes w → sameValue (gather v) (gather w) ≡ sameBytes v w
+unfolding sameValue
+same-alike v w m p q = same-test _ _ (to (decLt 16 (length v))) from
+  where
+    to : Dec (16 < length v) → sameValue (gather v) (gather w) ≡ true → sameBytes v w ≡ true
+    to (yes l) h =
+        let n : gather v .length ≡ gather w .length = eqb-true _ _ (and-left _ _ (and-left _ _ h)) in
+        absurd (omega (arith, n, long-length v l, short-length w m, m))
+    to (no l) h = eq-same v w (short-alike v w (omega arith) m p q h)
+
+    from : sameBytes v w ≡ true → sameValue (gather v) (gather w) ≡ true
     from h =
         rw (same-eq v w h)
         (and-join _ _ (and-join _ _ (eq-eqb (gather w .length) _ refl) (eq-eqb (gather w .low) _ refl)) (eq-eqb (gather w .high) _ refl))

@@ -1,0 +1,2 @@
+-- What the code that judges the mapper's two lists answers.
+pub mod Judging
