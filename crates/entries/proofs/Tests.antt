@@ -170,11 +170,11 @@ module _ (x : Entry) where
   unfolding siteFormed isName
   site-zone-short h = leb-true _ _ (and-right _ _ (and-right _ _ h))
 
-  zone-name-short : zoneFormed x ≡ true → length (columnOf 0 x) ≤ 16
+  pub zone-name-short : zoneFormed x ≡ true → length (columnOf 0 x) ≤ 16
   unfolding zoneFormed isName
   zone-name-short h = leb-true _ _ (and-right _ _ (and-right _ _ (and-left _ _ (and-left _ _ (and-left _ _ h)))))
 
-  site-sound : siteFault x ≡ 0 → siteFormed x ≡ true
+  pub site-sound : siteFault x ≡ 0 → siteFormed x ≡ true
   unfolding siteFault
   site-sound e = go (siteFormed x) e
     where
@@ -182,7 +182,7 @@ module _ (x : Entry) where
       go true h = refl
       go false h = absurd (omega (arith, h))
 
-  zone-sound : zoneFault x ≡ 0 → zoneFormed x ≡ true
+  pub zone-sound : zoneFault x ≡ 0 → zoneFormed x ≡ true
   unfolding zoneFault
   zone-sound e = go (zoneFormed x) e
     where

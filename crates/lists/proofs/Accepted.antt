@@ -194,16 +194,22 @@ module _ (sites zones : List Entry) where
   four-none true e = absurd (omega (arith, e))
   four-none false e = refl
 
+  -- They have a site, and no more than 512.
+  pub accepted-few : refusalOf sites zones .number ≡ 0 → (length sites ≡ 0 → ⊥) × (length sites ≤ 512)
+  unfolding refusalOf
+  accepted-few e =
+      let last = list-none 2 _ _ (list-none 1 _ _ (list-none 2 _ _ (list-none 1 _ _ e .1) .1) .1) .1 in
+      let b = four-none (eqb (length sites) 0 or tooLarge (planOf sites zones)) last in (
+        eqb-false (length sites) 0 (or-left-false _ _ b),
+        ltb-false 512 (length sites) (sym (large-by-sites (accepted-faultless e)) ∙ or-right-false _ _ b),
+      )
+
   -- .. and their plan is sound.
   pub accepted-sound : refusalOf sites zones .number ≡ 0 → Sound ss zs
-  unfolding refusalOf
   accepted-sound e =
-      let h = accepted-faultless e in
-      let last = list-none 2 _ _ (list-none 1 _ _ (list-none 2 _ _ (list-none 1 _ _ e .1) .1) .1) .1 in
-      let b = four-none (eqb (length sites) 0 or tooLarge (planOf sites zones)) last in
-      let some : (length sites ≡ 0 → ⊥) = eqb-false (length sites) 0 (or-left-false _ _ b) in
-      let most : length sites ≤ 512 = ltb-false 512 (length sites) (sym (large-by-sites h) ∙ or-right-false _ _ b) in
-      faultless-sound h (omega arith) most
+      let n = accepted-few e in
+      let some = n .0 in
+      faultless-sound (accepted-faultless e) (omega arith) (n .1)
 
   -- "The plan file": it is accepted by loading, and loading gives the plan back.
   pub accepted-read : refusalOf sites zones .number ≡ 0 → File.read (write (planOf sites zones)) ≡ File.accepted (planOf sites zones)
