@@ -23,7 +23,7 @@ use Rattle.lists.specs.Refusals.{Entry, numberOf, siteOf, zoneOf, siteFo
 use Rattle.lists.proofs.Bytes.{same-eq, same-comm}
 use Rattle.lists.proofs.Counts.{or-left-false, or-right-false, Apart, Used, Few, few, size-alone}
 use Rattle.lists.proofs.Lawful.{Bounded, Sound, plan-read, plan-short}
-use Rattle.lists.proofs.Judging.{judged-none, list-none}
+use Rattle.lists.proofs.Judging.{judged-none, list-on, list-none}
 
 all-by-index : {A : Type 0} (p : A → Bool) (d : A) (xs : List A) → ((k : ℕ) → k < length xs → p (getD xs k d) ≡ true) → all p xs ≡ true
 unfolding all
@@ -218,3 +218,18 @@ module _ (sites zones : List Entry) where
   -- It fits into the plan buffer.
   pub accepted-short : refusalOf sites zones .number ≡ 0 → length (write (planOf sites zones)) ≤ 54_446
   accepted-short e = plan-short ss zs (accepted-sound e)
+
+  -- A refusal with number 0 is none: list and row are 0 too.
+  pub accepted-is : refusalOf sites zones .number ≡ 0 → refusalOf sites zones ≡ accepted
+  unfolding refusalOf
+  accepted-is e =
+      let a = list-none 1 _ _ e in
+      let b = list-none 2 _ _ (a .1) in
+      let c = list-none 1 _ _ (b .1) in
+      let d = list-none 2 _ _ (c .1) in
+      let four : Refusal = record { number = 4; list = 0; row = 0 } in
+      list-on 1 _ _ (a .0)
+      ∙ list-on 2 _ _ (b .0)
+      ∙ list-on 1 _ _ (c .0)
+      ∙ list-on 2 _ _ (d .0)
+      ∙ ap (λ (t : Bool). cond t four accepted) (four-none (eqb (length sites) 0 or tooLarge (planOf sites zones)) (d .1))
