@@ -2,6 +2,7 @@
 
 pub mod guarded;
 pub mod layout;
+pub mod mapper;
 pub mod planner;
 pub mod probe;
 pub mod program;

@@ -29,6 +29,7 @@ fn archives_and_program_are_newer_than_the_code() {
         ("target/staticlib/libplanner.a", "rt staticlib planner"),
         ("target/staticlib/libprobe.a", "rt staticlib probe"),
         ("target/staticlib/libreplay.a", "rt staticlib replay"),
+        ("target/staticlib/libcsv.a", "rt staticlib csv"),
         ("target/bin/tent", "rt check tent"),
     ] {
         assert!(
