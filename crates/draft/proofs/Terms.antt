@@ -17,9 +17,9 @@ use Rattle.plpb.specs.Lists.{_or_, all, concat}
 use Rattle.plpb.specs.Plan.{Term}
 use Rattle.words.specs.Words.{bytesOf, unsigned}
 use Rattle.format.specs.Writer.{termBytes}
-use Rattle.rows.specs.declared.value.Value.{Value}
-use Rattle.rows.specs.Grammar.{columnOf, sameBytes}
-use Rattle.rows.specs.Values.{gather, gatherFrom, noBytes, sameValue}
+use Rattle.cells.specs.declared.value.Value.{Value}
+use Rattle.cells.specs.Grammar.{columnOf, sameBytes}
+use Rattle.cells.specs.Values.{gather, gatherFrom, noBytes, sameValue}
 use Rattle.lists.specs.Lists.{Site, Zone, inZone, termsBy}
 use Rattle.lists.specs.Refusals.{Entry, isNumber, numberOf, yesBytes, siteOf, zoneOf, siteFormed, zoneFormed, siteFault, zoneFault, entryAt}
 use Rattle.lists.proofs.Counts.{or-left-false, or-right-false}

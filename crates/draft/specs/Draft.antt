@@ -10,8 +10,8 @@ use Rattle.plpb.specs.Lists.{all, concat}
 use Rattle.words.specs.Words.{bytesOf}
 use Rattle.words.specs.Writes.{put}
 use Rattle.format.specs.Writer.{field, termBytes, clauseFields}
-use Rattle.rows.specs.declared.value.Value.{Value}
-use Rattle.rows.specs.Values.{gather}
+use Rattle.cells.specs.declared.value.Value.{Value}
+use Rattle.cells.specs.Values.{gather}
 use Rattle.lists.specs.Lists.{Site, Zone, inZone, termsBy, zoneClause}
 use Rattle.lists.specs.Refusals.{Entry, siteOf, zoneOf}
 

@@ -8,17 +8,17 @@ ghost use lib.ListN.{length};
 ghost use Rattle.words.specs.Words.{bytesOf};
 ghost use Rattle.words.specs.Writes.{put, front};
 ghost use Rattle.format.specs.Writer.{field, clauseFields, write};
-ghost use Rattle.rows.specs.Grammar.{columnOf};
-ghost use Rattle.rows.specs.Values.{gather};
+ghost use Rattle.cells.specs.Grammar.{columnOf};
+ghost use Rattle.cells.specs.Values.{gather};
 ghost use Rattle.lists.specs.Lists.{zoneClause};
 ghost use Rattle.lists.specs.Refusals.{Entry, siteOf, siteFault, siteRows, zoneRows, planOf, refusalOf};
 ghost use Rattle.entries.specs.Judging.{OfBytes, Well};
 ghost use Rattle.draft.specs.Draft.{weigh, termsOf, Named, ruleBody, clausesOf, Wrote};
+use cells::value::Value;
+use cells::value::empty;
+use cells::value::same;
 use entries::is_yes;
 use rows::row::read_row;
-use rows::value::Value;
-use rows::value::empty;
-use rows::value::same;
 use words::write_u32;
 
 // The tags of the fields, and the modes of the two rules of a zone.

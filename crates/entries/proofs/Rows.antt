@@ -12,10 +12,10 @@ use lib.ListN.{length, getD, take, drop}
 use lib.Seq.{take-length}
 use borrow.Author.Tests.{eq-eqb, ne-eqb, le-ltb, lt-ltb}
 use Rattle.plpb.specs.Lists.{_or_, any}
-use Rattle.rows.specs.declared.value.Value.{Value}
+use Rattle.cells.specs.declared.value.Value.{Value}
 use Rattle.rows.specs.declared.row.Row.{Row}
-use Rattle.rows.specs.Grammar.{rowOf, rowsOf, columnOf}
-use Rattle.rows.specs.Values.{gather, sameValue}
+use Rattle.cells.specs.Grammar.{rowOf, rowsOf, columnOf}
+use Rattle.cells.specs.Values.{gather, sameValue}
 use Rattle.rows.specs.Reading.{Holds, ReadsRow, columns}
 use Rattle.rows.proofs.Rows.{Place, is-row, row-held, place-next, rows-short}
 use Rattle.lists.specs.Refusals.{Entry, entryAt, has, repeated, rowFault, unlisted, unused, Judged, judgedFrom, judged, Refusal, accepted, inList, planOf, tooLarge, refusalOf}

@@ -12,10 +12,10 @@ use lib.Seq.{getD-take, length-take-le, take-length}
 use borrow.Author.Tests.{le-leb, lt-leb, lt-ltb, le-ltb, leb-true, eq-eqb, ne-eqb, not-true, not-false}
 use Rattle.plpb.specs.Lists.{_and_, _or_, any, all}
 use Rattle.format.proofs.Bools.{and-left, and-right}
-use Rattle.rows.specs.declared.value.Value.{Value}
+use Rattle.cells.specs.declared.value.Value.{Value}
 use Rattle.rows.specs.declared.row.Row.{Row}
-use Rattle.rows.specs.Grammar.{Record, rowsOf, columnOf, sameBytes}
-use Rattle.rows.specs.Values.{gather, gatherFrom, added, isDigit, sameValue}
+use Rattle.cells.specs.Grammar.{Record, rowsOf, columnOf, sameBytes}
+use Rattle.cells.specs.Values.{gather, gatherFrom, added, isDigit, sameValue}
 use Rattle.rows.specs.Reading.{isSome, Holds}
 use Rattle.lists.specs.Refusals.{Entry, isName, isNumber, numberOf, yesBytes, noBytes, isYes, isNo, siteFormed, zoneFormed, siteFault, zoneFault, entryAt, has, repeated, rowFault}
 use Rattle.lists.proofs.Values.{nameValue, name-alike, numberValue, number-alike, number-says, Bytes, same-alike}

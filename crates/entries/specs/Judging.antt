@@ -7,7 +7,7 @@ use mathlib.Core.List.{List}
 use lib.Dec.{ltb}
 use lib.ListN.{length}
 use Rattle.plpb.specs.Lists.{all}
-use Rattle.rows.specs.Grammar.{rowsOf, columnOf}
+use Rattle.cells.specs.Grammar.{rowsOf, columnOf}
 use Rattle.rows.specs.Reading.{columns}
 use Rattle.lists.specs.Refusals.{Entry, entryAt, has, siteFault, zoneFault, rowFault, Judged, judged, Refusal}
 use Rattle.entries.specs.declared.Judged.{Judged as JudgedT}

@@ -6,16 +6,16 @@ ghost use Rattle.plpb.specs.Lists.{_and_, _or_};
 ghost use mathlib.Core.List.{List};
 ghost use Prim.Native.Nat.{ℕ};
 ghost use lib.ListN.{length};
-ghost use Rattle.rows.specs.Values.{gather, sameValue};
+ghost use Rattle.cells.specs.Values.{gather, sameValue};
 ghost use Rattle.rows.specs.Reading.{Holds};
 ghost use Rattle.lists.specs.Refusals.{Entry, isName, isNumber, siteFormed, zoneFormed, siteFault, zoneFault, rowFault, judged, refusalOf};
 ghost use Rattle.lists.specs.Refusals.{yesBytes, noBytes, siteRows, zoneRows};
 ghost use Rattle.entries.specs.Judging.{entriesOf, OfBytes, ownFault, Well, zoneColumn, missing, Says, Tells};
+use cells::value::Value;
 use rows::row::Row;
 use rows::row::among;
 use rows::row::column;
 use rows::row::read_row;
-use rows::value::Value;
 
 // The columns of the key and of the zone: "Sites: code, carry metres, zone." "Zones: zone, least, most, and `yes` or `no`".
 const KEY: usize = 0;

@@ -17,7 +17,7 @@ use Rattle.plpb.proofs.Lists.{count-nil, count-cons, count-append, count-map, a
 use Rattle.format.specs.File as File
 use Rattle.format.specs.Writer.{write}
 use Rattle.format.proofs.Bools.{and-left, and-right, and-join}
-use Rattle.rows.specs.Grammar.{Record, columnOf, sameBytes}
+use Rattle.cells.specs.Grammar.{Record, columnOf, sameBytes}
 use Rattle.lists.specs.Lists.{Site, Zone, inZone, planFor}
 use Rattle.lists.specs.Refusals.{Entry, numberOf, siteOf, zoneOf, siteFormed, zoneFormed, siteFault, zoneFault, entryAt, has, repeated, rowFault, unlisted, unused, Judged, judgedFrom, judged, Refusal, accepted, inList, planOf, tooLarge, refusalOf}
 use Rattle.lists.proofs.Bytes.{same-eq, same-comm}

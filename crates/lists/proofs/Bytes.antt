@@ -8,7 +8,7 @@ use lib.Dec.{eqb}
 use borrow.Author.Tests.{eqb-true, eq-eqb}
 use Rattle.plpb.specs.Lists.{_and_}
 use Rattle.format.proofs.Bools.{and-left, and-right, and-join, same-test}
-use Rattle.rows.specs.Grammar.{sameBytes}
+use Rattle.cells.specs.Grammar.{sameBytes}
 
 pub same-eq : (v w : List ℕ) → sameBytes v w ≡ true → v ≡ w
 unfolding sameBytes

@@ -16,7 +16,7 @@ use Rattle.plpb.specs.Tallies.{rulesOf}
 use Rattle.plpb.proofs.Lists.{count-nil, count-cons, count-is-sum, sumBy-append, sumBy-plus, sumBy-same}
 use Rattle.format.specs.Limits.{termCount}
 use Rattle.format.proofs.Bools.{and-left, and-right}
-use Rattle.rows.specs.Grammar.{sameBytes}
+use Rattle.cells.specs.Grammar.{sameBytes}
 use Rattle.lists.specs.Lists.{Site, Zone, inZone, termsBy, zoneTerms, between, noneAtAll, zoneClause, planFor}
 use Rattle.lists.specs.Refusals.{tooLarge}
 

@@ -12,7 +12,7 @@ use lib.ListN.{length, getD}
 use borrow.Author.Tests.{lt-leb, lt-ltb, eqb-true, ne-eqb}
 use Rattle.plpb.specs.Lists.{_and_, _or_, all}
 use Rattle.format.proofs.Bools.{and-left, and-right, and-join, and-false}
-use Rattle.rows.specs.Grammar.{isText, mayStand, quote, comma, cr, lf, Field, broken, field, before, plain, inQuotes, fieldOf, withComma, withEnd, Record, Row, malformed, row, lone, beforeRow, leading, rowOf, valuesIn, behindRow, rowsIn, rowsOf, columnOf}
+use Rattle.cells.specs.Grammar.{isText, mayStand, quote, comma, cr, lf, Field, broken, field, before, plain, inQuotes, fieldOf, withComma, withEnd, Record, Row, malformed, row, lone, beforeRow, leading, rowOf, valuesIn, behindRow, rowsIn, rowsOf, columnOf}
 use Rattle.lists.proofs.Values.{Bytes}
 
 small : ℕ → Bool

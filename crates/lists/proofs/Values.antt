@@ -14,9 +14,9 @@ use borrow.Author.Tests.{le-leb, lt-leb, lt-ltb, le-ltb, leb-true, ltb-true, eqb
 use Rattle.plpb.specs.Lists.{_and_, all}
 use Rattle.plpb.proofs.Lists.{and-assoc, and-true}
 use Rattle.format.proofs.Bools.{and-left, and-right, and-join, same-test, and-false}
-use Rattle.rows.specs.declared.value.Value.{Value}
-use Rattle.rows.specs.Grammar.{sameBytes}
-use Rattle.rows.specs.Values.{noBytes as empty, tooLong, withByte, withDigit, isDigit, added, gatherFrom, gather, sameValue}
+use Rattle.cells.specs.declared.value.Value.{Value}
+use Rattle.cells.specs.Grammar.{sameBytes}
+use Rattle.cells.specs.Values.{noBytes as empty, tooLong, withByte, withDigit, isDigit, added, gatherFrom, gather, sameValue}
 use Rattle.lists.specs.Refusals.{isName, isNumber, numberFrom, numberOf}
 use Rattle.lists.proofs.Bytes.{same-eq, eq-same}
 

@@ -7,7 +7,7 @@ use lib.Dec.{eqb}
 use lib.IntN.{pos}
 use lib.ListN.{length}
 use Rattle.plpb.specs.Plan.{Bound, absent, present, Term, Rule, Clause, Plan}
-use Rattle.rows.specs.Grammar.{sameBytes}
+use Rattle.cells.specs.Grammar.{sameBytes}
 
 -- "Sites: code, carry metres, zone."
 pub record Site : Type 0 where

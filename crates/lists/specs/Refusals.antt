@@ -10,8 +10,8 @@ use Rattle.plpb.specs.Lists.{_and_, _or_, any, all}
 use Rattle.plpb.specs.Plan.{Plan}
 use Rattle.plpb.specs.Tallies.{rulesOf}
 use Rattle.format.specs.Limits.{maxVariables, maxClauses, maxRules, maxTerms, termCount}
-use Rattle.rows.specs.Grammar.{Record, rowsOf, columnOf, sameBytes}
-use Rattle.rows.specs.Values.{isDigit}
+use Rattle.cells.specs.Grammar.{Record, rowsOf, columnOf, sameBytes}
+use Rattle.cells.specs.Values.{isDigit}
 use Rattle.rows.specs.Reading.{isSome}
 use Rattle.lists.specs.Lists.{Site, Zone, planFor}
 

@@ -1,4 +1,2 @@
--- The laws of fields, values and rows.
-pub mod Tests
-pub mod Fields
+-- The laws of rows.
 pub mod Rows

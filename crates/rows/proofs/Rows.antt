@@ -14,12 +14,13 @@ use lib.ListN.{length, getD, take, drop, length-drop, drop-of-length-le}
 use lib.Seq.{drop-cons, drop-drop, drop-length, take-suc}
 use Rattle.plpb.specs.Lists.{_and_, _or_, any}
 use Rattle.plpb.proofs.Lists.{or-true, any-append}
-use Rattle.rows.specs.declared.value.Value.{Value}
-use Rattle.rows.specs.declared.field.Field.{Field as FieldT}
+use Rattle.cells.specs.declared.value.Value.{Value}
+use Rattle.cells.specs.declared.field.Field.{Field as FieldT}
 use Rattle.rows.specs.declared.row.Row.{Row as RowT}
-use Rattle.rows.specs.Grammar.{Field, broken, field, isText, mayStand, quote, comma, cr, lf, before, plain, inQuotes, fieldOf, withComma, withEnd, Record, Row, malformed, row, lone, beforeRow, leading, rowOf, valuesIn, behindRow, rowsIn, rowsOf, columnOf}
-use Rattle.rows.specs.Values.{noBytes, gatherFrom, gather}
-use Rattle.rows.specs.Reading.{Gathered, gathered, Reads, isSome, noRow, Holds, ReadsRow, columns}
+use Rattle.cells.specs.Grammar.{Field, broken, field, isText, mayStand, quote, comma, cr, lf, before, plain, inQuotes, fieldOf, withComma, withEnd, Record, Row, malformed, row, lone, beforeRow, leading, rowOf, valuesIn, behindRow, rowsIn, rowsOf, columnOf}
+use Rattle.cells.specs.Values.{noBytes, gatherFrom, gather}
+use Rattle.cells.specs.Reading.{gathered, Reads}
+use Rattle.rows.specs.Reading.{isSome, noRow, Holds, ReadsRow, columns}
 
 -- ---- how much of a list a row takes
 

@@ -1,4 +1,2 @@
--- RFC 4180's grammar, and what the code that reads by it answers, in reading order.
-pub mod Grammar
-pub mod Values
+-- What the code that reads rows answers.
 pub mod Reading

@@ -1,40 +1,14 @@
--- What the code answers of a field and of a row, beside the grammar.
+-- What the code answers of a row, beside the grammar.
 -- Assumes nothing.
 use Prim.Native.Nat.{ℕ, _≤_}
 use mathlib.Core.Path.{_≡_}
 use mathlib.Core.Bool.{Bool, true, false, cond}
-use mathlib.Core.List.{List, [], _∷_}
+use mathlib.Core.List.{List}
 use mathlib.Core.Option.{Option, none, some}
 use lib.ListN.{length, drop}
-use Rattle.rows.specs.declared.value.Value.{Value}
-use Rattle.rows.specs.declared.field.Field.{Field as FieldT}
+use Rattle.cells.specs.Grammar.{Record, Row, valuesIn, behindRow, columnOf}
+use Rattle.cells.specs.Values.{noBytes, gather}
 use Rattle.rows.specs.declared.row.Row.{Row as RowT}
-use Rattle.rows.specs.Grammar.{Field, broken, field, Record, Row, valuesIn, behindRow, columnOf}
-use Rattle.rows.specs.Values.{noBytes, gatherFrom, gather}
-
--- A field, its value gathered behind what was gathered before it.
-pub record Gathered : Type 0 where
-  pub ok : Bool
-  pub value : Value
-  pub rest : List ℕ
-
-unfoldable pub gathered : Value → Field → Gathered
-gathered v broken = record { ok = false; value = noBytes; rest = [] }
-gathered v (field value rest) = record { ok = true; value = gatherFrom v value; rest = rest }
-
--- The code's answers: no field, or one up to a place.
-abbrev pub noField : ℕ → FieldT
-noField end = record { ok = false; value = noBytes; next = end }
-
-abbrev pub fieldUpTo : Value → ℕ → FieldT
-fieldUpTo value next = record { ok = true; value = value; next = next }
-
--- The code's field, in a list s, is this one.
-pub record Reads (s : List ℕ) (g : Gathered) (r : FieldT) : Type 0 where
-  pub ok-is : r .ok ≡ g .ok
-  pub value-is : r .value ≡ g .value
-  pub rest-is : g .rest ≡ drop (r .next) s
-  pub within : r .next ≤ length s
 
 -- A row is well formed, or not.
 unfoldable pub isSome : Option Record → Bool

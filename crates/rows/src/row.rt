@@ -5,15 +5,15 @@ ghost use mathlib.Core.Option.{Option};
 ghost use Prim.Native.Nat.{ℕ, _≤_, _<_};
 ghost use lib.ListN.{length, take, drop};
 ghost use Rattle.plpb.specs.Lists.{any};
-ghost use Rattle.rows.specs.Grammar.{Record, beforeRow, rowOf, rowsOf, columnOf};
-ghost use Rattle.rows.specs.Values.{gather, sameValue};
+ghost use Rattle.cells.specs.Grammar.{Record, beforeRow, rowOf, rowsOf, columnOf};
+ghost use Rattle.cells.specs.Values.{gather, sameValue};
 ghost use Rattle.rows.specs.Reading.{Holds, ReadsRow, columns, noRow};
-use crate::field::Field;
-use crate::field::last;
-use crate::field::lead;
-use crate::value::Value;
-use crate::value::empty;
-use crate::value::same;
+use cells::field::Field;
+use cells::field::last;
+use cells::field::lead;
+use cells::value::Value;
+use cells::value::empty;
+use cells::value::same;
 
 // A row's fields and where the next row begins; the fourth is empty in a row of three. A malformed row takes the rest of the list.
 pub struct Row {

@@ -9,9 +9,9 @@ use mathlib.Core.Bool.{Bool, false}
 use mathlib.Core.Option.{Option}
 use lib.ListN.{length, take}
 use Rattle.plpb.specs.Lists.{any}
-use Rattle.rows.specs.declared.value.Value.{Value}
-use Rattle.rows.specs.Grammar.{Record, rowsOf, columnOf}
-use Rattle.rows.specs.Values.{gather, sameValue}
+use Rattle.cells.specs.declared.value.Value.{Value}
+use Rattle.cells.specs.Grammar.{Record, rowsOf, columnOf}
+use Rattle.cells.specs.Values.{gather, sameValue}
 use Rattle.rows.specs.Reading.{columns}
 use Rattle.rows.proofs.Rows.{Place, place-first, more-bytes, is-row, row-held, place-next, any-none, any-more, any-found}
 use Rattle.rows.proofs.row.among.Statement.{statement}
