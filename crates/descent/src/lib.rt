@@ -5,7 +5,7 @@ ghost use lib.IntN.{natAbs};
 ghost use Rattle.plpb.specs.Plan.{floorCost};
 ghost use Rattle.format.specs.Limits.{maxBound};
 ghost use Rattle.settings.specs.Settings.{settingsOf, modeOf};
-ghost use Rattle.tries.specs.Steps.{work};
+ghost use Rattle.lending.specs.Work.{work};
 ghost use Rattle.progress.specs.Bounds.{basis, Room, Tracks, UnderBound, Descent};
 use objective::added::set_bound;
 use progress::Called;

@@ -47,7 +47,8 @@ use Rattle.tries.specs.declared.Tried.the-variants as tried
 use Rattle.progress.specs.declared.Progress.{Progress}
 use Rattle.progress.specs.declared.Ending.the-variants as code
 use Rattle.progress.specs.declared.Searched.{Searched}
-use Rattle.tries.specs.Steps.{Work, Startable, Beyond, triedOf, usedBy, flipsBy, IfReached, Tries}
+use Rattle.lending.specs.Work.{Work, Beyond}
+use Rattle.tries.specs.Steps.{Startable, triedOf, usedBy, flipsBy, IfReached, Tries}
 use Rattle.progress.specs.Bounds.{basis, Bounded, Tracks, Room, Leaves, answerOf, endingOf, Concludes}
 use Rattle.finds.specs.Whole.{withFind, CallsFirst, Copyable, Empty, FirstCall, Roomy, FirstFind, FromFind, Searchable, Unfound, Whole}
 use Rattle.progress.proofs.Bounds.{bounded-basis, front-bits, front-areBits, front-beyond}

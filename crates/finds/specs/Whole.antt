@@ -23,7 +23,9 @@ use Rattle.format.specs.Layout.{markSize}
 use Rattle.format.specs.Assignment.{bitBytes}
 use Rattle.tries.specs.declared.Tried.{Tried}
 use Rattle.tries.specs.declared.Tried.the-variants as tried
-use Rattle.tries.specs.Steps.{Work, Beyond, Finds, IfReached, Tries, bitsIn, flipsBy, triedOf, usedBy}
+use Rattle.lending.specs.Work.{Work, Beyond}
+use Rattle.tries.specs.Steps.{Finds, IfReached, Tries, flipsBy, triedOf, usedBy}
+use Rattle.moves.specs.Moves.{bitsIn}
 use Rattle.progress.specs.Bounds.{answerOf}
 
 -- "With a find, the first n assignment bytes hold the last one found; otherwise they are unchanged, as are all beyond n always."

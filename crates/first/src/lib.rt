@@ -1,6 +1,6 @@
 // The first call of a search, with the plan alone.
 ghost use Rattle.settings.specs.Settings.{settingsOf};
-ghost use Rattle.tries.specs.Steps.{work};
+ghost use Rattle.lending.specs.Work.{work};
 ghost use Rattle.finds.specs.Whole.{CallsFirst, Copyable};
 use settings::Settings;
 use tries::Tried;

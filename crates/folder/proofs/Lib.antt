@@ -1,2 +1,3 @@
 -- What holds of walk.bin and of the text that the program prints.
 pub mod Judging
+pub mod Long

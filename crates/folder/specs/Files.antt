@@ -2,7 +2,7 @@
 -- (document 01, "The program and its two lines").
 -- Assumes nothing.
 use Prim.Native.Nat.{ℕ, _+_, _%_}
-use mathlib.Core.Bool.{not, cond}
+use mathlib.Core.Bool.{Bool, not, cond}
 use mathlib.Core.List.{List}
 use lib.Dec.{ltb, eqb}
 use lib.ListN.{length}
@@ -43,3 +43,7 @@ walked (accepted k) = Settings k
 -- "Numbers.bin: 8 when its length is no multiple of 4."
 unfoldable pub numbersRefusal : List ℕ → ℕ
 numbersRefusal s = refuse (not (eqb (length s % 4) 0)) 8 0
+
+-- "above 65,536 bytes"
+unfoldable pub tooLong : List ℕ → Bool
+tooLong file = ltb 65_536 (length file)

@@ -1,6 +1,7 @@
-// walk.bin and numbers.bin judged.
+// walk.bin and numbers.bin judged, and the sizes of the three files.
 ghost use mathlib.Core.Path.{_≡_};
-ghost use Rattle.folder.specs.Files.{walkFault, judged, readWalk, walked, numbersRefusal};
+ghost use Rattle.plpb.specs.Lists.{_or_};
+ghost use Rattle.folder.specs.Files.{walkFault, judged, readWalk, walked, numbersRefusal, tooLong};
 use settings::Settings;
 use settings::settings_refusal;
 
@@ -63,4 +64,20 @@ pub fn judge_numbers(file: &[u8]) -> u32
     ensures { λ r. ⌜ r ≡ numbersRefusal (now (file .entry)) ⌝ }
 {
     if file.len() % 4 == 0 { 0 } else { 8 }
+}
+
+// "Any of them above 65,536 bytes": `more` says that one of the files has bytes behind those given.
+pub fn any_too_long(more: bool, plan: &[u8], walk: &[u8], numbers: &[u8]) -> bool
+    ensures { λ r. ⌜ r ≡ (more or tooLong (now (plan .entry)) or tooLong (now (walk .entry)) or tooLong (now (numbers .entry))) ⌝ }
+{
+    if more {
+        return true;
+    }
+    if 65536 < plan.len() {
+        return true;
+    }
+    if 65536 < walk.len() {
+        return true;
+    }
+    65536 < numbers.len()
 }

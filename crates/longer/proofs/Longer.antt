@@ -21,8 +21,9 @@ use Rattle.format.specs.Assignment.{assignmentSize}
 use Rattle.numbers.specs.Numbers.{numbersOf}
 use Rattle.settings.specs.declared.Settings.{Settings as Asked}
 use Rattle.settings.specs.Settings.{settingsOf}
-use Rattle.search.specs.Calls.{Lent, tooSmall, searchRefusal, answer, searchAssignment, cleared, endingNumber, unless, Searches}
-use Rattle.search.specs.declared.Answer.{Answer as Answered}
+use Rattle.lending.specs.Lent.{Lent, tooSmall, searchRefusal}
+use Rattle.answers.specs.declared.Answer.{Answer as Answered}
+use Rattle.search.specs.Calls.{answer, searchAssignment, cleared, endingNumber, unless, Searches}
 use Rattle.longer.specs.Answers.{ranShort, NoWorse}
 use Rattle.longer.proofs.Answers.{answers-never-hurt}
 use Rattle.longer.specs.Longer.{withMore, endsShort, SameEnd, NeverHurts, LongerNeverHurts}

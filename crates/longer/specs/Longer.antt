@@ -8,8 +8,9 @@ use lib.Dec.{T, eqb}
 use lib.Signed.{leZ}
 use Rattle.plpb.specs.Lists.{_or_}
 use Rattle.settings.specs.declared.Settings.{Settings as Asked}
-use Rattle.search.specs.Calls.{Lent, lentAll, Searches}
-use Rattle.search.specs.declared.Answer.{Answer as Answered}
+use Rattle.lending.specs.Lent.{Lent, lentAll}
+use Rattle.answers.specs.declared.Answer.{Answer as Answered}
+use Rattle.search.specs.Calls.{Searches}
 
 -- "if one list begins with all of another", "and buffers lent alike"
 unfoldable pub withMore : Lent → List ℕ → Lent

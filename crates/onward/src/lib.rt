@@ -3,7 +3,7 @@ ghost use mathlib.Core.Path.{_≡_};
 ghost use lib.ListN.{drop};
 ghost use Rattle.format.specs.Tables.{tableSize, termSize};
 ghost use Rattle.settings.specs.Settings.{settingsOf};
-ghost use Rattle.tries.specs.Steps.{work};
+ghost use Rattle.lending.specs.Work.{work};
 ghost use Rattle.finds.specs.Whole.{FirstFind, FromFind};
 use costs::floor_cost;
 use objective::added::add_bound;

@@ -3,13 +3,14 @@
 ghost use mathlib.Core.Path.{_≡_};
 ghost use Rattle.counting.specs.Count.{countWords, markedWords};
 ghost use Rattle.tallies.specs.Calls.{openRefusal, openTallies, callRefusal, flipRefusal, flipAssignment, flipTallies, countsBreak, countsMake, lent};
-ghost use Rattle.search.specs.Calls.{Searches, HandsOut, lentAll};
+ghost use Rattle.search.specs.Calls.{Searches, HandsOut};
+ghost use Rattle.lending.specs.Lent.{lentAll};
 ghost use Rattle.tables.specs.Load.{refusalOf, offsetOf, loading, tablesAfter, termsAfter};
+use answers::Answer as Searched;
 use calls::counts::Counted;
 use calls::counts::counts;
 use calls::flip::flip;
 use calls::open::open;
-use search::Answer as Searched;
 use search::search;
 use settings::Settings;
 use tables::load;

@@ -40,7 +40,8 @@ use Rattle.tries.specs.declared.Tried.{Tried}
 use Rattle.tries.specs.declared.Tried.the-variants as tried
 use Rattle.progress.specs.declared.Progress.{Progress}
 use Rattle.progress.specs.declared.Called.the-variants as called
-use Rattle.tries.specs.Steps.{Work, Startable, Beyond, triedOf, usedBy, flipsBy, IfReached, Finds, Tries}
+use Rattle.lending.specs.Work.{Work, Beyond}
+use Rattle.tries.specs.Steps.{Startable, triedOf, usedBy, flipsBy, IfReached, Finds, Tries}
 use Rattle.progress.specs.Bounds.{untightened, basis, Bounded, Tracks, Room, Leaves, calledOf, progressIn, FindOr, CallsUnder}
 use Rattle.format.specs.Layout.{ruleRoom}
 

@@ -38,7 +38,7 @@ use Rattle.progress.specs.declared.Ending.the-variants as code
 use Rattle.progress.specs.declared.Searched.{Searched}
 use Rattle.progress.proofs.Called.{the-type}
 use Rattle.settings.specs.Settings.{modeOf}
-use Rattle.tries.specs.Steps.{Work}
+use Rattle.lending.specs.Work.{Work}
 use Rattle.progress.specs.Bounds.{basis, Bounded, Tracks, Room, Leaves, calledOf, progressIn, FindOr, CallsUnder, UnderBound, answerOf, endingOf, Concludes, Descends, Descent, StoppedAt}
 use Rattle.progress.proofs.Bounds.{bounded-basis, cost-small, cost-fits}
 

@@ -21,7 +21,7 @@ use Rattle.progress.specs.declared.Called.the-variants as called
 use Rattle.progress.specs.declared.Ending.{Ending as EndingOf}
 use Rattle.progress.specs.declared.Ending.the-variants as code
 use Rattle.progress.specs.declared.Searched.{Searched}
-use Rattle.tries.specs.Steps.{Work, Beyond}
+use Rattle.lending.specs.Work.{Work, Beyond}
 use Rattle.format.specs.Layout.{tallySize}
 
 -- A plan without the added last clause.

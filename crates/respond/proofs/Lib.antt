@@ -1,3 +1,2 @@
 -- The laws of the answer to three files.
-pub mod Answering
 pub mod Responding

@@ -11,7 +11,7 @@ use lib.Seq.{drop-drop}
 use mir.Facts.{toZ-ofZ}
 use mir.Syntax.{w64}
 use mir.Val.{toZ, ofZ, SFits}
-use Rattle.plpb.specs.Lists.{_and_, _or_, all, isEmpty}
+use Rattle.plpb.specs.Lists.{_and_, _or_, _and_, all, isEmpty}
 use Rattle.plpb.specs.Plan.{Plan, Assignment, obeys, satisfies, cost}
 use Rattle.plpb.specs.Settings.{Settings}
 use Rattle.plpb.specs.Search.{reached, Ending, floor, ended, none, short-found, short-none, lastFind, costOf, search}
@@ -23,13 +23,13 @@ use Rattle.format.proofs.Lawful.{plan-parts}
 use Rattle.format.proofs.IsLoaded.{isLoaded-lawful}
 use Rattle.tallies.specs.Layout.{assignmentSize, tallySize, bitsOf}
 use Rattle.numbers.specs.Numbers.{numbersOf}
-use Rattle.tries.specs.declared.Tried.the-variants as tried
-use Rattle.progress.specs.declared.Ending.the-variants as code
 use Rattle.progress.specs.declared.Searched.{Searched}
 use Rattle.settings.specs.declared.Settings.{Settings as Asked}
 use Rattle.settings.specs.Settings.{modeOf}
-use Rattle.tries.specs.Steps.{Work}
-use Rattle.search.specs.Calls.{Lent, searchRefusal, answer, searchAssignment, cleared, endingNumber, unless, Searches, hasPlan, HandsOut}
+use Rattle.lending.specs.Work.{Work}
+use Rattle.lending.specs.Lent.{Lent, searchRefusal}
+use Rattle.search.specs.Calls.{answer, searchAssignment, cleared, endingNumber, unless, Searches, HandsOut}
+use Rattle.answers.specs.Found.{hasPlan}
 use Rattle.progress.specs.Bounds.{answerOf, endingOf}
 use Rattle.finds.specs.Whole.{Whole}
 use Rattle.format.specs.Layout.{markSize}

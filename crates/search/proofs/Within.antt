@@ -29,7 +29,8 @@ use Rattle.numbers.specs.Numbers.{numbersOf}
 use Rattle.settings.specs.declared.Settings.{Settings as Asked}
 use Rattle.settings.specs.Settings.{settingsRefusal, settingsOf}
 use Rattle.tallies.proofs.Bits.{length-bitBytes}
-use Rattle.search.specs.Calls.{Lent, tooSmall, searchRefusal, answer, searchAssignment, cleared}
+use Rattle.lending.specs.Lent.{Lent, tooSmall, searchRefusal}
+use Rattle.search.specs.Calls.{answer, searchAssignment, cleared}
 use Rattle.finds.specs.Whole.{withFind}
 use Rattle.format.specs.Layout.{markSize}
 use Rattle.search.specs.Within.{SameLent, SearchesWithin}

@@ -2,70 +2,23 @@
 -- Assumes nothing.
 use Prim.Native.Nat.{ℕ}
 use mathlib.Core.Path.{_≡_}
-use mathlib.Core.Bool.{Bool, not, cond}
+use mathlib.Core.Bool.{cond}
 use mathlib.Core.List.{List, _++_}
-use lib.Dec.{T, ltb, eqb}
+use lib.Dec.{T, eqb}
 use lib.IntN.{pos}
-use lib.ListN.{length, drop, replicate}
-use Rattle.plpb.specs.Lists.{_or_}
+use lib.ListN.{drop, replicate}
 use Rattle.plpb.specs.Plan.{obeys, satisfies, cost}
 use Rattle.plpb.specs.Search.{Ending, floor, ended, none, short-found, short-none, Answer, search}
-use Rattle.format.specs.File.{refuse}
-use Rattle.format.specs.Tables.{tableSize, termSize, planOfTables, isLoaded}
+use Rattle.format.specs.Tables.{tableSize, termSize, planOfTables}
 use Rattle.format.specs.Layout.{markSize, tallySize}
 use Rattle.format.specs.Assignment.{assignmentSize, bitsOf}
-use Rattle.tries.specs.Steps.{Work}
 use Rattle.finds.specs.Whole.{withFind}
 use Rattle.numbers.specs.Numbers.{numbersOf}
 use Rattle.settings.specs.declared.Settings.{Settings as Asked}
-use Rattle.settings.specs.Settings.{settingsRefusal, settingsOf}
-use Rattle.search.specs.declared.Answer.{Answer as Answered}
-
--- What the host program lends: the plan's tables, the list of numbers, the assignment, and the work tables: those of the plan with one clause
--- more, an assignment, its tallies, and what the choice marks of each variable.
-pub record Lent : Type 0 where
-  pub tables : List ℕ
-  pub terms : List ℕ
-  pub numbers : List ℕ
-  pub assignment : List ℕ
-  pub workTables : List ℕ
-  pub workTerms : List ℕ
-  pub workAssignment : List ℕ
-  pub workTallies : List ℕ
-  pub workMarks : List ℕ
-
-abbrev pub lentAll : (tables terms numbers assignment workTables workTerms workAssignment workTallies workMarks : List ℕ) → Lent
-lentAll tables terms numbers assignment workTables workTerms workAssignment workTallies workMarks =
-    record {
-      tables = tables;
-      terms = terms;
-      numbers = numbers;
-      assignment = assignment;
-      workTables = workTables;
-      workTerms = workTerms;
-      workAssignment = workAssignment;
-      workTallies = workTallies;
-      workMarks = workMarks;
-    }
-
-unfoldable pub tooSmall : Lent → Bool
-tooSmall l =
-    ltb (length (l .tables)) tableSize or ltb (length (l .terms)) termSize or ltb (length (l .assignment)) assignmentSize
-    or ltb (length (l .workTables)) tableSize or ltb (length (l .workTerms)) termSize or ltb (length (l .workAssignment)) assignmentSize
-    or ltb (length (l .workTallies)) tallySize or ltb (length (l .workMarks)) markSize
-
--- Whether three tables have less room than the full limits need, and whether the work tables do.
-unfoldable pub tablesSmall : List ℕ → List ℕ → List ℕ → Bool
-tablesSmall tables terms assignment =
-    ltb (length tables) tableSize or ltb (length terms) termSize or ltb (length assignment) assignmentSize
-
-unfoldable pub workSmall : List ℕ → List ℕ → Work → Bool
-workSmall tables terms w =
-    tablesSmall tables terms (w .assignment) or ltb (length (w .tallies)) tallySize or ltb (length (w .marks)) markSize
-
--- "Search: 21, 22, 11, 12, 13, 14."
-unfoldable pub searchRefusal : Lent → Asked → ℕ
-searchRefusal l k = refuse (tooSmall l) 21 (refuse (not (isLoaded (l .tables) (l .terms))) 22 (settingsRefusal k))
+use Rattle.settings.specs.Settings.{settingsOf}
+use Rattle.lending.specs.Lent.{Lent, searchRefusal}
+use Rattle.answers.specs.Found.{hasPlan}
+use Rattle.answers.specs.declared.Answer.{Answer as Answered}
 
 -- What a search that is not refused answers.
 unfoldable pub answer : Lent → Asked → Answer
@@ -107,10 +60,6 @@ pub record Searches (l : Lent) (k : Asked) (r : Answered) (left : Lent) : Type 0
   pub workAssignment : left .workAssignment ≡ cleared l k assignmentSize (l .workAssignment)
   pub workTallies : left .workTallies ≡ cleared l k tallySize (l .workTallies)
   pub workMarks : left .workMarks ≡ cleared l k markSize (l .workMarks)
-
--- Whether an ending, by its number, comes with a plan.
-unfoldable pub hasPlan : ℕ → Bool
-hasPlan e = eqb e 1 or eqb e 2 or eqb e 4
 
 -- What a crew relies on: "A plan handed out satisfies every clause", gives each locked variable its value, and the cost is its cost.
 unfoldable pub HandsOut : Lent → Answered → List ℕ → Type 0

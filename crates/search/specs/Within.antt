@@ -6,7 +6,8 @@ use Rattle.words.specs.Writes.{SameWithin}
 use Rattle.format.specs.Layout.{tableSize, termSize, tallySize, markSize}
 use Rattle.format.specs.Assignment.{assignmentSize}
 use Rattle.settings.specs.declared.Settings.{Settings as Asked}
-use Rattle.search.specs.Calls.{Lent, searchRefusal, answer, searchAssignment, cleared}
+use Rattle.lending.specs.Lent.{Lent, searchRefusal}
+use Rattle.search.specs.Calls.{answer, searchAssignment, cleared}
 
 -- What is lent is the same within the full limits. The list of numbers has none.
 pub record SameLent (l m : Lent) : Type 0 where

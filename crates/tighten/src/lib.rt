@@ -3,7 +3,7 @@ ghost use mathlib.Core.Path.{_≡_};
 ghost use Prim.Native.Nat.{_≤_};
 ghost use Rattle.plpb.specs.Plan.{floorCost};
 ghost use Rattle.settings.specs.Settings.{settingsOf};
-ghost use Rattle.tries.specs.Steps.{work};
+ghost use Rattle.lending.specs.Work.{work};
 ghost use Rattle.progress.specs.Bounds.{basis, Room, Tracks, Tightens};
 use descent::descend;
 use progress::Called;

@@ -1,3 +1,2 @@
 -- The laws behind moves, tries and calls, in reading order.
-pub mod Moving
 pub mod Trying

@@ -5,7 +5,7 @@ use mathlib.Core.Path.{_≡_, refl, sym, ap, ap₂, _∙_, subst}
 use mathlib.Core.Bool.{Bool, true, false, cond, true≢false}
 use mathlib.Core.Logic.{_≢_}
 use mathlib.Core.List.{List, [], _∷_, _++_}
-use lib.Dec.{T, leb, eqb}
+use lib.Dec.{leb, eqb}
 use lib.ListN.{length, take, drop}
 use borrow.Author.Tests.{eq-eqb, ne-eqb}
 use types.Run.{OneOf, miss}
@@ -32,14 +32,16 @@ use Rattle.numbers.specs.Taking.{Starts}
 use Rattle.numbers.proofs.Taking.{length-numbersOf, length-start, started-taken, started-short, words-use}
 use Rattle.plpb.proofs.Tallies.{look-by-count}
 use Rattle.numbers.proofs.Runs.{counted as counted-down, flipping-none, flipping-found, flipping-moved, flipping-stuck, flipping-short, try-started, try-short, trying-none, trying-next, trying-found, trying-short, run-call}
-use Rattle.tries.specs.declared.moves.Moved.{Moved}
-use Rattle.tries.specs.declared.moves.Moved.the-variants as moved
-use Rattle.tries.proofs.moves.Moved.{the-type as move-type}
+use Rattle.moves.specs.declared.Moved.{Moved}
+use Rattle.moves.specs.declared.Moved.the-variants as moved
+use Rattle.moves.proofs.Moved.{the-type as move-type}
 use Rattle.tries.specs.declared.Tried.{Tried}
 use Rattle.tries.proofs.Tried.{the-type}
 use Rattle.tries.specs.declared.Tried.the-variants as tried
-use Rattle.tries.specs.Steps.{Work, bitsIn, tryIn, Startable, Walking, Beyond, movedOf, usedIn, IfMade, Moves, triedOf, stoppedAt, usedBy, flipsBy, IfReached, Tries}
-use Rattle.tries.proofs.Moving.{unsatisfied-word}
+use Rattle.lending.specs.Work.{Work, Beyond}
+use Rattle.moves.specs.Moves.{bitsIn, tryIn, Walking, movedOf, usedIn, IfMade, Moves}
+use Rattle.tries.specs.Steps.{Startable, triedOf, stoppedAt, usedBy, flipsBy, IfReached, Tries}
+use Rattle.moves.proofs.Moving.{unsatisfied-word}
 use Rattle.format.specs.Layout.{tableSize, unsatisfiedAt}
 use Rattle.locks.specs.Held.{heldBytes}
 use Rattle.locks.proofs.Holding.{bytes-held}

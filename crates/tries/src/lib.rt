@@ -5,13 +5,12 @@ ghost use lib.ListN.{length};
 ghost use Rattle.plpb.specs.Search.{flipping, try, call as called};
 ghost use Rattle.format.specs.Tables.{planOfTables};
 ghost use Rattle.settings.specs.Settings.{settingsOf};
-ghost use Rattle.tries.specs.Steps.{Startable, Walking, Tries, tryIn, stoppedAt, work};
-
-mod moves;
-
-use crate::moves::Moved;
-use crate::moves::make_move;
+ghost use Rattle.tries.specs.Steps.{Startable, Tries, stoppedAt};
+ghost use Rattle.moves.specs.Moves.{Walking, tryIn};
+ghost use Rattle.lending.specs.Work.{work};
 use locks::hold_locks;
+use moves::Moved;
+use moves::make_move;
 use numbers::Started;
 use numbers::start;
 use recount::open::open_core;

@@ -2,7 +2,8 @@
 use borrow.Author.Needs.{needs}
 use native.Mathlib.Omega.{arith}
 use mathlib.Core.Path.{_∙_}
-use Rattle.respond.proofs.Responding.{written, output-long, output-read, plan-refused, plan-loaded, plan-accepted}
+use Rattle.report.proofs.Reporting.{written}
+use Rattle.respond.proofs.Responding.{output-long, output-read, plan-refused, plan-loaded, plan-accepted}
 use Rattle.respond.proofs.respond.Statement.{statement}
 use Rattle.respond.proofs.respond.Tie as tie
 

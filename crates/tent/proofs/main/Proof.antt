@@ -2,7 +2,7 @@
 use borrow.Author.Needs.{needs}
 use mathlib.Core.Path.{sym}
 use lib.Seq.{length-take-le}
-use Rattle.respond.proofs.Answering.{front-fits}
+use Rattle.answers.proofs.Lines.{front-fits}
 use Rattle.tent.proofs.main.Statement.{statement}
 use Rattle.tent.proofs.main.Tie as tie
 

@@ -4,7 +4,7 @@ use borrow.Author.Needs.{needs}
 use native.Mathlib.Omega.{arith}
 use mathlib.Core.Path.{_∙_}
 use Rattle.settings.specs.Settings.{settingsOf}
-use Rattle.tries.proofs.Moving.{tally-room}
+use Rattle.moves.proofs.Moving.{tally-room}
 use Rattle.tries.proofs.Trying.{Flipping, flips-begin, flips-found, flips-more, flips-stopped, flips-end, sized-on}
 use Rattle.tries.proofs.make_flips.Statement.{statement}
 use Rattle.tries.proofs.make_flips.Tie as tie

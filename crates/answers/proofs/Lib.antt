@@ -1,0 +1,2 @@
+-- The laws behind the two lines of an answer.
+pub mod Lines

@@ -1,0 +1,2 @@
+-- The laws behind the tests of what is lent.
+pub mod Tests

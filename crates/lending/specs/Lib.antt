@@ -1,0 +1,3 @@
+-- What a search is lent.
+pub mod Work
+pub mod Lent

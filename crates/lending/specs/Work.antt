@@ -1,0 +1,22 @@
+-- What the walk writes, and what it leaves as it was.
+-- Assumes nothing.
+use Prim.Native.Nat.{ℕ}
+use mathlib.Core.Path.{_≡_}
+use mathlib.Core.List.{List}
+use lib.ListN.{drop}
+use Rattle.format.specs.Layout.{tallySize}
+
+-- What the walk writes: an assignment, its tallies, and the choice's marks.
+pub record Work : Type 0 where
+  pub assignment : List ℕ
+  pub tallies : List ℕ
+  pub marks : List ℕ
+
+abbrev pub work : List ℕ → List ℕ → List ℕ → Work
+work assignment tallies marks = record { assignment = assignment; tallies = tallies; marks = marks }
+
+-- Nothing past the bytes that the walk uses has changed.
+pub record Beyond (n : ℕ) (w v : Work) : Type 0 where
+  pub assignment : drop n (v .assignment) ≡ drop n (w .assignment)
+  pub tallies : drop tallySize (v .tallies) ≡ drop tallySize (w .tallies)
+  pub marks : drop n (v .marks) ≡ drop n (w .marks)

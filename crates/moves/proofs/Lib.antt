@@ -1,0 +1,2 @@
+-- The laws behind one step of the walk.
+pub mod Moving

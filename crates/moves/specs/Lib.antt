@@ -1,0 +1,2 @@
+-- What one step of the walk answers and leaves.
+pub mod Moves

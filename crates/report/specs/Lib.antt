@@ -1,0 +1,2 @@
+-- What is printed once a plan is read.
+pub mod Report
