@@ -1,0 +1,2 @@
+-- RFC 4180's rules as they are printed.
+pub mod Abnf
