@@ -18,6 +18,7 @@ pub mod mapper;
 pub mod plan;
 pub mod program;
 pub mod random;
+pub mod squeeze;
 pub mod tallies;
 pub mod walk;
 pub mod worked;
