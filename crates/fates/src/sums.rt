@@ -1,4 +1,15 @@
 // Sums over the terms of a field: what the locked variables give, and the least and the greatest sum of the others.
+ghost use mathlib.Core.Path.{_≡_};
+ghost use mathlib.Core.Bool.{true};
+ghost use Prim.Native.Nat.{_+_, _*_, _≤_, _<_};
+ghost use lib.IntN.{natAbs, _+ℤ_};
+ghost use lib.ListN.{length};
+ghost use Rattle.plpb.specs.Plan.{negativePart};
+ghost use Rattle.format.specs.Limits.{maxVariables};
+ghost use Rattle.format.specs.File.{termsAt};
+ghost use Rattle.squeezed.specs.Squeezed.{positivePart};
+ghost use Rattle.fates.specs.Codes.{decode, decoded, mapSize};
+ghost use Rattle.fates.specs.Sums.{partOf, partTotal, smallTerms};
 
 pub enum Part {
     Given,
@@ -8,28 +19,31 @@ pub enum Part {
 
 // A weight where it is negative, else 0; and where it is not.
 fn negative(weight: i32) -> i32
+    ensures { λ r. ⌜ r ≡ negativePart weight ⌝ }
 {
     if weight < 0 { weight } else { 0 }
 }
 
 fn positive(weight: i32) -> i32
+    ensures { λ r. ⌜ r ≡ positivePart weight ⌝ }
 {
     if weight < 0 { 0 } else { weight }
 }
 
-// What a term gives to a sum, by its variable's code.
-fn part_of(part: Part, code: u32, weight: i32) -> i32
+// What a term gives to a sum: of a variable that is locked at 1, and of one that goes on.
+fn part_on(part: Part, weight: i32) -> i32
+    ensures { λ r. ⌜ r ≡ partOf part (decode 514) weight ⌝ }
 {
-    if code == crate::OFF {
-        return 0;
+    match part {
+        Part::Given => weight,
+        Part::Least => 0,
+        Part::Greatest => 0,
     }
-    if code == crate::ON {
-        return match part {
-            Part::Given => weight,
-            Part::Least => 0,
-            Part::Greatest => 0,
-        };
-    }
+}
+
+fn part_left(part: Part, weight: i32) -> i32
+    ensures { λ r. ⌜ r ≡ partOf part (decode 0) weight ⌝ }
+{
     match part {
         Part::Given => 0,
         Part::Least => negative(weight),
@@ -37,12 +51,30 @@ fn part_of(part: Part, code: u32, weight: i32) -> i32
     }
 }
 
+// .. by its variable's code.
+fn part_of(part: Part, code: u32, weight: i32) -> i32
+    ensures { λ r. ⌜ r ≡ partOf part (decode code) weight ⌝ }
+{
+    if code == crate::OFF {
+        return 0;
+    }
+    if code == crate::ON {
+        return part_on(part, weight);
+    }
+    part_left(part, weight)
+}
+
 fn plus(a: i32, b: i32) -> i32
+    requires { ⌜ natAbs a + natAbs b < 2_147_483_648 ⌝ }
+    ensures { λ r. ⌜ r ≡ a +ℤ b ⌝ }
 {
     a + b
 }
 
 pub fn sum(file: &[u8], from: usize, count: usize, map: &[u8], part: Part) -> i32
+    requires { ⌜ (from + 6 * count ≤ length (now file)) × (mapSize ≤ length (now map)) × (count ≤ maxVariables) ⌝ }
+    requires { ⌜ smallTerms (termsAt (now file) from count) ≡ true ⌝ }
+    ensures { λ r. ⌜ r ≡ partTotal part (decoded (now (map .entry))) (termsAt (now (file .entry)) from count) ⌝ }
 {
     let mut at = from;
     let mut left = count;

@@ -10,8 +10,8 @@ ghost use Rattle.tables.specs.Load.{loading, tablesAfter, termsAfter};
 ghost use Rattle.tables.specs.Places.{Accepts, planOfFile};
 
 mod entries;
-mod fields;
-mod sections;
+pub mod fields;
+pub mod sections;
 
 pub use verdict::Answer;
 

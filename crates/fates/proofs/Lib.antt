@@ -1,0 +1,3 @@
+-- The laws of codes, sums, rules and clauses.
+pub mod Parts
+pub mod Judging
