@@ -28,5 +28,6 @@ Begins s at = (n : ℕ) × (cs : List Clause) × Rest n s at [] cs
 -- The rules left of a clause were run through: whether one is always met, whether one is possible, and what stands behind them.
 unfoldable pub Ran : (ℕ → Becomes) → List ℕ → ℕ → Bool → Bool → ℕ → Type 0
 Ran f s from met kept next =
-    (n : ℕ) (rs : List Rule) (cs : List Clause) → Rest n s from rs cs
-    → (met ≡ any always (map (putIn f) rs)) × (kept ≡ any possible (map (putIn f) rs)) × Rest n s next [] cs
+    (from ≤ next)
+    × ((n : ℕ) (rs : List Rule) (cs : List Clause) → Rest n s from rs cs
+    → (met ≡ any always (map (putIn f) rs)) × (kept ≡ any possible (map (putIn f) rs)) × Rest n s next [] cs)
