@@ -1,0 +1,2 @@
+-- The laws of bytes rewritten in place.
+pub mod Putting

@@ -1,0 +1,2 @@
+-- What stands in the buffer after rules or clauses were rewritten: what is left of them from one place on, and the fields not yet read from another.
+-- Assumes nothing.
