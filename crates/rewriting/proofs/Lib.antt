@@ -1,2 +1,3 @@
 -- The laws of bytes rewritten in place.
 pub mod Putting
+pub mod Termwise

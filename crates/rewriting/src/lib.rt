@@ -1,2 +1,3 @@
 // A plan file rewritten in its own buffer, without its locked variables. What is written never reaches past what was read.
 pub mod fields;
+pub mod terms;
