@@ -4,8 +4,8 @@ use Prim.Native.Nat.{ℕ, suc, _+_, _-_, _/_, _%_, _≤_, _<_}
 use native.Mathlib.Omega.{arith}
 use mathlib.Core.Path.{_≡_, refl, sym, ap, ap₂, _∙_}
 use mathlib.Core.List.{List, [], _∷_, _++_, append-assoc}
-use lib.ListN.{length, take, drop, set, length-append}
-use lib.Seq.{drop-drop, drop-at, length-take-le}
+use lib.ListN.{length, take, drop, set, length-append, take-append-drop}
+use lib.Seq.{drop-drop, drop-at, length-take-le, take-append-le, take-take}
 use Rattle.words.specs.Words.{numAt, bytesOf}
 use Rattle.words.specs.Writes.{front, put}
 use Rattle.words.proofs.Words.{length-bytesOf, numAt-drop}
@@ -43,3 +43,55 @@ drop-put from at bs s h l =
 -- A number is read alike where the bytes from a place on are alike.
 pub same-num : (k from i : ℕ) (s t : List ℕ) → drop from s ≡ drop from t → numAt k s (from + i) ≡ numAt k t (from + i)
 same-num k from i s t e = sym (numAt-drop k from s i) ∙ ap (λ l. numAt k l i) e ∙ numAt-drop k from t i
+
+-- A write over what stands before another joins it.
+take-put : (n at : ℕ) (bs s : List ℕ) → n ≤ at → at ≤ length s → take n (put at bs s) ≡ take n s
+unfolding put front
+take-put n at bs s h l =
+    let e : n ≤ length (take at s) = omega (arith, length-take-le at s l) in
+    take-append-le n (take at s) (bs ++ drop (length bs) (drop at s)) e ∙ take-take n at s h
+
+drop-written : (at : ℕ) (bs s : List ℕ) → at ≤ length s → drop at (put at bs s) ≡ bs ++ drop (at + length bs) s
+unfolding put front
+drop-written at bs s h =
+    drop-at (take at s) (bs ++ drop (length bs) (drop at s)) at (length-take-le at s h) ∙ ap (λ l. bs ++ l) (drop-drop (length bs) at s)
+
+pub put-before : (s : List ℕ) (at : ℕ) (xs ys : List ℕ) {t u : List ℕ} {to : ℕ} → at + length xs ≤ length s → to ≡ at + length xs → t ≡ put to ys s
+    → u ≡ put at xs t → u ≡ put at (xs ++ ys) s
+put-before s at xs ys {t} h p q r =
+    let n = at + length xs in
+    let e : t ≡ put n ys s = q ∙ ap (λ m. put m ys s) p in
+    let m : n + length ys ≡ at + length (xs ++ ys) = omega (arith, length-append xs ys) in
+    r ∙ ap (put at xs) e ∙ whole at xs (put n ys s)
+    ∙ ap₂ (λ a b. (a ++ xs) ++ b) (take-put at n ys s (omega arith) h) (drop-written n ys s h)
+    ∙ sym (append-assoc (take at s ++ xs) ys (drop (n + length ys) s))
+    ∙ ap₂ (λ a k. a ++ drop k s) (append-assoc (take at s) xs ys) m
+    ∙ sym (whole at (xs ++ ys) s)
+
+-- ---- laying down: what stands, and what is still to be written, come to the goal
+
+pub record Laying (s₀ : List ℕ) (to : ℕ) (goal s : List ℕ) (end : ℕ) (rest : List ℕ) : Type 0 where
+  pub same : length s ≡ length s₀
+  pub laid : put end rest s ≡ put to goal s₀
+  pub ends : end + length rest ≡ to + length goal
+
+pub laying-start : (s : List ℕ) (to : ℕ) (goal : List ℕ) → Laying s to goal s to goal
+laying-start s to goal = record { same = refl; laid = refl; ends = refl }
+
+pub put-none : (at : ℕ) (s : List ℕ) → put at [] s ≡ s
+unfolding put front
+put-none at s = take-append-drop at s
+
+module _ {s₀ : List ℕ} {to : ℕ} {goal s : List ℕ} {end : ℕ} where
+  pub laying-more : (bs rest : List ℕ) {all t : List ℕ} {next : ℕ} → Laying s₀ to goal s end all → all ≡ bs ++ rest → end + length bs ≤ length s
+      → t ≡ put end bs s → next ≡ end + length bs → Laying s₀ to goal t next rest
+  laying-more bs rest l e h p q =
+      record {
+        same = ap length p ∙ length-put end bs s h ∙ l .same;
+        laid = ap₂ (λ m x. put m rest x) q p ∙ put-put end bs rest s h ∙ ap (λ x. put end x s) (sym e) ∙ l .laid;
+        ends = omega (arith, q, length-append bs rest, ap length e, l .ends);
+      }
+
+  pub laying-done : {all : List ℕ} → Laying s₀ to goal s end all → all ≡ [] → (s ≡ put to goal s₀) × (end ≡ to + length goal)
+  laying-done l e =
+      (sym (put-none end s) ∙ ap (λ x. put end x s) (sym e) ∙ l .laid, omega (arith, ap length e, l .ends))

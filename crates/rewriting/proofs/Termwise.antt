@@ -7,14 +7,13 @@ use mathlib.Core.Path.{_≡_, refl, sym, ap, ap₂, _∙_}
 use mathlib.Core.Bool.{Bool, true, false}
 use mathlib.Core.List.{List, [], _∷_, _++_, map, append-assoc, append-nil}
 use lib.IntN.{ℤ}
-use lib.ListN.{length, drop, length-append, take-append-drop}
+use lib.ListN.{length, drop, length-append}
 use lib.Seq.{drop-drop}
 use Rattle.plpb.specs.Lists.{all, concat}
 use Rattle.plpb.specs.Plan.{Term}
 use Rattle.words.specs.Words.{numAt, wordAt, bytesOf, signed, unsigned}
-use Rattle.words.specs.Writes.{front, put}
+use Rattle.words.specs.Writes.{put}
 use Rattle.words.proofs.Words.{length-bytesOf, unsigned-signed}
-use Rattle.words.proofs.Writes.{put-put, length-put}
 use Rattle.format.specs.File.{termAt, termsAt}
 use Rattle.format.specs.Writer.{termBytes}
 use Rattle.format.proofs.Bools.{and-right}
@@ -25,11 +24,7 @@ use Rattle.fates.specs.Codes.{decode, decoded}
 use Rattle.fates.specs.Sums.{smallTerms}
 use Rattle.fates.proofs.Parts.{decode-other, Small, small-at}
 use Rattle.rewriting.specs.Written.{termsWritten}
-use Rattle.rewriting.proofs.Putting.{drop-put, same-num}
-
-pub put-none : (at : ℕ) (s : List ℕ) → put at [] s ≡ s
-unfolding put front
-put-none at s = take-append-drop at s
+use Rattle.rewriting.proofs.Putting.{drop-put, same-num, put-none, Laying, laying-start, laying-more, laying-done}
 
 -- ---- one term
 
@@ -78,16 +73,14 @@ module _ (s₀ map : List ℕ) (from count to : ℕ) where
 
   -- With the terms from a place on still to come: they stand as they stood, and what is to be written is what was to be.
   pub record Keeping (s : List ℕ) (at left end : ℕ) : Type 0 where
-    pub same : length s ≡ length s₀
     pub place : at + 6 * left ≡ from + 6 * count
     pub behind : end ≤ at
     pub small : smallTerms (termsAt s₀ at left) ≡ true
     pub ahead : drop at s ≡ drop at s₀
-    pub laid : put end (termsWritten f (termsAt s₀ at left)) s ≡ put to (termsWritten f (termsAt s₀ from count)) s₀
-    pub ends : end + length (termsWritten f (termsAt s₀ at left)) ≡ to + length (termsWritten f (termsAt s₀ from count))
+    pub laying : Laying s₀ to (termsWritten f (termsAt s₀ from count)) s end (termsWritten f (termsAt s₀ at left))
 
   pub keeping-none : smallTerms (termsAt s₀ from count) ≡ true → to ≤ from → Keeping s₀ from count to
-  keeping-none h l = record { same = refl; place = refl; behind = l; small = h; ahead = refl; laid = refl; ends = refl }
+  keeping-none h l = record { place = refl; behind = l; small = h; ahead = refl; laying = laying-start s₀ to _ }
 
 -- A term is read as it stood.
 same-term : (s t : List ℕ) (at : ℕ) → drop at s ≡ drop at t → termAt s at ≡ termAt t at
@@ -103,7 +96,7 @@ same-variable s t at e = ap (numAt 2 s) (sym (add-zero at)) ∙ same-num 2 at 0 
 module _ (s₀ map : List ℕ) (from count to : ℕ) (room : from + 6 * count ≤ length s₀) (s : List ℕ) (at left end : ℕ) (some : 0 < left)
     (k : Keeping s₀ map from count to s at left end) where
   pub keeping-room : at + 6 ≤ length s
-  keeping-room = omega (arith, k .place, k .same)
+  keeping-room = omega (arith, k .place, k .laying .same)
 
   pub keeping-variable : numAt 2 s at ≤ 512
   keeping-variable = rw (same-variable s s₀ at (k .ahead)) (small-at s₀ at left some (k .small) .variable)
@@ -134,15 +127,13 @@ module _ (s₀ map : List ℕ) (from count to : ℕ) (room : from + 6 * count �
   keeping-more {t} {to′} e l =
       let fits : end + length first ≤ length s = omega (arith, short, k .behind, keeping-room) in
       record {
-        same = ap length e ∙ length-put end first s fits ∙ k .same;
         place = omega (arith, k .place);
         behind = omega (arith, short, k .behind);
         small = small-rest;
         ahead =
             ap (drop (at + 6)) e ∙ drop-put (at + 6) end first s (omega arith) (omega (arith, short, k .behind))
             ∙ sym (drop-drop 6 at s) ∙ ap (drop 6) (k .ahead) ∙ drop-drop 6 at s₀;
-        laid = ap₂ (λ m x. put m rest x) l e ∙ put-put end first rest s fits ∙ ap (λ bs. put end bs s) all-written ∙ k .laid;
-        ends = omega (arith, l, length-append first rest, ap length all-written, k .ends);
+        laying = laying-more first rest (k .laying) (sym all-written) fits e l;
       }
 
 pub keeping-all : (s₀ map : List ℕ) (from count to : ℕ) (s : List ℕ) (at left end : ℕ) → left ≤ 0 → Keeping s₀ map from count to s at left end
@@ -150,4 +141,4 @@ pub keeping-all : (s₀ map : List ℕ) (from count to : ℕ) (s : List ℕ) (at
 unfolding termsAt termsWritten termsLeft concat
 keeping-all s₀ map from count to s at left end l k =
     let n : left ≡ 0 = omega arith in
-    (sym (put-none end s) ∙ (rw n at (k .laid)), sym (add-zero end) ∙ (rw n at (k .ends)))
+    laying-done (k .laying) (ap (λ m. termsWritten (decoded map) (termsAt s₀ at m)) n)

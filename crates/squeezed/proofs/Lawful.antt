@@ -223,7 +223,7 @@ module _ (f : ℕ → Becomes) where
   unfolding putIn
   put-terms r = fewer-terms (r .terms)
 
-  rules-terms : (c : Clause) → sumBy termsOf (rulesLeft f c) ≤ sumBy termsOf c
+  pub rules-terms : (c : Clause) → sumBy termsOf (rulesLeft f c) ≤ sumBy termsOf c
   unfolding rulesLeft keep sumBy
   rules-terms [] = zero-le
   rules-terms (r ∷ rs) =

@@ -24,7 +24,7 @@ keep-term-requires c κs =
     start .pre .3)
 
 add-at : tie.Need-add-at Inv-loop μ-loop
-add-at c = omega (arith, keeping-room _ _ _ _ _ (c .before .before .before .before .before .before .before .before .pre .0) _ _ _ _ (c .before .before .before .before .loop-test .taken) (c .before .before .before .before .before .loop .inv), c .before .before .before .before .before .loop .inv .same)
+add-at c = omega (arith, keeping-room _ _ _ _ _ (c .before .before .before .before .before .before .before .before .pre .0) _ _ _ _ (c .before .before .before .before .loop-test .taken) (c .before .before .before .before .before .loop .inv), c .before .before .before .before .before .loop .inv .laying .same)
 
 loop-again : tie.Need-loop-again Inv-loop μ-loop
 loop-again c =
@@ -42,5 +42,5 @@ keep-terms-spec =
     (λ c. omega arith)
     (λ c. omega arith)
     loop-again
-    (λ c. c .before .loop .inv .same)
+    (λ c. c .before .loop .inv .laying .same)
     (λ c. keeping-all _ _ _ _ _ _ _ _ _ (c .loop-test .left) (c .before .loop .inv)))
