@@ -17,6 +17,7 @@ use Rattle.words.specs.Writes.{put}
 use Rattle.words.proofs.Words.{length-bytesOf}
 use Rattle.format.specs.File.{tagAt, lengthAt, termsIn, fieldTerms, ruleAt}
 use Rattle.format.specs.Writer.{field, termBytes, mode, boundNumber, ruleField, clauseFields}
+use Rattle.format.proofs.Peel.{length-termsAt}
 use Rattle.format.proofs.Sizes.{termsOf, length-rules}
 use Rattle.tables.specs.Places.{behindField}
 use Rattle.squeezed.specs.Squeezed.{Becomes, termsLeft, putIn, possible, always, trimmed, rulesLeft, remains, clausesLeft}
@@ -24,6 +25,7 @@ use Rattle.squeezed.proofs.Lawful.{fewer-rules, rules-terms}
 use Rattle.fates.specs.Codes.{decoded}
 use Rattle.fates.specs.Rules.{modeLeft, RuleFits}
 use Rattle.fates.specs.Rest.{Rest}
+use Rattle.fates.proofs.Judging.{rule-terms}
 use Rattle.fates.proofs.Running.{possible-mode}
 use Rattle.fates.proofs.Resting.{rest-rule, rest-none, no-rules, rest-room}
 use Rattle.rewriting.specs.Written.{termsWritten, rulesWritten, clausesWritten}
@@ -122,3 +124,75 @@ module _ (f : ℕ → Becomes) (r : Rule) where
   pub rule-short : length (rulesWritten f (r ∷ [])) ≤ 12 + 6 * length (r .terms)
   unfolding rulesWritten sumBy
   rule-short = omega (arith, length-rules (rulesLeft f (r ∷ [])), fewer-rules f (r ∷ []), rules-terms f (r ∷ []))
+
+-- ---- rules one after the other
+
+rules-by : (t : Bool) (r : Rule) (rs : List Rule)
+    → concat (map ruleField (map trimmed (cond t (r ∷ rs) rs)))
+    ≡ concat (map ruleField (map trimmed (cond t (r ∷ []) []))) ++ concat (map ruleField (map trimmed rs))
+unfolding concat
+rules-by true r rs = ap (λ l. l ++ concat (map ruleField (map trimmed rs))) (sym (append-nil (ruleField (trimmed r))))
+rules-by false r rs = refl
+
+rules-split : (f : ℕ → Becomes) (r : Rule) (rs : List Rule) → rulesWritten f (r ∷ rs) ≡ rulesWritten f (r ∷ []) ++ rulesWritten f rs
+unfolding rulesWritten rulesLeft keep
+rules-split f r rs = rules-by (possible (putIn f r)) (putIn f r) (keep possible (map (putIn f) rs))
+
+-- What is left of a rule is no longer than its field.
+rule-within : (f : ℕ → Becomes) (s : List ℕ) (at : ℕ) → RuleFits s at → at + length (rulesWritten f (ruleAt s at ∷ [])) ≤ behindField s at
+unfolding behindField termsIn ruleAt
+rule-within f s at r =
+    let few = ap length (rule-terms r) ∙ length-termsAt s (termsIn 4 (lengthAt s at)) (at + 12) in
+    omega (arith, rule-short f (ruleAt s at), few, r .size)
+
+-- The bytes from a place on are the same: so is what stands there.
+pub rest-same : {n : ℕ} {s t : List ℕ} {at : ℕ} {rs : List Rule} {cs : List Clause} → drop at t ≡ drop at s → Rest n s at rs cs → Rest n t at rs cs
+rest-same e h = record { high = h .high; bytes = e ∙ h .bytes; rules = h .rules; clauses = h .clauses }
+
+module _ (f : ℕ → Becomes) (s₀ : List ℕ) (from to : ℕ) where
+  -- Where rewriting is: the rules left stand as they stood, and what is to be written is what was to be.
+  pub record MovingAt (s : List ℕ) (at end n : ℕ) (rs : List Rule) (cs : List Clause) : Type 0 where
+    pub left : List Rule
+    pub rest : Rest n s at left cs
+    pub laying : Laying s₀ to (rulesWritten f rs) s end (rulesWritten f left)
+    pub behind : end ≤ at
+
+  abbrev pub Moving : List ℕ → ℕ → ℕ → Type 0
+  Moving s at end = (from ≤ at) × ((n : ℕ) (rs : List Rule) (cs : List Clause) → Rest n s₀ from rs cs → MovingAt s at end n rs cs)
+
+  pub moving-start : to ≤ from → Moving s₀ from to
+  moving-start h = (le-refl from, λ n rs cs r. record { left = rs; rest = r; laying = laying-start s₀ to (rulesWritten f rs); behind = h })
+
+  module _ (s : List ℕ) (at end : ℕ) where
+    one-moved : {t : List ℕ} {next e n : ℕ} {rs : List Rule} {cs : List Clause} → tagAt s at ≡ 4 → next ≡ behindField s at
+        → Laid s end (rulesWritten f (ruleAt s at ∷ [])) t e → MovingAt s at end n rs cs → MovingAt t next e n rs cs
+    unfolding Laid
+    one-moved {t} {next} {e} {n} {rs} {cs} tag p l m =
+        let r = rest-rule (m .rest) tag in
+        let bs = rulesWritten f (ruleAt s at ∷ []) in
+        let within = rule-within f s at (r .fits) in
+        let fits : end + length bs ≤ length s = omega (arith, within, m .behind, r .fits .room) in
+        let low : end ≤ length s = omega arith in
+        let far : end + length bs ≤ behindField s at = omega (arith, within, m .behind) in
+        record {
+          left = r .rest;
+          rest =
+              subst (λ k. Rest n t k (r .rest) cs) (sym p)
+              (rest-same (ap (drop (behindField s at)) (l .0) ∙ drop-put (behindField s at) end bs s low far) (r .behind));
+          laying =
+              laying-more bs (rulesWritten f (r .rest)) (m .laying) (ap (rulesWritten f) (r .split) ∙ rules-split f (ruleAt s at) (r .rest)) fits (l .0) (l .1);
+          behind = omega (arith, far, l .1);
+        }
+
+    pub moving-more : {t : List ℕ} {next e : ℕ} → Moving s at end → tagAt s at ≡ 4 → next ≡ behindField s at
+        → Laid s end (rulesWritten f (ruleAt s at ∷ [])) t e → Moving t next e
+    unfolding behindField
+    moving-more m tag p l = (omega (arith, m .0, p), λ n rs cs r. one-moved tag p l (m .1 n rs cs r))
+
+    pub moving-end : Moving s at end → (tagAt s at ≡ 4 → ⊥) → RulesMoved f s₀ from to s at end
+    unfolding RulesMoved Laid rulesWritten rulesLeft keep concat
+    moving-end m tag =
+        (m .0,
+        λ n rs cs r.
+        let a = m .1 n rs cs r in
+        (laying-done (a .laying) (ap (rulesWritten f) (no-rules (a .rest) tag)), a .behind, rest-none (a .rest) tag))
