@@ -146,6 +146,16 @@ module _ (n : ℕ) (s : List ℕ) (at : ℕ) where
     pub lawful : clauseLawful n first ≡ true
     pub behind : Rest n s (at + 3) first rest
 
+  opened-by : (c : Clause) (cs : List Clause) → Rest n s at [] (c ∷ cs) → Rest n s (at + 3) c cs
+  unfolding all clauseLawful
+  opened-by c cs h =
+      record {
+        high = h .high;
+        bytes = place-body s at 3 [] _ (clause-bytes c cs h);
+        rules = clause-rules n c (and-left _ _ (h .clauses));
+        clauses = and-right _ _ (h .clauses);
+      }
+
   begun-by : (cs : List Clause) → Rest n s at [] cs → tagAt s at ≡ 3 → Begun cs
   unfolding all clauseLawful
   begun-by [] h e = absurd (omega (arith, place-tag s at 5 [] [] (end-bytes h)))
@@ -155,13 +165,7 @@ module _ (n : ℕ) (s : List ℕ) (at : ℕ) where
         rest = cs;
         split = refl;
         lawful = and-left _ _ (h .clauses);
-        behind =
-            record {
-              high = h .high;
-              bytes = place-body s at 3 [] _ (clause-bytes c cs h);
-              rules = clause-rules n c (and-left _ _ (h .clauses));
-              clauses = and-right _ _ (h .clauses);
-            };
+        behind = opened-by c cs h;
       }
 
   end-by : (cs : List Clause) → Rest n s at [] cs → (tagAt s at ≡ 3 → ⊥) → cs ≡ []
@@ -181,6 +185,9 @@ module _ {n : ℕ} {s : List ℕ} {at : ℕ} {rs : List Rule} {cs : List Clause}
 module _ {n : ℕ} {s : List ℕ} {at : ℕ} {cs : List Clause} where
   pub rest-clause : Rest n s at [] cs → tagAt s at ≡ 3 → Begun n s at cs
   rest-clause h e = begun-by n s at cs h e
+
+  pub rest-opened : {c : Clause} → Rest n s at [] (c ∷ cs) → Rest n s (at + 3) c cs
+  rest-opened {c} h = opened-by n s at c cs h
 
   pub no-clauses : Rest n s at [] cs → (tagAt s at ≡ 3 → ⊥) → cs ≡ []
   no-clauses h e = end-by n s at cs h e

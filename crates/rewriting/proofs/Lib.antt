@@ -2,3 +2,4 @@
 pub mod Putting
 pub mod Termwise
 pub mod Rulewise
+pub mod Clausewise

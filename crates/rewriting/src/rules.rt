@@ -71,3 +71,31 @@ fn keep_rules(file: &mut [u8], from: usize, map: &[u8], to: usize) -> Places
     }
     Places { at, to: end }
 }
+
+// Writes what is left of a clause, if it is not dropped.
+fn keep_clause(file: &mut [u8], at: usize, map: &[u8], to: usize) -> Places
+    requires { ⌜ ((n : ℕ) × (c : Clause) × (cs : List Clause) × Rest n (now file) at [] (c ∷ cs)) × (to ≤ at) × (mapSize ≤ length (now map)) ⌝ }
+    ensures { λ r. ⌜ ClauseMoved (decoded (now (map .entry))) (now (file .entry)) at to (now (file .exit)) (r .at) (r .to) ⌝ }
+{
+    let run = clause::run_rules(file, at + 3, map);
+    if run.met {
+        return Places { at: run.next, to };
+    }
+    fields::put_head(file, to, 3, 0);
+    keep_rules(file, at + 3, map, to + 3)
+}
+
+// Writes what is left of all clauses; it answers the place behind.
+pub fn keep_clauses(file: &mut [u8], from: usize, map: &[u8], to: usize) -> usize
+    requires { ⌜ Begins (now file) from × (to ≤ from) × (mapSize ≤ length (now map)) ⌝ }
+    ensures { λ r. ⌜ ClausesMoved (decoded (now (map .entry))) (now (file .entry)) from to (now (file .exit)) r ⌝ }
+{
+    let mut at = from;
+    let mut end = to;
+    while file[at] == 3 {
+        let places = keep_clause(file, at, map, end);
+        at = places.at;
+        end = places.to;
+    }
+    end
+}
