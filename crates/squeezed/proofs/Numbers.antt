@@ -51,11 +51,11 @@ module _ (q : ℕ → Bool) where
   up-less m (suc n) h e = omega (arith, up-pass n e, up-mono m n (omega arith))
 
   -- The numbers that pass, one number more.
-  keep-pass : (n : ℕ) → q (suc n) ≡ true → keep q (row 1 (suc n)) ≡ keep q (row 1 n) ++ (suc n ∷ [])
+  pub keep-pass : (n : ℕ) → q (suc n) ≡ true → keep q (row 1 (suc n)) ≡ keep q (row 1 n) ++ (suc n ∷ [])
   unfolding keep
   keep-pass n e = ap (keep q) (row-more n) ∙ keep-append q (row 1 n) (suc n ∷ []) ∙ rw e
 
-  keep-fail : (n : ℕ) → q (suc n) ≡ false → keep q (row 1 (suc n)) ≡ keep q (row 1 n) ++ []
+  pub keep-fail : (n : ℕ) → q (suc n) ≡ false → keep q (row 1 (suc n)) ≡ keep q (row 1 n) ++ []
   unfolding keep
   keep-fail n e = ap (keep q) (row-more n) ∙ keep-append q (row 1 n) (suc n ∷ []) ∙ rw e
 

@@ -1,0 +1,4 @@
+-- The laws of codes and new numbers.
+pub mod Coding
+pub mod Listing
+pub mod Filling

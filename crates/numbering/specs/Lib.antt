@@ -1,0 +1,2 @@
+-- What the functions say that number the unlocked variables.
+pub mod Numbered
