@@ -27,7 +27,7 @@ use Rattle.fates.specs.Rules.{RuleFits}
 use Rattle.fates.specs.Rest.{Rest}
 
 -- Terms of n variables are small.
-terms-small : (n : ℕ) → n ≤ 512 → (ts : List Term) → all (termWithin n) ts ≡ true → smallTerms ts ≡ true
+pub terms-small : (n : ℕ) → n ≤ 512 → (ts : List Term) → all (termWithin n) ts ≡ true → smallTerms ts ≡ true
 unfolding smallTerms all termWithin
 terms-small n h [] e = refl
 terms-small n h (t ∷ ts) e =
@@ -100,9 +100,12 @@ module _ (n : ℕ) (s : List ℕ) (at : ℕ) where
   unfolding concat
   end-bytes h = h .bytes ∙ sym (append-nil (field 5 []))
 
+  no-other : (k : ℕ) → (3 ≡ k → ⊥) → (5 ≡ k → ⊥) → (cs : List Clause) → Rest n s at [] cs → tagAt s at ≡ k → ⊥
+  no-other k three five [] h e = five (sym (place-tag s at 5 [] [] (end-bytes h)) ∙ e)
+  no-other k three five (c ∷ cs) h e = three (sym (place-tag s at 3 [] _ (clause-bytes c cs h)) ∙ e)
+
   no-four : (cs : List Clause) → Rest n s at [] cs → tagAt s at ≡ 4 → ⊥
-  no-four [] h e = omega (arith, place-tag s at 5 [] [] (end-bytes h))
-  no-four (c ∷ cs) h e = omega (arith, place-tag s at 3 [] _ (clause-bytes c cs h))
+  no-four = no-other 4 (λ e. omega arith) (λ e. omega arith)
 
   rule-bytes : (r : Rule) (rs : List Rule) (cs : List Clause) → Rest n s at (r ∷ rs) cs
       → drop at s ≡ ruleField r ++ (concat (map ruleField rs) ++ (concat (map clauseFields cs) ++ field 5 []))
@@ -185,6 +188,10 @@ module _ {n : ℕ} {s : List ℕ} {at : ℕ} {rs : List Rule} {cs : List Clause}
 module _ {n : ℕ} {s : List ℕ} {at : ℕ} {cs : List Clause} where
   pub rest-clause : Rest n s at [] cs → tagAt s at ≡ 3 → Begun n s at cs
   rest-clause h e = begun-by n s at cs h e
+
+  -- No field of locks stands where a clause or the end does.
+  pub no-locks : Rest n s at [] cs → tagAt s at ≡ 6 → ⊥
+  no-locks h e = no-other n s at 6 (λ z. omega arith) (λ z. omega arith) cs h e
 
   pub rest-opened : {c : Clause} → Rest n s at [] (c ∷ cs) → Rest n s (at + 3) c cs
   rest-opened {c} h = opened-by n s at c cs h

@@ -1,0 +1,3 @@
+-- The laws of a file rewritten whole, and of a squeeze.
+pub mod Opening
+pub mod Wholly
