@@ -13,6 +13,7 @@ use borrow.Author.Tests.{eq-eqb, ne-eqb, le-leb, leb-true}
 use Rattle.plpb.specs.Lists.{_and_, all, concat}
 use Rattle.plpb.specs.Plan.{Term, Clause, Lock, Plan, rising}
 use Rattle.words.specs.Words.{bytesOf}
+use Rattle.words.specs.Writes.{put}
 use Rattle.words.proofs.Words.{Below, below-bytes, length-bytesOf}
 use Rattle.format.specs.Limits.{lockTerm, lockTerms}
 use Rattle.format.specs.File.{accepted, read, tagAt, lengthAt, termsAt}
@@ -30,8 +31,10 @@ use Rattle.fates.specs.Rest.{Rest}
 use Rattle.squeezed.specs.Squeezed.{Becomes}
 use Rattle.rewriting.specs.Written.{termsWritten}
 use Rattle.rewriting.proofs.Termwise.{length-written}
+use Rattle.rewriting.proofs.Putting.{drop-put}
+use Rattle.rewriting.proofs.Rulewise.{rest-same}
 use Rattle.squeeze.specs.Rewritten.{frontBytes}
-use Rattle.fates.proofs.Resting.{no-locks, terms-small}
+use Rattle.fates.proofs.Resting.{no-locks, terms-small, rest-room}
 
 -- The first clause does not stand before what is behind the objective.
 far-by : (s : List ℕ) (at : ℕ) (t : Bool) → eqb (tagAt s at) 6 ≡ t → at ≤ cond t (behindField s at) at
@@ -130,3 +133,14 @@ module _ (s : List ℕ) (p : Plan) (bytes : Below 256 s) (e : read s ≡ accepte
       let tw = termsWritten f (p .objective) in
       omega
       (arith, length-append (field 1 (bytesOf 2 v)) (field 2 tw), length-field 1 (bytesOf 2 v), length-field 2 tw, length-bytesOf 2 v, length-written f (p .objective), length-terms (p .objective), size, first-far s)
+
+  -- The clauses stand as they stood once the front is written.
+  pub clauses-kept : (f : ℕ → Becomes) (v : ℕ) {t : List ℕ} {at : ℕ} → at ≡ firstClause s → t ≡ put 0 (frontBytes f v p) s
+      → Rest (p .variables) t at [] (p .clauses)
+  clauses-kept f v {t} q w =
+      let short = front-short f v in
+      let same = ap (drop (firstClause s)) w ∙ drop-put (firstClause s) 0 (frontBytes f v p) s zero-le (omega arith) in
+      subst (λ k. Rest (p .variables) t k [] (p .clauses)) (sym q) (rest-same same first-rest)
+
+  pub front-fits : (f : ℕ → Becomes) (v : ℕ) → length (frontBytes f v p) ≤ length s
+  front-fits f v = omega (arith, front-short f v, rest-room first-rest)
