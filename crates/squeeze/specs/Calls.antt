@@ -13,6 +13,7 @@ use Rattle.words.specs.Writes.{front}
 use Rattle.format.specs.File.{Reading, refused, accepted, read}
 use Rattle.format.specs.Writer.{write}
 use Rattle.format.specs.Tables.{padTo}
+use Rattle.squeeze.specs.declared.Squeezed.{Squeezed}
 use Rattle.squeezed.specs.Squeezed.{unlocked, squeezed, constant, allLocked, clauseLost}
 
 -- "21 for a list below 512 places", a word each.
@@ -27,6 +28,10 @@ pub record Outcome : Type 0 where
   pub constant : ℤ
   pub file : List ℕ
   pub old : List ℕ
+
+-- The answer's numbers are the outcome's.
+abbrev pub Answers : Squeezed → Outcome → Type 0
+Answers r o = (r .refusal ≡ o .refusal) × (r .offset ≡ o .offset) × (r .length ≡ o .length) × (r .constant ≡ o .constant)
 
 -- "Turned away, with nothing changed".
 unfoldable pub turnedAway : ℕ → ℕ → List ℕ → List ℕ → Outcome
