@@ -5,6 +5,7 @@ ghost use Rattle.counting.specs.Count.{countWords, markedWords};
 ghost use Rattle.tallies.specs.Calls.{openRefusal, openTallies, callRefusal, flipRefusal, flipAssignment, flipTallies, countsBreak, countsMake, lent};
 ghost use Rattle.search.specs.Calls.{Searches, HandsOut};
 ghost use Rattle.lending.specs.Lent.{lentAll};
+ghost use Rattle.squeeze.specs.Calls.{Answers, outcome};
 ghost use Rattle.tables.specs.Load.{refusalOf, offsetOf, loading, tablesAfter, termsAfter};
 use answers::Answer as Searched;
 use calls::counts::Counted;
@@ -13,6 +14,8 @@ use calls::flip::flip;
 use calls::open::open;
 use search::search;
 use settings::Settings;
+use squeeze::Squeezed;
+use squeeze::squeeze;
 use tables::load;
 use verdict::Loaded;
 use verdict::numbers;
@@ -121,4 +124,13 @@ pub extern "C" fn planner_search(
         work_tallies,
         work_marks,
     )
+}
+
+#[no_mangle]
+pub extern "C" fn planner_squeeze(file: &mut [u8], old: &mut [u8]) -> Squeezed
+    ensures { λ r. ⌜ Answers r (outcome (now (file .entry)) (now (old .entry))) ⌝ }
+    ensures { λ _. ⌜ now (file .exit) ≡ outcome (now (file .entry)) (now (old .entry)) .file ⌝ }
+    ensures { λ _. ⌜ now (old .exit) ≡ outcome (now (file .entry)) (now (old .entry)) .old ⌝ }
+{
+    squeeze(file, old)
 }
