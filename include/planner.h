@@ -11,8 +11,8 @@
  *     planner_opened opened = planner_state_open(&state, &plan);
  *     planner_flipped flipped = planner_state_flip(&state, &plan, 7);
  *
- * There are two layers. The archive exports five calls on pointers and lengths: planner_load, planner_open,
- * planner_flip, planner_counts and planner_search. What the comments say of them is proved. The structs and the
+ * There are two layers. The archive exports six calls on pointers and lengths: planner_load, planner_open,
+ * planner_flip, planner_counts, planner_search and planner_squeeze. What the comments say of them is proved. The structs and the
  * inline functions after them are plain C, which is tested and not proved: they lend buffers of the right sizes, so
  * that none is mixed up, and read what the calls leave. A program that uses these alone need not change when a call
  * gains an argument or an answer a field.
@@ -21,7 +21,7 @@
  * - It may be made with anything at all. It returns, and gives what it was asked for or one of the refusals below.
  *   A refused call changes no byte of what it was lent.
  * - It touches nothing but the buffers it is lent, keeps no pointer, allocates nothing, has no state of its own and
- *   takes about a kilobyte of stack. It is reentrant: threads may call at once, each with buffers of its own.
+ *   takes about a kilobyte of stack, planner_squeeze three. It is reentrant: threads may call at once, each with buffers of its own.
  * - The caller lends the memory that it says it lends, and no byte twice in one call. This cannot be tested by the
  *   call; it is assumed.
  * - NULL is fine where the length is 0: a file or a list of numbers may be empty, and any other buffer is then too
@@ -29,7 +29,7 @@
  * - The archive is for x86-64 Linux. Where the layout of the answers is another one, this header does not compile
  *   (C11, C++11).
  *
- * Time: load, open, flip and counts take microseconds. A search works through the list of numbers: a flip takes at
+ * Time: load, open, flip, counts and squeeze take microseconds. A search works through the list of numbers: a flip takes at
  * least two of them. With 16,384 numbers it takes from a tenth of a second to some seconds on a server's core, more
  * on a slow one. It cannot be stopped or asked how far it is. To show something early, search with the first part of
  * the list, then with a longer one: a search that did not run short answers the same with a longer list, and one that ran
@@ -54,6 +54,7 @@ extern "C" {
 #define PLANNER_ASSIGNMENT_SIZE 512
 #define PLANNER_TALLIES_SIZE 6156
 #define PLANNER_MARKS_SIZE 512
+#define PLANNER_LIST_SIZE 2048
 
 /* The byte of the tables at which the locks begin. */
 #define PLANNER_LOCKS_PLACE 26668
@@ -108,7 +109,9 @@ enum planner_refusal {
     PLANNER_STALE_TALLIES = 25,    /* tallies that are not those of this assignment: open again */
 
     /* By the plan: no fault of anyone's. */
-    PLANNER_LOCKED = 26 /* a flip of a variable that the plan has locked: show it, and let another be turned over */
+    PLANNER_LOCKED = 26,     /* a flip of a variable that the plan has locked: show it, and let another be turned over */
+    PLANNER_ALL_LOCKED = 71, /* every variable is locked: nothing is left to squeeze */
+    PLANNER_CLAUSE_LOST = 72 /* the locks leave a clause that no values can meet: look at it at the desk */
 };
 
 /* A refusal in plain words, for a screen. */
@@ -140,6 +143,8 @@ static inline const char *planner_refusal_text(uint32_t refusal) {
     case PLANNER_NOT_BITS: return "the assignment has a byte other than 0 and 1";
     case PLANNER_STALE_TALLIES: return "the tallies are not those of this assignment";
     case PLANNER_LOCKED: return "the plan has locked this variable";
+    case PLANNER_ALL_LOCKED: return "the plan has locked every variable";
+    case PLANNER_CLAUSE_LOST: return "the locks leave a clause with no rule that can be met";
     default: return "no refusal has this number";
     }
 }
@@ -189,6 +194,13 @@ typedef struct {
     size_t used;     /* how many of the numbers, discarded ones too */
 } planner_searched;
 
+typedef struct {
+    uint32_t refusal;
+    size_t offset;    /* as in planner_loaded; 0 with another refusal than the file's own */
+    size_t length;    /* of the new file; 0 with a refusal */
+    int64_t constant; /* what the locked variables cost: an assignment costs so much more than the new plan says */
+} planner_squeezed;
+
 /* An ending by its name and in plain words, for a screen. */
 static inline const char *planner_ending_text(uint32_t ending) {
     switch (ending) {
@@ -202,7 +214,7 @@ static inline const char *planner_ending_text(uint32_t ending) {
     }
 }
 
-/* ---- the five calls; the refusals of each stand in the order in which they are tried */
+/* ---- the six calls; the refusals of each stand in the order in which they are tried */
 
 /* Loads a plan file of any length and content into the two tables.
  * PLANNER_BUFFER_TOO_SMALL, then the file's own: PLANNER_CUT_SHORT to PLANNER_BYTES_AFTER_END and PLANNER_WRONG_LOCK,
@@ -258,6 +270,17 @@ planner_searched planner_search(const uint8_t *tables, size_t tables_length, con
                                 uint8_t *work_tallies, size_t work_tallies_length, uint8_t *work_marks,
                                 size_t work_marks_length);
 
+/* Rewrites a plan file in its own buffer without its locked variables: their values are put in, a bound that all values
+ * of the others meet is dropped, so is a rule that no values can meet, and a clause with a rule that all values meet.
+ * A rule is judged by its least and its greatest sum alone. The unlocked variables are numbered from 1 by rising number,
+ * each kept, and the list gets their old numbers: 512 numbers of 4 bytes, little-endian, 0 in unused places.
+ * PLANNER_BUFFER_TOO_SMALL (the list), then the file's own as for planner_load, PLANNER_ALL_LOCKED,
+ * PLANNER_CLAUSE_LOST; with a refusal length and constant are 0.
+ * Accepted: the first length bytes are a plan file that planner_load accepts, and those behind it are 0. An assignment
+ * that has each locked variable at its value meets every clause of the old plan exactly where its unlocked variables
+ * meet every clause of the new one, and costs constant more. */
+planner_squeezed planner_squeeze(uint8_t *file, size_t file_length, uint8_t *old, size_t old_length);
+
 /* ---- plan, state and work */
 
 /* A plan as loading leaves it: two buffers, each below 64 KiB; 80,812 bytes in all. To be written by
@@ -282,6 +305,11 @@ typedef struct {
     uint8_t tallies[PLANNER_TALLIES_SIZE];
     uint8_t marks[PLANNER_MARKS_SIZE];
 } planner_work;
+
+/* Which old variable each new one was, after a squeeze. To be written by planner_file_squeeze alone. */
+typedef struct {
+    uint8_t numbers[PLANNER_LIST_SIZE];
+} planner_list;
 
 /* Make it by planner_settings_of, so that fields to come have their plain values. */
 typedef struct {
@@ -339,6 +367,11 @@ static inline planner_counted planner_state_counts(const planner_state *state, c
                           PLANNER_LEND(state->tallies), variable);
 }
 
+/* planner_squeeze: a plan file without its locked variables, in its own buffer. */
+static inline planner_squeezed planner_file_squeeze(uint8_t *file, size_t file_length, planner_list *old) {
+    return planner_squeeze(file, file_length, PLANNER_LEND(old->numbers));
+}
+
 /* ---- readers of a loaded plan and of an opened state; of any other they give some number and read nothing outside */
 
 /* The number that stands in the 4 bytes at a place. */
@@ -367,6 +400,12 @@ enum planner_lock { PLANNER_FREE = 0, PLANNER_LOCKED_AT_0 = 1, PLANNER_LOCKED_AT
 static inline uint32_t planner_plan_lock(const planner_plan *plan, uint32_t variable) {
     if (variable < 1 || variable > PLANNER_MOST_VARIABLES) return PLANNER_FREE;
     return planner_word(plan->tables + PLANNER_LOCKS_PLACE + 4 * ((size_t)variable - 1));
+}
+
+/* The old number of a squeezed plan's variable; 0 for one that is not in it. */
+static inline uint32_t planner_list_old(const planner_list *old, uint32_t variable) {
+    if (variable < 1 || variable > PLANNER_MOST_VARIABLES) return 0;
+    return planner_word(old->numbers + 4 * ((size_t)variable - 1));
 }
 
 /* The cost of the state's assignment. */
@@ -406,6 +445,9 @@ PLANNER_GUARD(sizeof(planner_counted) == 20 && offsetof(planner_counted, break_c
 PLANNER_GUARD(offsetof(planner_counted, make_count) == 12 && offsetof(planner_counted, make_cut) == 16);
 PLANNER_GUARD(sizeof(planner_searched) == 40 && offsetof(planner_searched, cost) == 8);
 PLANNER_GUARD(offsetof(planner_searched, finds) == 16 && offsetof(planner_searched, used) == 32);
+PLANNER_GUARD(sizeof(planner_squeezed) == 32 && offsetof(planner_squeezed, offset) == 8);
+PLANNER_GUARD(offsetof(planner_squeezed, length) == 16 && offsetof(planner_squeezed, constant) == 24);
+PLANNER_GUARD(PLANNER_LIST_SIZE == 4 * PLANNER_MOST_VARIABLES && sizeof(planner_list) == PLANNER_LIST_SIZE);
 PLANNER_GUARD(sizeof(planner_plan) == PLANNER_TABLES_SIZE + PLANNER_TERMS_SIZE);
 PLANNER_GUARD(sizeof(planner_state) == PLANNER_ASSIGNMENT_SIZE + PLANNER_TALLIES_SIZE);
 PLANNER_GUARD(sizeof(planner_work) == sizeof(planner_plan) + sizeof(planner_state) + PLANNER_MARKS_SIZE);

@@ -41,7 +41,7 @@ pub fn counted(count: usize, what: &str) -> String {
 
 /// Every refusal in plain words, by its number: those of the files, of the settings, and of what a
 /// program lends. include/planner.h and docs/REFUSALS.md have the same words.
-pub const REFUSALS: [(u32, &str); 20] = [
+pub const REFUSALS: [(u32, &str); 22] = [
     (1, "the file ends in the middle of a field"),
     (2, "a field of this kind may not stand here"),
     (3, "no field of this kind has this length"),
@@ -74,6 +74,8 @@ pub const REFUSALS: [(u32, &str); 20] = [
     (24, "the assignment has a byte other than 0 and 1"),
     (25, "the tallies are not those of this assignment"),
     (26, "the plan has locked this variable"),
+    (71, "the plan has locked every variable"),
+    (72, "the locks leave a clause with no rule that can be met"),
 ];
 
 /// What a refusal means.
@@ -101,11 +103,16 @@ fn place(bytes: &[u8], offset: usize) -> String {
     }
 }
 
-/// One comment for a refused file.
-fn refused(file: &str, refusal: Refusal, place: &str) -> String {
+/// A refused file in words.
+pub fn why(file: &str, refusal: Refusal, place: &str) -> String {
     let Refusal { number, offset } = refusal;
     let words = plain(number);
-    format!("# {file} is refused: number {number}, offset {offset}{place}: {words}\n")
+    format!("{file} is refused: number {number}, offset {offset}{place}: {words}")
+}
+
+/// One comment for a refused file.
+fn refused(file: &str, refusal: Refusal, place: &str) -> String {
+    format!("# {}\n", why(file, refusal, place))
 }
 
 /// The comments about an accepted plan file of so many bytes.
@@ -145,7 +152,7 @@ pub struct Shown {
 }
 
 /// "Any of them above 65,536 bytes gives 9."
-fn judged<T>(bytes: &[u8], parse: fn(&[u8]) -> Result<T, Refusal>) -> Result<T, Refusal> {
+pub fn judged<T>(bytes: &[u8], parse: fn(&[u8]) -> Result<T, Refusal>) -> Result<T, Refusal> {
     if bytes.len() > MOST_BYTES {
         return Err(Refusal {
             number: 9,

@@ -70,9 +70,19 @@ pub struct Searched {
     pub used: usize,
 }
 
+/// What a squeeze answers.
+#[repr(C)]
+#[derive(Clone, Copy, Debug, PartialEq, Eq)]
+pub struct Squeezed {
+    pub refusal: u32,
+    pub offset: usize,
+    pub length: usize,
+    pub constant: i64,
+}
+
 /// The functions as they are exported.
 pub mod raw {
-    use super::{Counted, Loaded, Searched};
+    use super::{Counted, Loaded, Searched, Squeezed};
 
     extern "C" {
         pub fn planner_load(
@@ -139,6 +149,12 @@ pub mod raw {
             work_marks: *mut u8,
             work_marks_length: usize,
         ) -> Searched;
+        pub fn planner_squeeze(
+            file: *mut u8,
+            file_length: usize,
+            old: *mut u8,
+            old_length: usize,
+        ) -> Squeezed;
     }
 }
 
@@ -250,4 +266,8 @@ pub fn search(
             work_marks.len(),
         )
     }
+}
+
+pub fn squeeze(file: &mut [u8], old: &mut [u8]) -> Squeezed {
+    unsafe { raw::planner_squeeze(file.as_mut_ptr(), file.len(), old.as_mut_ptr(), old.len()) }
 }

@@ -1,13 +1,14 @@
 //! include/planner.h against what this harness declares of the library: every size, offset, limit
-//! and ending, and the five prototypes, word for word.
+//! and ending, and the six prototypes, word for word.
 
 use harness::layout::{self, ASSIGNMENT, MARKS, SECTIONS, TABLES, TALLIES, TERM_TABLE};
-use harness::planner::{Counted, Loaded, Searched};
+use harness::planner::{Counted, Loaded, Searched, Squeezed};
 use harness::program::{root, Folder};
 use harness::searching::{ending, ENDINGS};
 use reference::file::{MOST_CLAUSES, MOST_RULES, MOST_TERMS, MOST_VARIABLES};
 use reference::program::MOST_BYTES;
 use reference::random::{locked_full_plan, Random};
+use reference::squeeze::LIST;
 use reference::walk::{Ending, LBS, LINEAR};
 use std::fs;
 use std::mem::{offset_of, size_of};
@@ -105,6 +106,28 @@ fn sizes_offsets_and_numbers() {
             offset_of!(Searched, used),
         ),
         ("((planner_searched){.cost = -1}).cost < 0", 1),
+        ("sizeof(planner_squeezed)", size_of::<Squeezed>()),
+        (
+            "offsetof(planner_squeezed, refusal)",
+            offset_of!(Squeezed, refusal),
+        ),
+        (
+            "offsetof(planner_squeezed, offset)",
+            offset_of!(Squeezed, offset),
+        ),
+        (
+            "offsetof(planner_squeezed, length)",
+            offset_of!(Squeezed, length),
+        ),
+        (
+            "offsetof(planner_squeezed, constant)",
+            offset_of!(Squeezed, constant),
+        ),
+        ("((planner_squeezed){.constant = -1}).constant < 0", 1),
+        ("PLANNER_LIST_SIZE", LIST),
+        ("sizeof(planner_list)", LIST),
+        ("PLANNER_ALL_LOCKED", 71),
+        ("PLANNER_CLAUSE_LOST", 72),
         ("PLANNER_TABLES_SIZE", TABLES),
         ("PLANNER_TERMS_SIZE", TERM_TABLE),
         ("PLANNER_ASSIGNMENT_SIZE", ASSIGNMENT),
@@ -211,6 +234,7 @@ fn c_type(words: &str) -> &'static str {
         "planner_loaded" => "Loaded",
         "planner_counted" => "Counted",
         "planner_searched" => "Searched",
+        "planner_squeezed" => "Squeezed",
         other => panic!("'{other}' is no type of the interface"),
     }
 }
@@ -258,6 +282,7 @@ fn prototypes() {
         ("planner_flip", 9),
         ("planner_counts", 9),
         ("planner_search", 22),
+        ("planner_squeeze", 4),
     ] {
         let declared = prototype_in_c(&header, name);
         assert_eq!(declared.1.len(), parameters, "{name}");

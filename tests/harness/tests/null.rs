@@ -2,9 +2,10 @@
 //! elsewhere.
 
 use harness::layout::{self, ASSIGNMENT, MARKS, TABLES, TALLIES, TERM_TABLE};
-use harness::planner::{raw, Counted, Loaded, Searched};
+use harness::planner::{raw, squeeze, Counted, Loaded, Searched, Squeezed};
 use harness::searching::refused;
 use reference::making::example_plan;
+use reference::squeeze::LIST;
 use std::ptr::{null, null_mut};
 
 /// Buffers of the right sizes; those asked for are NULL with length 0.
@@ -115,4 +116,24 @@ fn no_buffer_is_one_too_small() {
         assert_eq!(loaded.refusal, refusal(&[0, 1]), "buffer {absent}");
         assert_eq!(loaded.offset, 0);
     }
+}
+
+#[test]
+fn no_file_and_no_list_to_squeeze() {
+    let refused = |refusal| Squeezed {
+        refusal,
+        offset: 0,
+        length: 0,
+        constant: 0,
+    };
+    let mut list = vec![9; LIST];
+    let answer = unsafe { raw::planner_squeeze(null_mut(), 0, list.as_mut_ptr(), LIST) };
+    assert_eq!(answer, refused(1));
+    assert_eq!(list, vec![9; LIST]);
+    let mut file = reference::file::write(&example_plan());
+    let before = file.clone();
+    let answer = unsafe { raw::planner_squeeze(file.as_mut_ptr(), file.len(), null_mut(), 0) };
+    assert_eq!(answer, refused(21));
+    assert_eq!(file, before);
+    assert_eq!(squeeze(&mut [], &mut []), refused(21));
 }
