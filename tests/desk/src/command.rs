@@ -1,13 +1,15 @@
 //! The commands. Each gives what is to be printed and the exit code, and prints nothing itself.
 
+use crate::names::Names;
 use crate::print::clause;
 use crate::read::{read_bytes, Text};
-use crate::report::{counted, show};
+use crate::report::{counted, grouped, judged, show, why};
 use crate::tokens::Fault;
 use reference::file::{parse, write, write_numbers, write_settings};
 use reference::plan::value;
 use reference::program::MOST_BYTES;
 use reference::random::Random;
+use reference::squeeze::squeezed;
 use std::fs;
 use std::path::Path;
 
@@ -24,6 +26,10 @@ desk: plans for the box in the start tent, as text (see docs/DESK.md)
   desk name PLAN.txt ASSIGNMENT
       prints what an assignment, a row of 0 and 1, chooses and costs,
       and each clause that it does not meet
+  desk squeeze plan.bin NEW.bin [PLAN.txt]
+      writes the plan without its locked variables, and prints what an
+      assignment of the old plan costs more than one of the new, and
+      which old variable each new one was
   desk help
 
 Exit code: 0 done; 1 a text, file or assignment is at fault;
@@ -190,6 +196,46 @@ fn name_chosen(path: &str, digits: &str) -> Done {
     Ok((out, met && plan.obeyed(&assignment)))
 }
 
+/// A plan without its locked variables (document 02, T-12).
+fn squeeze_file(path: &str, new: &str, text: Option<&str>) -> Done {
+    let bytes = bytes_of(Path::new(path))?;
+    let names = match text {
+        Some(text) => Some(text_of(text)?.names),
+        None => None,
+    };
+    let refused = |refusal| faulty(why(path, refusal, ""));
+    let plan = match judged(&bytes, parse) {
+        Ok(plan) => plan,
+        Err(refusal) => return refused(refusal),
+    };
+    let names = names.unwrap_or_else(|| Names::unnamed(plan.variables));
+    if names.variables() != plan.variables {
+        return faulty(format!(
+            "the text names {}, the plan has {}",
+            counted(names.variables(), "variable"),
+            plan.variables,
+        ));
+    }
+    let squeezed = match squeezed(&plan) {
+        Ok(squeezed) => squeezed,
+        Err(fault) => return refused(fault.refusal()),
+    };
+    let file = write(&squeezed.plan);
+    if let Err(error) = fs::write(new, &file) {
+        return unable(format!("cannot write {new}: {error}"));
+    }
+    let mut out = format!(
+        "wrote {new}: {} of {}\nconstant {}\n",
+        counted(file.len(), "byte"),
+        grouped(bytes.len() as i64),
+        squeezed.constant,
+    );
+    for (place, &variable) in squeezed.old.iter().enumerate() {
+        out += &format!("x{} was {}\n", place + 1, names.called(variable));
+    }
+    Ok((out, true))
+}
+
 /// Carries out one command.
 pub fn run(arguments: &[&str]) -> Outcome {
     let done = match arguments {
@@ -197,6 +243,8 @@ pub fn run(arguments: &[&str]) -> Outcome {
         ["show", path] => show_files(path, None),
         ["show", path, text] => show_files(path, Some(text)),
         ["name", text, assignment] => name_chosen(text, assignment),
+        ["squeeze", path, new] => squeeze_file(path, new, None),
+        ["squeeze", path, new, text] => squeeze_file(path, new, Some(text)),
         ["help" | "--help" | "-h"] => Ok((HELP.to_string(), true)),
         _ => unable(format!("this is no command of the desk\n\n{HELP}")),
     };

@@ -230,3 +230,52 @@ fn commands_at_fault() {
         assert_eq!(desk(&folder, &[help]), printed(0, HELP));
     }
 }
+
+#[test]
+fn a_plan_is_squeezed() {
+    let folder = folder("squeeze");
+    let locked = TEXT.replace("clause start >= 1", "lock start 1\nclause start >= 1");
+    fs::write(folder.join("plan.txt"), &locked).unwrap();
+    assert_eq!(desk(&folder, &["write", "plan.txt", ".", "7", "9"]).0, 0);
+    let out = "wrote new.bin: 50 bytes of 89\nconstant 10\nx1 was x2\nx2 was x3\n";
+    let arguments = ["squeeze", "plan.bin", "new.bin"];
+    assert_eq!(desk(&folder, &arguments), printed(0, out));
+    let named = ["squeeze", "plan.bin", "new.bin", "plan.txt"];
+    let out = out
+        .replace("was x2", "was ford")
+        .replace("was x3", "was bridge");
+    assert_eq!(desk(&folder, &named), printed(0, &out));
+    let (code, shown, _) = desk(&folder, &["show", "new.bin"]);
+    let text = "variables 2\nminimise 300 x1 - 20 x2\nclause x1 + x2 >= 1\n";
+    assert!(code == 0 && shown.starts_with(text), "{shown}");
+
+    // Refused: what stands in the new file is not touched.
+    let refused = |text: &str, words: &str| {
+        fs::write(folder.join("plan.txt"), text).unwrap();
+        assert_eq!(desk(&folder, &["write", "plan.txt", ".", "7", "9"]).0, 0);
+        let before = fs::read(folder.join("new.bin")).unwrap();
+        assert_eq!(desk(&folder, &arguments), said(1, words));
+        assert_eq!(fs::read(folder.join("new.bin")).unwrap(), before);
+    };
+    let lost = TEXT.replace("clause start >= 1", "lock start 0\nclause start >= 1");
+    refused(
+        &lost,
+        "plan.bin is refused: number 72, offset 0: the locks leave a clause with no rule that can \
+         be met",
+    );
+    let all = locked.replace("lock start 1", "lock start 1\nlock ford 1\nlock bridge 0");
+    refused(
+        &all,
+        "plan.bin is refused: number 71, offset 0: the plan has locked every variable",
+    );
+    let mut file = fs::read(folder.join("plan.bin")).unwrap();
+    file.push(0);
+    fs::write(folder.join("plan.bin"), &file).unwrap();
+    let words = format!(
+        "plan.bin is refused: number 7, offset {}: the file goes on after its end",
+        file.len() - 1
+    );
+    assert_eq!(desk(&folder, &arguments), said(1, &words));
+    let missing = desk(&folder, &["squeeze", "nothing.bin", "new.bin"]);
+    assert_eq!(missing.0, 2);
+}

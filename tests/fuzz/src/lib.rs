@@ -9,18 +9,20 @@ pub mod figures;
 pub mod loading;
 pub mod making;
 pub mod searching;
+pub mod squeezing;
 
 use figures::Figures;
 use reference::random::Random;
 
 /// The calls, in the order in which the figures show them.
-pub const CALLS: [&str; 5] = ["load", "open", "flip", "counts", "search"];
+pub const CALLS: [&str; 6] = ["load", "open", "flip", "counts", "search", "squeeze"];
 
 /// One call. It panics where the library and the reference differ.
 fn case(random: &mut Random, figures: &mut Figures) {
     let call = random.below(CALLS.len());
     match CALLS[call] {
         "load" => figures.count(call, loading::case(random)),
+        "squeeze" => figures.count(call, squeezing::case(random)),
         "search" => {
             let answer = searching::case(random, figures);
             figures.count(call, answer.refusal);

@@ -8,7 +8,7 @@ use reference::file::{self, write_field};
 use reference::random::{damage, Random};
 
 /// A file: a plan's, damaged once or more, a row of fields, or any bytes.
-fn bytes(random: &mut Random) -> Vec<u8> {
+pub fn bytes(random: &mut Random) -> Vec<u8> {
     let plan = making::plan(random);
     let mut bytes = file::write(&plan);
     match random.below(10) {

@@ -22,6 +22,16 @@ pub enum Fault {
     ClauseLost,
 }
 
+impl Fault {
+    pub fn refusal(self) -> Refusal {
+        let number = match self {
+            Fault::AllLocked => 71,
+            Fault::ClauseLost => 72,
+        };
+        Refusal { number, offset: 0 }
+    }
+}
+
 /// The sum of the terms whose variable is locked at 1.
 fn put_in(plan: &Plan, terms: &[Term]) -> i64 {
     let fixed = |term: &&Term| plan.lock(term.variable) == Some(true);
@@ -123,14 +133,13 @@ pub struct Answer {
 /// A call on a file in its own buffer and a lent list. "Turned away, with nothing changed: 21 for
 /// a list below 512 places, the file's own, then 71 [..], then 72".
 pub fn squeeze(file: &mut [u8], list: &mut [u8]) -> Result<Answer, Refusal> {
-    let refused = |number| Refusal { number, offset: 0 };
     if list.len() < LIST {
-        return Err(refused(21));
+        return Err(Refusal {
+            number: 21,
+            offset: 0,
+        });
     }
-    let squeezed = squeezed(&parse(file)?).map_err(|fault| match fault {
-        Fault::AllLocked => refused(71),
-        Fault::ClauseLost => refused(72),
-    })?;
+    let squeezed = squeezed(&parse(file)?).map_err(Fault::refusal)?;
     // "Bytes after the new end are 0." "0 in unused places".
     let bytes = write(&squeezed.plan);
     file[..bytes.len()].copy_from_slice(&bytes);
