@@ -2,3 +2,4 @@
 pub mod Opening
 pub mod Wholly
 pub mod Outcomes
+pub mod Squeezes

@@ -1,12 +1,12 @@
 -- What a squeeze answers, and what it leaves in the two buffers, for every file and every length of the list (document 02, T-12).
 -- Assumes nothing.
-use Prim.Native.Nat.{ℕ}
+use Prim.Native.Nat.{ℕ, _-_}
 use mathlib.Core.Path.{_≡_}
 use mathlib.Core.Bool.{cond}
 use mathlib.Core.List.{List}
 use lib.Dec.{ltb}
 use lib.IntN.{ℤ, pos}
-use lib.ListN.{length}
+use lib.ListN.{length, take, drop, replicate}
 use Rattle.plpb.specs.Plan.{Plan}
 use Rattle.words.specs.Words.{wordBytes}
 use Rattle.words.specs.Writes.{front}
@@ -61,3 +61,13 @@ byReading (accepted p) file old = squeezing p file old
 -- "21 for a list below 512 places, the file's own, then 71 [..], then 72".
 unfoldable pub outcome : List ℕ → List ℕ → Outcome
 outcome file old = cond (ltb (length old) listSize) (turnedAway 21 0 file old) (byReading (read file) file old)
+
+-- An accepted file that is not turned away ends as a file that is accepted, of the squeezed plan, with zeros behind it.
+abbrev pub LeavesAccepted : Type 0
+LeavesAccepted = (file old : List ℕ) (p : Plan) → read file ≡ accepted p → outcome file old .refusal ≡ 0
+    → (read (take (outcome file old .length) (outcome file old .file)) ≡ accepted (squeezed p))
+    × (drop (outcome file old .length) (outcome file old .file) ≡ replicate (length file - outcome file old .length) 0)
+
+-- "Turned away, with nothing changed".
+abbrev pub NothingChanged : Type 0
+NothingChanged = (file old : List ℕ) → (outcome file old .refusal ≡ 0 → ⊥) → (outcome file old .file ≡ file) × (outcome file old .old ≡ old)
