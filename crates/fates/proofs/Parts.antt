@@ -201,6 +201,10 @@ module _ (f : ℕ → Becomes) where
   total-size part [] h = zero-le
   total-size part (t ∷ ts) h =
       let w = weight-small (t .weight) (and-right _ _ (and-left _ _ h)) in
-      omega
-      (arith, w, part-size part (f (t .variable)) (t .weight), total-size part ts (and-right _ _ h),
-      size-sum (partOf part (f (t .variable)) (t .weight)) (partTotal part f ts))
+      omega (
+        arith,
+        w,
+        part-size part (f (t .variable)) (t .weight),
+        total-size part ts (and-right _ _ h),
+        size-sum (partOf part (f (t .variable)) (t .weight)) (partTotal part f ts),
+      )

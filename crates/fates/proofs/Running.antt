@@ -110,20 +110,22 @@ module _ (f : ℕ → Becomes) (s : List ℕ) where
         → m ≡ modeLeft (putIn f (ruleAt s at)) → next ≡ behindField s at → met′ ≡ (met or eqb m 0) → kept′ ≡ (kept or not (eqb m 4))
         → Running from next met′ kept′
     unfolding behindField
-    run-more run t d e g h =
-        (omega (arith, run .0, e),
-        λ n rs cs z.
-        along-more n rs cs (run .1 n rs cs z) t e (g ∙ ap (λ x. met or x) (ap (λ x. eqb x 0) d ∙ always-mode (putIn f (ruleAt s at))))
-        (h ∙ ap (λ x. kept or x) (ap (λ x. not (eqb x 4)) d ∙ possible-mode (putIn f (ruleAt s at)))))
+    run-more run t d e g h = (
+      omega (arith, run .0, e),
+      λ n rs cs z.
+          along-more n rs cs (run .1 n rs cs z) t e (g ∙ ap (λ x. met or x) (ap (λ x. eqb x 0) d ∙ always-mode (putIn f (ruleAt s at))))
+          (h ∙ ap (λ x. kept or x) (ap (λ x. not (eqb x 4)) d ∙ possible-mode (putIn f (ruleAt s at)))),
+    )
 
     pub run-end : Running from at met kept → (tagAt s at ≡ 4 → ⊥) → Ran f s from met kept at
     unfolding Ran any
-    run-end run t =
-        (run .0,
-        λ n rs cs z.
-        let a = run .1 n rs cs z in
-        let e = no-rules (a .rest) t in
-        (sym (or-false met) ∙ (rw e at (a .metAll)), sym (or-false kept) ∙ (rw e at (a .keptAll)), rest-none (a .rest) t))
+    run-end run t = (
+      run .0,
+      λ n rs cs z.
+          let a = run .1 n rs cs z in
+          let e = no-rules (a .rest) t in
+          (sym (or-false met) ∙ (rw e at (a .metAll)), sym (or-false kept) ∙ (rw e at (a .keptAll)), rest-none (a .rest) t),
+    )
 
 -- ---- the clauses
 

@@ -48,10 +48,7 @@ fn mode_left(mode: u8, lower: i32, upper: i32, least: i32, greatest: i32) -> u8
     if !at_most(mode, upper, least) {
         return 4;
     }
-    mode_without(
-        at_least(mode, lower, least),
-        at_most(mode, upper, greatest),
-    )
+    mode_without(at_least(mode, lower, least), at_most(mode, upper, greatest))
 }
 
 // A bound as it is written: 0 where it is dropped.

@@ -56,25 +56,27 @@ module _ (s : List ℕ) (at to : ℕ) (behind : to ≤ at) where
 module _ (f : ℕ → Becomes) (s : List ℕ) (at to : ℕ) (behind : to ≤ at) where
   pub clause-dropped : (met kept : Bool) (next : ℕ) → Ran f s (at + 3) met kept next → met ≡ true → ClauseMoved f s at to s next to
   unfolding Ran ClauseMoved
-  clause-dropped met kept next ran e =
-      (ran .0,
-      λ n c cs h.
-      let (m, k, rest) = ran .1 n c cs (rest-opened h) in
-      (laid-none s to (dropped-by f c (sym m ∙ e)), omega (arith, ran .0), rest))
+  clause-dropped met kept next ran e = (
+    ran .0,
+    λ n c cs h.
+        let (m, k, rest) = ran .1 n c cs (rest-opened h) in
+        (laid-none s to (dropped-by f c (sym m ∙ e)), omega (arith, ran .0), rest),
+  )
 
   pub clause-stays : (met kept : Bool) (next : ℕ) {t : List ℕ} (u : List ℕ) (at′ end : ℕ) → Ran f s (at + 3) met kept next → met ≡ false → t ≡ put to (3 ∷ bytesOf 2 0) s
       → RulesMoved f t (at + 3) (to + 3) u at′ end → ClauseMoved f s at to u at′ end
   unfolding Ran RulesMoved ClauseMoved Laid
-  clause-stays met kept next {t} u at′ end ran e p moved =
-      (moved .0,
-      λ n c cs h.
-      let (m, k, rest) = ran .1 n c cs (rest-opened h) in
-      let (laid, below, behindIt) = moved .1 n c cs (opened s at to behind h p) in
-      let is = stays-by f c (sym m ∙ e) in
-      let room = rest-room h in
-      let l = head-long 3 in
-      let whole = put-on s to (field 3 []) (rulesWritten f c) (omega arith) (head-put 3 to s p) (omega arith) (laid .0) in
-      ((whole ∙ ap (λ bs. put to bs s) is, omega (arith, laid .1, ap length is, length-append (field 3 []) (rulesWritten f c))), below, behindIt))
+  clause-stays met kept next {t} u at′ end ran e p moved = (
+    moved .0,
+    λ n c cs h.
+        let (m, k, rest) = ran .1 n c cs (rest-opened h) in
+        let (laid, below, behindIt) = moved .1 n c cs (opened s at to behind h p) in
+        let is = stays-by f c (sym m ∙ e) in
+        let room = rest-room h in
+        let l = head-long 3 in
+        let whole = put-on s to (field 3 []) (rulesWritten f c) (omega arith) (head-put 3 to s p) (omega arith) (laid .0) in
+        ((whole ∙ ap (λ bs. put to bs s) is, omega (arith, laid .1, ap length is, length-append (field 3 []) (rulesWritten f c))), below, behindIt),
+  )
 
 -- ---- clauses one after the other
 

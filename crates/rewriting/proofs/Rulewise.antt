@@ -191,8 +191,9 @@ module _ (f : ℕ → Becomes) (s₀ : List ℕ) (from to : ℕ) where
 
     pub moving-end : Moving s at end → (tagAt s at ≡ 4 → ⊥) → RulesMoved f s₀ from to s at end
     unfolding RulesMoved Laid rulesWritten rulesLeft keep concat
-    moving-end m tag =
-        (m .0,
-        λ n rs cs r.
-        let a = m .1 n rs cs r in
-        (laying-done (a .laying) (ap (rulesWritten f) (no-rules (a .rest) tag)), a .behind, rest-none (a .rest) tag))
+    moving-end m tag = (
+      m .0,
+      λ n rs cs r.
+          let a = m .1 n rs cs r in
+          (laying-done (a .laying) (ap (rulesWritten f) (no-rules (a .rest) tag)), a .behind, rest-none (a .rest) tag),
+    )

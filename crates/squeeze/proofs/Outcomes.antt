@@ -156,9 +156,10 @@ module _ (p : Plan) (m : List ℕ) (says : (x : ℕ) → decoded m x ≡ becomes
   unfolding rewritten
   is-rewritten e left (a, b, c, d) f g =
       let is = file-is p m says v left in
-      subst (λ o. Is r file′ old′ o) (sym e)
-      ((a, b, c ∙ ap length is, d ∙ constant-is p m says),
-      (f ∙ ap (padTo (length file)) is, g ∙ ap (λ xs. front (wordBytes (padTo 512 xs)) old) (list-is p m says)))
+      subst (λ o. Is r file′ old′ o) (sym e) (
+        (a, b, c ∙ ap length is, d ∙ constant-is p m says),
+        (f ∙ ap (padTo (length file)) is, g ∙ ap (λ xs. front (wordBytes (padTo 512 xs)) old) (list-is p m says)),
+      )
 
 -- ---- the order of checks
 

@@ -44,9 +44,10 @@ module _ (s : List ℕ) (v : ℕ) (ts : List ℕ) where
       let second-laid = put-before s 5 (2 ∷ bytesOf 2 size) ts (omega (arith, length-bytesOf 2 size)) (omega (arith, length-bytesOf 2 size)) p x
       ∙ ap (λ bs. put 5 bs s) (second n) in
       let number-laid = put-before s 3 (bytesOf 2 v) (field 2 ts) (omega arith) (omega arith) second-laid y in
-      let laid = put-before s 0 (1 ∷ bytesOf 2 2) (bytesOf 2 v ++ field 2 ts) (omega (arith, length-bytesOf 2 2)) (omega (arith, length-bytesOf 2 2)) number-laid z in
-      (laid ∙ ap (λ bs. put 0 bs s) first,
-      omega (arith, length-append (field 1 (bytesOf 2 v)) (field 2 ts), length-field 1 (bytesOf 2 v), length-field 2 ts))
+      let laid = put-before s 0 (1 ∷ bytesOf 2 2) (bytesOf 2 v ++ field 2 ts) (omega (arith, length-bytesOf 2 2)) (omega (arith, length-bytesOf 2 2)) number-laid z in (
+        laid ∙ ap (λ bs. put 0 bs s) first,
+        omega (arith, length-append (field 1 (bytesOf 2 v)) (field 2 ts), length-field 1 (bytesOf 2 v), length-field 2 ts),
+      )
 
 -- ---- the end
 

@@ -29,9 +29,11 @@ module _ (c : tie.At-loop Inv-loop μ-loop) where
 
 list-one-requires : tie.Need-list-one-requires Inv-loop μ-loop
 list-one-requires c κs =
-    let pre = c .before .before .before .before .before .pre in
-    (omega (arith, c .before .loop-test .taken, pre .0), pre .1,
-    omega (arith, same (c .before .before), few (c .before .before), c .before .loop-test .taken, c .before .before .loop .inv .low, pre .0, pre .2))
+    let pre = c .before .before .before .before .before .pre in (
+      omega (arith, c .before .loop-test .taken, pre .0),
+      pre .1,
+      omega (arith, same (c .before .before), few (c .before .before), c .before .loop-test .taken, c .before .before .loop .inv .low, pre .0, pre .2),
+    )
 
 pub list-old-spec : {M : Type 1} → statement M
 list-old-spec =

@@ -44,9 +44,13 @@ returns c =
     let start = c .before .before .before .before .before .before .before .before .before .before .before .before .before .before .before in
     let new : ℕ → Bool = λ x. isNumber (wordAt (start .args .map .now) x) in
     let n = planOfFile (start .args .file .now) .variables in
-    let listed = list .list-old .ensures ∙ ap (λ k. wordBytes (padTo 512 (keep new (row 1 k)))) (variables read) in
-    ((refl, refl, rewrite .rewrite .ensures .1, toZ-ofZ (record { sfits = constant .constant .ok }) ∙ constant .constant .ensures), (rewrite .rewrite .ensures .0,
-    list-whole (keep new (row 1 n)) (start .args .old .now) _ (list-short new n (omega (arith, variables read, few read))) listed))
+    let listed = list .list-old .ensures ∙ ap (λ k. wordBytes (padTo 512 (keep new (row 1 k)))) (variables read) in (
+      (refl, refl, rewrite .rewrite .ensures .1, toZ-ofZ (record { sfits = constant .constant .ok }) ∙ constant .constant .ensures),
+      (
+        rewrite .rewrite .ensures .0,
+        list-whole (keep new (row 1 n)) (start .args .old .now) _ (list-short new n (omega (arith, variables read, few read))) listed,
+      ),
+    )
 
 pub carry-out-spec : {M : Type 1} → statement M
 carry-out-spec =

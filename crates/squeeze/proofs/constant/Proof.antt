@@ -32,9 +32,10 @@ read-size-requires c κs = omega (arith, begun-front _ _ (c .before .before .pre
 sum-requires : tie.Need-sum-requires
 unfolding behindObjective
 sum-requires c κs =
-    let start = c .before .before .before in
-    ((omega (arith, begun-front _ _ (start .pre .0), count-is c), start .pre .1, omega (arith, count-is c, objective-few _ _ (bytes c) (start .pre .0))),
-    rw (count-is c) (objective-small _ _ (bytes c) (start .pre .0)))
+    let start = c .before .before .before in (
+      (omega (arith, begun-front _ _ (start .pre .0), count-is c), start .pre .1, omega (arith, count-is c, objective-few _ _ (bytes c) (start .pre .0))),
+      rw (count-is c) (objective-small _ _ (bytes c) (start .pre .0)),
+    )
 
 returns : tie.Need-returns
 returns c =

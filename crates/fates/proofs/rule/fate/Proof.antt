@@ -42,10 +42,11 @@ returns c =
     let leasts = toZ-ofZ (record { sfits = least .total2 .ok }) ∙ least .total2 .ensures .0 in
     let greatests = toZ-ofZ (record { sfits = greatest .total3 .ok }) ∙ greatest .total3 .ensures .0 in
     let lowers = toZ-ofZ (record { sfits = low .less .ok }) ∙ low .less .ensures in
-    let uppers = toZ-ofZ (record { sfits = high .less2 .ok }) ∙ high .less2 .ensures in
-    (c .fate-by .ensures .0 ∙ fate-mode s map at modes givens leasts greatests lowers uppers,
-    c .fate-by .ensures .1 ∙ fate-lower s map at modes givens leasts greatests lowers uppers,
-    c .fate-by .ensures .2 ∙ fate-upper s map at modes givens leasts greatests lowers uppers)
+    let uppers = toZ-ofZ (record { sfits = high .less2 .ok }) ∙ high .less2 .ensures in (
+      c .fate-by .ensures .0 ∙ fate-mode s map at modes givens leasts greatests lowers uppers,
+      c .fate-by .ensures .1 ∙ fate-lower s map at modes givens leasts greatests lowers uppers,
+      c .fate-by .ensures .2 ∙ fate-upper s map at modes givens leasts greatests lowers uppers,
+    )
 
 pub fate-spec : {M : Type 1} → statement M
 fate-spec =

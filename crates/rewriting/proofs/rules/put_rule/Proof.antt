@@ -32,9 +32,13 @@ narrow-requires c κs =
     let r = start .pre .0 in
     let f = decoded (start .args .map .now) in
     let count = c .before .before .before .before .terms-of .ensures in
-    omega
-    (arith, keep .keep-terms .ensures .1, length-written f (termsAt (start .args .file .now) (start .args .at + 12) (c .before .before .before .before .terms-of .result)),
-    length-termsAt (start .args .file .now) (c .before .before .before .before .terms-of .result) (start .args .at + 12), r .few)
+    omega (
+      arith,
+      keep .keep-terms .ensures .1,
+      length-written f (termsAt (start .args .file .now) (start .args .at + 12) (c .before .before .before .before .terms-of .result)),
+      length-termsAt (start .args .file .now) (c .before .before .before .before .terms-of .result) (start .args .at + 12),
+      r .few,
+    )
 
 returns : tie.Need-returns
 returns c =

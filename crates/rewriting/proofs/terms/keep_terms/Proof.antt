@@ -17,11 +17,12 @@ keep-term-requires : tie.Need-keep-term-requires Inv-loop μ-loop
 keep-term-requires c κs =
     let loop = c .before .before in
     let start = loop .before .before .before in
-    let some = c .before .loop-test .taken in
-    (keeping-room _ _ _ _ _ (start .pre .0) _ _ _ _ some (loop .loop .inv),
-    keeping-variable _ _ _ _ _ (start .pre .0) _ _ _ _ some (loop .loop .inv),
-    loop .loop .inv .behind,
-    start .pre .3)
+    let some = c .before .loop-test .taken in (
+      keeping-room _ _ _ _ _ (start .pre .0) _ _ _ _ some (loop .loop .inv),
+      keeping-variable _ _ _ _ _ (start .pre .0) _ _ _ _ some (loop .loop .inv),
+      loop .loop .inv .behind,
+      start .pre .3,
+    )
 
 add-at : tie.Need-add-at Inv-loop μ-loop
 add-at c = omega (arith, keeping-room _ _ _ _ _ (c .before .before .before .before .before .before .before .before .pre .0) _ _ _ _ (c .before .before .before .before .loop-test .taken) (c .before .before .before .before .before .loop .inv), c .before .before .before .before .before .loop .inv .laying .same)

@@ -37,11 +37,12 @@ keep-terms-requires : tie.Need-keep-terms-requires
 unfolding behindObjective
 keep-terms-requires c κs =
     let read = c .before in
-    let start = c .before .before .before .before .before in
-    (omega (arith, begun-front _ _ (start .pre .0), count-is read),
-    rw (count-is read) (objective-small _ _ (bytes read) (start .pre .0)),
-    omega arith,
-    start .pre .1)
+    let start = c .before .before .before .before .before in (
+      omega (arith, begun-front _ _ (start .pre .0), count-is read),
+      rw (count-is read) (objective-small _ _ (bytes read) (start .pre .0)),
+      omega arith,
+      start .pre .1,
+    )
 
 narrow-requires : tie.Need-narrow-requires
 narrow-requires c κs =
@@ -49,9 +50,14 @@ narrow-requires c κs =
     let read = c .before .before .before .before .before in
     let start = c .before .before .before .before .before .before .before .before .before in
     let f = decoded (start .args .map .now) in
-    omega
-    (arith, keep .keep-terms .ensures .1, length-written f (termsAt (start .args .file .now) 8 (read .read-size .result / 6)),
-    length-termsAt (start .args .file .now) (read .read-size .result / 6) 8, count-is read, objective-few _ _ (bytes read) (start .pre .0))
+    omega (
+      arith,
+      keep .keep-terms .ensures .1,
+      length-written f (termsAt (start .args .file .now) 8 (read .read-size .result / 6)),
+      length-termsAt (start .args .file .now) (read .read-size .result / 6) 8,
+      count-is read,
+      objective-few _ _ (bytes read) (start .pre .0),
+    )
 
 returns : tie.Need-returns
 unfolding frontBytes behindObjective
