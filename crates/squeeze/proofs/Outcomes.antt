@@ -20,9 +20,9 @@ use Rattle.words.proofs.Words.{length-wordBytes}
 use Rattle.format.specs.Tables.{padWith, padTo}
 use Rattle.format.specs.File.{Reading, refused, accepted, read}
 use Rattle.format.specs.Writer.{field, termBytes, clauseFields, lockField, fileWith, write}
-use Rattle.judge.specs.Answers as Judged
-use Rattle.judge.specs.declared.Answer.{Answer}
-use Rattle.judge.specs.declared.Answer.the-variants.{Accepted, Refused}
+use Rattle.verdict.specs.Answers as Judged
+use Rattle.verdict.specs.declared.Answer.{Answer}
+use Rattle.verdict.specs.declared.Answer.the-variants.{Accepted, Refused}
 use Rattle.tables.specs.Places.{planOfFile}
 use Rattle.squeezed.specs.Squeezed.{Becomes, locked, renumbered, isUnlocked, unlocked, newNumber, underLock, becomes, givenTotal, clausesLeft, squeezed, constant, allLocked, clauseLost}
 use Rattle.squeezed.proofs.Numbers.{in-range}

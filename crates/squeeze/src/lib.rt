@@ -9,7 +9,7 @@ ghost use Rattle.plpb.specs.Lists.{any, isEmpty, keep, row};
 ghost use Rattle.words.specs.Words.{wordAt, wordBytes};
 ghost use Rattle.words.specs.Writes.{front};
 ghost use Rattle.format.specs.Tables.{padTo};
-ghost use Rattle.judge.specs.Answers.{refusalOf, offsetOf};
+ghost use Rattle.verdict.specs.Answers.{refusalOf, offsetOf};
 ghost use Rattle.tables.specs.Places.{Accepts, planOfFile};
 ghost use Rattle.squeezed.specs.Squeezed.{givenTotal, clausesLeft};
 ghost use Rattle.fates.specs.Codes.{decoded, mapSize};
@@ -19,7 +19,7 @@ ghost use Rattle.squeeze.specs.Rewritten.{fileBytes};
 use fates::clause;
 use fates::sums;
 use fates::sums::Part;
-use judge::Answer;
+use verdict::Answer;
 
 mod rewrite;
 

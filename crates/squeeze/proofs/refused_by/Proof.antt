@@ -2,7 +2,7 @@
 -- Assumes nothing.
 use borrow.Author.Needs.{needs}
 use mathlib.Core.Path.{_∙_}
-use Rattle.judge.specs.Answers.{refusalOf, offsetOf}
+use Rattle.verdict.specs.Answers.{refusalOf, offsetOf}
 use Rattle.squeeze.proofs.refused_by.Statement.{statement}
 use Rattle.squeeze.proofs.refused_by.Tie as tie
 

@@ -6,7 +6,7 @@ use Prim.Native.Nat.{_-_}
 use native.Mathlib.Omega.{arith}
 use mathlib.Core.Path.{sym, _∙_}
 use lib.ListN.{length}
-use Rattle.judge.proofs.Judged.{tag-byte}
+use Rattle.bodies.proofs.Tags.{tag-byte}
 use Rattle.fates.specs.Codes.{decoded}
 use Rattle.fates.proofs.Resting.{rest-room}
 use Rattle.rewriting.specs.Moved.{ClauseMoved}

@@ -7,7 +7,7 @@ use native.Mathlib.Omega.{arith}
 use mathlib.Core.Path.{_≡_, sym, _∙_}
 use lib.ListN.{length}
 use Rattle.format.specs.File.{tagAt}
-use Rattle.judge.proofs.Judged.{tag-byte}
+use Rattle.bodies.proofs.Tags.{tag-byte}
 use Rattle.tables.specs.Places.{behindField}
 use Rattle.fates.specs.Codes.{decoded}
 use Rattle.fates.specs.Rules.{RuleFits}
