@@ -5,11 +5,13 @@ use crate::print::clause;
 use crate::read::{read_bytes, Text};
 use crate::report::{counted, grouped, judged, show, why};
 use crate::tokens::Fault;
+use reference::csv::{lists, mapped, LEAST_ROOM};
 use reference::file::{parse, write, write_numbers, write_settings};
-use reference::plan::value;
+use reference::plan::{value, Plan};
 use reference::program::MOST_BYTES;
 use reference::random::Random;
 use reference::squeeze::squeezed;
+use reference::walk::{Settings, LBS};
 use std::fs;
 use std::path::Path;
 
@@ -26,6 +28,9 @@ desk: plans for the box in the start tent, as text (see docs/DESK.md)
   desk name PLAN.txt ASSIGNMENT
       prints what an assignment, a row of 0 and 1, chooses and costs,
       and each clause that it does not meet
+  desk map SITES.csv ZONES.csv FOLDER SEED COUNT
+      writes the same files from a mapper's two lists; settings are
+      noise 400, tries 10, flips 1000, LBS
   desk squeeze plan.bin NEW.bin [PLAN.txt]
       writes the plan without its locked variables, and prints what an
       assignment of the old plan costs more than one of the new, and
@@ -105,10 +110,22 @@ fn write_files(path: &str, folder: &str, seed: &str, count: &str) -> Done {
             text.last_line
         ));
     };
-    let [names, clauses] = names_and_clauses(&text);
+    let words = names_and_clauses(&text);
+    write_folder(folder, &text.plan, &settings, seed, count, words)
+}
+
+/// Writes the three files and the two for the screen.
+fn write_folder(
+    folder: &str,
+    plan: &Plan,
+    settings: &Settings,
+    seed: u64,
+    count: usize,
+    [names, clauses]: [String; 2],
+) -> Done {
     let files = [
-        ("plan.bin", write(&text.plan), String::new()),
-        ("walk.bin", write_settings(&settings), String::new()),
+        ("plan.bin", write(plan), String::new()),
+        ("walk.bin", write_settings(settings), String::new()),
         (
             "numbers.bin",
             write_numbers(&Random::new(seed).numbers(count)),
@@ -127,6 +144,62 @@ fn write_files(path: &str, folder: &str, seed: &str, count: &str) -> Done {
         out += &format!("wrote {}: {size}{more}\n", file.display());
     }
     Ok((out, true))
+}
+
+/// The words of a refusal of the mapper's lists. include/mapper.h and docs/REFUSALS.md have the same.
+fn list_words(number: u32) -> &'static str {
+    match number {
+        51 => "the row is malformed",
+        52 => "a number is out of its range",
+        53 => "an earlier row has this code or zone",
+        54 => "the zone list does not have this zone",
+        55 => "no site lies in this zone",
+        _ => "there is no site, or there are more than 512",
+    }
+}
+
+/// A name on one line.
+fn on_a_line(name: &[u8]) -> String {
+    String::from_utf8_lossy(name).replace(['\r', '\n'], " ")
+}
+
+fn map_lists(paths: [&str; 2], folder: &str, seed: &str, count: &str) -> Done {
+    let seed = number("SEED", seed, u64::MAX)?;
+    let count = number("COUNT", count, MOST_NUMBERS as u64)? as usize;
+    let [sites, zones] = [
+        bytes_of(Path::new(paths[0]))?,
+        bytes_of(Path::new(paths[1]))?,
+    ];
+    let both =
+        mapped(&sites, &zones, LEAST_ROOM).and_then(|plan| Ok((plan, lists(&sites, &zones)?)));
+    let (plan, (sites, zones)) = match both {
+        Ok(both) => both,
+        Err(refusal) => {
+            let (number, words) = (refusal.number, list_words(refusal.number));
+            return faulty(match refusal.list {
+                0 => format!("the lists are refused ({number}): {words}"),
+                list => format!(
+                    "{}, row {}: {words} ({number})",
+                    paths[list as usize - 1],
+                    refusal.row
+                ),
+            });
+        }
+    };
+    let settings = Settings {
+        noise: 400,
+        tries: 10,
+        flips: 1_000,
+        mode: LBS,
+    };
+    let names = sites.iter().map(|site| on_a_line(&site.code) + "\n");
+    let clauses = zones.iter().map(|zone| {
+        let or = if zone.may_be_empty { ", or none" } else { "" };
+        let (name, least, most) = (on_a_line(&zone.name), zone.least, zone.most);
+        format!("{name}: {least} to {most} of its sites{or}\n")
+    });
+    let words = [names.collect(), clauses.collect()];
+    write_folder(folder, &plan, &settings, seed, count, words)
 }
 
 fn show_files(path: &str, text: Option<&str>) -> Done {
@@ -240,6 +313,9 @@ fn squeeze_file(path: &str, new: &str, text: Option<&str>) -> Done {
 pub fn run(arguments: &[&str]) -> Outcome {
     let done = match arguments {
         ["write", text, folder, seed, count] => write_files(text, folder, seed, count),
+        ["map", sites, zones, folder, seed, count] => {
+            map_lists([sites, zones], folder, seed, count)
+        }
         ["show", path] => show_files(path, None),
         ["show", path, text] => show_files(path, Some(text)),
         ["name", text, assignment] => name_chosen(text, assignment),

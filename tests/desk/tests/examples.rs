@@ -60,7 +60,7 @@ fn every_example_prints_what_it_expects() {
     let mut names: Vec<PathBuf> = fs::read_dir(root().join("examples"))
         .unwrap()
         .map(|entry| entry.unwrap().path())
-        .filter(|path| path.join("expected.txt").exists())
+        .filter(|path| path.join("plan.bin").exists())
         .collect();
     names.sort();
     assert!(names.len() >= 2);

@@ -122,7 +122,8 @@ fn the_bundled_examples() {
     let mut folders = 0;
     for entry in fs::read_dir(root().join("examples")).unwrap() {
         let folder = entry.unwrap().path();
-        if !folder.is_dir() {
+        // The mapper's folder has lists in place of a plan.
+        if !folder.join("plan.bin").exists() {
             continue;
         }
         let expected = fs::read_to_string(folder.join("expected.txt")).unwrap();
