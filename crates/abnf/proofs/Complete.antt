@@ -1,16 +1,16 @@
 -- Every text of the rules is read as what it stands for.
 -- Assumes nothing.
-use Prim.Native.Nat.{ℕ, zero, suc, _+_, _≤_, _<_}
+use Prim.Native.Nat.{ℕ, suc, _+_, _≤_, _<_}
 use native.Mathlib.Omega.{arith}
-use mathlib.Core.Path.{_≡_, refl, sym, ap, ap₂, _∙_, subst}
-use mathlib.Core.Bool.{Bool, true, false, not, cond, true≢false}
+use mathlib.Core.Path.{_≡_, refl, sym, ap, _∙_}
+use mathlib.Core.Bool.{Bool, true, false, true≢false}
 use mathlib.Core.List.{List, [], _∷_, _++_, map, append-assoc, append-nil}
-use mathlib.Core.Option.{Option, none, some}
+use mathlib.Core.Option.{Option, some}
 use lib.Dec.{eqb}
 use lib.ListN.{length, length-append}
-use borrow.Author.Tests.{eqb-true, eq-eqb, ne-eqb}
+use borrow.Author.Tests.{eqb-true, ne-eqb}
 use Rattle.plpb.specs.Lists.{_and_, _or_, all}
-use Rattle.cells.specs.Grammar.{comma, cr, lf, quote, isText, mayStand, Field, broken, field, before, plain, inQuotes, fieldOf, withComma, withEnd, Record, Row, malformed, row, lone, beforeRow, leading, rowOf, valuesIn, behindRow, rowsOf}
+use Rattle.cells.specs.Grammar.{comma, cr, lf, quote, isText, mayStand, field, before, plain, inQuotes, fieldOf, withComma, withEnd, Record, Row, row, lone, beforeRow, leading, rowOf, valuesIn, behindRow, rowsOf}
 use Rattle.abnf.proofs.Bools.{and-left, and-right}
 use Rattle.rows.specs.Reading.{columns}
 use Rattle.rows.proofs.Rows.{next-row, no-row}

@@ -3,7 +3,7 @@
 use Prim.Native.Nat.{ℕ, _≤_}
 use mathlib.Core.Path.{_≡_}
 use mathlib.Core.Bool.{Bool, true, false}
-use mathlib.Core.List.{List, [], _∷_}
+use mathlib.Core.List.{List, []}
 use lib.ListN.{length, drop}
 use Rattle.cells.specs.declared.value.Value.{Value}
 use Rattle.cells.specs.declared.field.Field.{Field as FieldT}

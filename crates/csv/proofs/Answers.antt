@@ -1,16 +1,13 @@
 -- What the call answers and leaves, by its refusal.
 -- Assumes nothing.
 use Prim.Native.Nat.{ℕ, _≤_, _<_}
-use mathlib.Core.Path.{_≡_, refl, sym, ap, _∙_}
-use mathlib.Core.Bool.{Bool, cond}
+use mathlib.Core.Path.{_≡_, refl, _∙_}
 use mathlib.Core.List.{List}
-use lib.Dec.{eqb, ltb}
 use lib.ListN.{length}
-use borrow.Author.Tests.{eq-eqb, ne-eqb, lt-ltb, le-ltb}
+use borrow.Author.Tests.{ne-eqb, lt-ltb, le-ltb}
 use Rattle.words.specs.Writes.{front}
 use Rattle.format.specs.Writer.{write}
-use Rattle.lists.specs.Refusals.{Refusal, accepted, siteRows, zoneRows, planOf, refusalOf, mapRefusal}
-use Rattle.lists.proofs.Accepted.{accepted-is}
+use Rattle.lists.specs.Refusals.{Refusal, accepted, siteRows, zoneRows, refusalOf, mapRefusal}
 use Rattle.csv.specs.declared.Mapped.{Mapped}
 use Rattle.csv.specs.Mapping.{refusalFor, planOfLists, lengthFor, planAfter}
 

@@ -1,17 +1,17 @@
 -- What a written file means: loading accepts the bytes written, their plan is that of the two lists, its solutions are the choices of sites that obey the
 -- zone list, and a solution costs the metres carried for it. The right sides of the last two know no plan, rule or clause.
 -- Assumes nothing.
-use Prim.Native.Nat.{ℕ, _≤_}
-use mathlib.Core.Path.{_≡_, refl, sym, ap, _∙_}
+use Prim.Native.Nat.{ℕ}
+use mathlib.Core.Path.{_≡_}
 use native.Mathlib.Omega.{arith}
 use mathlib.Core.Bool.{Bool, true, false, cond}
-use mathlib.Core.List.{List, _++_, map}
-use lib.Dec.{eqb, ltb}
+use mathlib.Core.List.{List, _++_}
+use lib.Dec.{ltb}
 use lib.IntN.{pos}
 use lib.ListN.{length, take, drop}
 use lib.Seq.{take-append-seam, drop-append-seam}
 use borrow.Author.Tests.{eq-eqb}
-use Rattle.plpb.specs.Plan.{Plan, satisfies, cost}
+use Rattle.plpb.specs.Plan.{satisfies, cost}
 use Rattle.words.specs.Writes.{front}
 use Rattle.format.specs.File.{read, accepted}
 use Rattle.format.specs.Writer.{write}

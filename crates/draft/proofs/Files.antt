@@ -1,23 +1,22 @@
 -- The whole file of two lists: its front, its clauses and its end.
 -- Assumes nothing.
-use Prim.Native.Nat.{ℕ, zero, suc, _+_, _*_, _-_, _≤_, _<_}
+use Prim.Native.Nat.{ℕ, suc, _+_, _*_, _-_, _≤_}
 use native.Mathlib.Omega.{arith}
-use mathlib.Core.Path.{_≡_, refl, sym, ap, ap₂, _∙_}
-use mathlib.Core.Bool.{Bool, true, false}
+use mathlib.Core.Path.{_≡_, sym, ap, ap₂, _∙_}
+use mathlib.Core.Bool.{false}
 use mathlib.Core.List.{List, [], _∷_, _++_, map, append-assoc}
 use lib.ListN.{length, length-append, length-map}
-use Rattle.plpb.specs.Lists.{concat}
 use Rattle.plpb.specs.Tallies.{rulesOf}
 use Rattle.words.specs.Words.{bytesOf}
 use Rattle.words.specs.Writes.{put, front}
 use Rattle.words.proofs.Words.{length-bytesOf}
 use Rattle.format.specs.Limits.{termCount}
-use Rattle.format.specs.Writer.{field, termBytes, clauseFields, lockField, fileWith, write}
+use Rattle.format.specs.Writer.{field, lockField, fileWith, write}
 use Rattle.format.proofs.Sizes.{length-clauses}
-use Rattle.lists.specs.Lists.{planFor, termsBy, zoneClause}
+use Rattle.lists.specs.Lists.{planFor, zoneClause}
 use Rattle.lists.specs.Refusals.{Entry, siteOf, zoneOf, planOf, refusalOf}
 use Rattle.lists.proofs.Counts.{Few}
-use Rattle.lists.proofs.Accepted.{Faultless, faultless-few, accepted-faultless, accepted-few}
+use Rattle.lists.proofs.Accepted.{faultless-few, accepted-faultless, accepted-few}
 use Rattle.draft.specs.Draft.{weigh, termsOf, clausesOf, Wrote}
 use Rattle.draft.proofs.Writing.{join, join-before, put-long}
 use Rattle.draft.proofs.Rules.{length-field, empty-field}

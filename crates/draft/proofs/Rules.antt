@@ -1,25 +1,24 @@
 -- Rules and clauses written one behind the other.
 -- Assumes nothing.
-use Prim.Native.Nat.{ℕ, zero, suc, _+_, _*_, _-_, _≤_, _<_}
+use Prim.Native.Nat.{ℕ, _+_, _-_, _≤_, _<_}
 use native.Mathlib.Omega.{arith}
 use native.Mathlib.Numerals.{add-one}
 use mathlib.Core.Path.{_≡_, refl, sym, ap, ap₂, _∙_}
-use mathlib.Core.Bool.{Bool, true, false, cond}
+use mathlib.Core.Bool.{Bool, true, false}
 use mathlib.Core.List.{List, [], _∷_, _++_, map, append-assoc, append-nil}
 use mathlib.Core.Option.{none}
-use lib.IntN.{pos}
-use lib.ListN.{length, getD, take, drop, length-append, length-map, take-append-drop}
-use lib.Seq.{take-suc, take-length}
+use lib.ListN.{length, take, drop, length-append, take-append-drop}
+use lib.Seq.{take-suc}
 use Rattle.plpb.specs.Lists.{concat}
-use Rattle.plpb.specs.Plan.{Rule, Clause}
+use Rattle.plpb.specs.Plan.{Clause}
 use Rattle.words.specs.Words.{bytesOf, unsigned}
 use Rattle.words.specs.Writes.{put}
 use Rattle.words.proofs.Words.{length-bytesOf}
-use Rattle.format.specs.Writer.{field, mode, boundNumber, ruleField, clauseFields, termBytes}
-use Rattle.lists.specs.Lists.{Site, Zone, inZone, termsBy, zoneTerms, between, noneAtAll, zoneClause}
+use Rattle.format.specs.Writer.{field, mode, boundNumber, ruleField, clauseFields}
+use Rattle.lists.specs.Lists.{Site, Zone, between, noneAtAll, zoneClause}
 use Rattle.lists.specs.Refusals.{Entry, siteOf, zoneOf, entryAt}
 use Rattle.draft.specs.Draft.{weigh, termsOf, ruleBody, clausesOf, Wrote}
-use Rattle.draft.proofs.Writing.{join-before, wrote-more, wrote-as}
+use Rattle.draft.proofs.Writing.{join-before}
 
 pub length-field : (tag : ℕ) (body : List ℕ) → length (field tag body) ≡ 3 + length body
 unfolding field

@@ -1,6 +1,6 @@
 -- The terms of the sites, one site after another, and what a site weighs.
 -- Assumes nothing.
-use Prim.Native.Nat.{ℕ, zero, suc, _+_, _*_, _%_, _≤_, _<_}
+use Prim.Native.Nat.{ℕ, suc, _+_, _%_, _≤_, _<_}
 use native.Mathlib.Omega.{arith}
 use native.Mathlib.Nat.{mod-eq-of-lt}
 use native.Mathlib.Numerals.{add-one}
@@ -10,15 +10,15 @@ use mathlib.Core.List.{List, [], _∷_, _++_, map, append-assoc, append-nil}
 use mathlib.Core.Option.{none}
 use lib.Dec.{eqb, ltb}
 use lib.IntN.{pos}
-use lib.ListN.{length, getD, take, length-append, length-map}
-use lib.Seq.{take-suc, length-take-le, take-length}
-use borrow.Author.Tests.{eq-eqb, ne-eqb, ltb-false}
+use lib.ListN.{length, take, length-map}
+use lib.Seq.{take-suc, length-take-le}
+use borrow.Author.Tests.{ltb-false}
 use Rattle.plpb.specs.Lists.{_or_, all, concat}
 use Rattle.plpb.specs.Plan.{Term}
 use Rattle.words.specs.Words.{bytesOf, unsigned}
 use Rattle.format.specs.Writer.{termBytes}
 use Rattle.cells.specs.declared.value.Value.{Value}
-use Rattle.cells.specs.Grammar.{columnOf, sameBytes}
+use Rattle.cells.specs.Grammar.{columnOf}
 use Rattle.cells.specs.Values.{gather, gatherFrom, noBytes, sameValue}
 use Rattle.lists.specs.Lists.{Site, Zone, inZone, termsBy}
 use Rattle.lists.specs.Refusals.{Entry, isNumber, numberOf, yesBytes, siteOf, zoneOf, siteFormed, zoneFormed, siteFault, zoneFault, entryAt}

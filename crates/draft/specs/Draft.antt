@@ -3,16 +3,16 @@
 use Prim.Native.Nat.{ℕ, _+_, _≤_}
 use mathlib.Core.Path.{_≡_}
 use mathlib.Core.Bool.{Bool, true, false, cond}
-use mathlib.Core.List.{List, [], _∷_, _++_, map}
+use mathlib.Core.List.{List, _∷_, _++_, map}
 use lib.Dec.{ltb}
 use lib.ListN.{length}
 use Rattle.plpb.specs.Lists.{all, concat}
 use Rattle.words.specs.Words.{bytesOf}
 use Rattle.words.specs.Writes.{put}
-use Rattle.format.specs.Writer.{field, termBytes, clauseFields}
+use Rattle.format.specs.Writer.{termBytes, clauseFields}
 use Rattle.cells.specs.declared.value.Value.{Value}
 use Rattle.cells.specs.Values.{gather}
-use Rattle.lists.specs.Lists.{Site, Zone, inZone, termsBy, zoneClause}
+use Rattle.lists.specs.Lists.{Site, inZone, termsBy, zoneClause}
 use Rattle.lists.specs.Refusals.{Entry, siteOf, zoneOf}
 
 -- What a site weighs: 1 in the zone and 0 elsewhere, or its metres.

@@ -1,30 +1,27 @@
 -- The rows of a list judged one after another.
 -- Assumes nothing.
-use Prim.Native.Nat.{ℕ, zero, suc, _+_, _-_, _≤_, _<_}
+use Prim.Native.Nat.{ℕ, suc, _+_, _-_, _≤_, _<_}
 use native.Mathlib.Omega.{arith}
 use native.Mathlib.Numerals.{add-one}
-use mathlib.Core.Path.{_≡_, refl, sym, ap, ap₂, _∙_}
+use mathlib.Core.Path.{_≡_, sym, ap, ap₂, _∙_}
 use mathlib.Core.Bool.{Bool, true, false, not, cond}
 use mathlib.Core.List.{List}
-use mathlib.Core.Option.{none}
-use lib.Dec.{eqb, ltb}
-use lib.ListN.{length, getD, take, drop}
+use lib.ListN.{length, take, drop}
 use lib.Seq.{take-length}
-use borrow.Author.Tests.{eq-eqb, ne-eqb, le-ltb, lt-ltb}
+use borrow.Author.Tests.{eq-eqb, ne-eqb}
 use Rattle.plpb.specs.Lists.{_or_, any}
 use Rattle.cells.specs.declared.value.Value.{Value}
 use Rattle.rows.specs.declared.row.Row.{Row}
-use Rattle.cells.specs.Grammar.{rowOf, rowsOf, columnOf}
+use Rattle.cells.specs.Grammar.{rowOf, columnOf}
 use Rattle.cells.specs.Values.{gather, sameValue}
 use Rattle.rows.specs.Reading.{Holds, ReadsRow, columns}
 use Rattle.rows.proofs.Rows.{Place, is-row, row-held, place-next, rows-short}
-use Rattle.lists.specs.Refusals.{Entry, entryAt, has, repeated, rowFault, unlisted, unused, Judged, judgedFrom, judged, Refusal, accepted, inList, planOf, tooLarge, refusalOf}
+use Rattle.lists.specs.Refusals.{Entry, entryAt, has, repeated, rowFault, Judged, judgedFrom}
 use Rattle.lists.proofs.RowBytes.{rows-bytes}
-use Rattle.lists.proofs.Judging.{judged-on, judged-stop, judged-end, judged-none, judged-before, judged-rows, list-on, list-stop}
-use Rattle.lists.proofs.Accepted.{own-none, Faultless, large-by-sites}
+use Rattle.lists.proofs.Judging.{judged-on, judged-stop, judged-end, judged-none}
+use Rattle.lists.proofs.Accepted.{own-none}
 use Rattle.entries.specs.declared.Judged.{Judged as JudgedT}
-use Rattle.entries.specs.declared.Verdict.{Verdict}
-use Rattle.entries.specs.Judging.{entriesOf, OfBytes, ownFault, Well, zoneColumn, missing, Says, Tells}
+use Rattle.entries.specs.Judging.{entriesOf, OfBytes, ownFault, Well, zoneColumn, missing, Says}
 use Rattle.entries.proofs.Tests.{has-alike, key-short, zone-short}
 
 -- A row's fault by its parts.

@@ -1,26 +1,26 @@
 -- What the code's tests of a row tell of the lists' definitions.
 -- Assumes nothing.
-use Prim.Native.Nat.{ℕ, zero, suc, _+_, _≤_, _<_}
+use Prim.Native.Nat.{ℕ, suc, _≤_, _<_}
 use native.Mathlib.Omega.{arith}
 use mathlib.Core.Path.{_≡_, refl, sym, ap, ap₂, _∙_}
-use mathlib.Core.Bool.{Bool, true, false, not, cond, true≢false}
+use mathlib.Core.Bool.{Bool, true, false, not, cond}
 use mathlib.Core.List.{List, [], _∷_}
-use mathlib.Core.Option.{Option, none, some}
+use mathlib.Core.Option.{none}
 use lib.Dec.{eqb, leb, ltb}
 use lib.ListN.{length, getD, take, length-take}
-use lib.Seq.{getD-take, length-take-le, take-length}
-use borrow.Author.Tests.{le-leb, lt-leb, lt-ltb, le-ltb, leb-true, eq-eqb, ne-eqb, not-true, not-false}
+use lib.Seq.{getD-take}
+use borrow.Author.Tests.{le-leb, lt-leb, lt-ltb, le-ltb, leb-true, eq-eqb, ne-eqb}
 use Rattle.plpb.specs.Lists.{_and_, _or_, any, all}
 use Rattle.format.proofs.Bools.{and-left, and-right}
 use Rattle.cells.specs.declared.value.Value.{Value}
 use Rattle.rows.specs.declared.row.Row.{Row}
-use Rattle.cells.specs.Grammar.{Record, rowsOf, columnOf, sameBytes}
-use Rattle.cells.specs.Values.{gather, gatherFrom, added, isDigit, sameValue}
+use Rattle.cells.specs.Grammar.{rowsOf, columnOf, sameBytes}
+use Rattle.cells.specs.Values.{gather, gatherFrom, added, sameValue}
 use Rattle.rows.specs.Reading.{isSome, Holds}
-use Rattle.lists.specs.Refusals.{Entry, isName, isNumber, numberOf, yesBytes, noBytes, isYes, isNo, siteFormed, zoneFormed, siteFault, zoneFault, entryAt, has, repeated, rowFault}
+use Rattle.lists.specs.Refusals.{Entry, isName, isNumber, numberOf, yesBytes, noBytes, isYes, isNo, siteFormed, zoneFormed, siteFault, zoneFault, has}
 use Rattle.lists.proofs.Values.{nameValue, name-alike, numberValue, number-alike, number-says, Bytes, same-alike}
 use Rattle.lists.proofs.RowBytes.{rows-bytes}
-use Rattle.entries.specs.Judging.{OfBytes, ownFault, zoneColumn}
+use Rattle.entries.specs.Judging.{ownFault, zoneColumn}
 
 -- ---- values
 

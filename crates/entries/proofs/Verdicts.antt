@@ -1,10 +1,9 @@
 -- Which refusal the verdict carries, step by step.
 -- Assumes nothing.
-use Prim.Native.Nat.{ℕ, suc, _+_, _≤_, _<_}
+use Prim.Native.Nat.{ℕ, _+_, _≤_, _<_}
 use native.Mathlib.Omega.{arith}
-use native.Mathlib.Nat.{le-trans}
-use mathlib.Core.Path.{_≡_, refl, sym, ap, _∙_}
-use mathlib.Core.Bool.{Bool, true, false, not, cond}
+use mathlib.Core.Path.{_≡_, refl, sym, _∙_}
+use mathlib.Core.Bool.{Bool, true, false, cond}
 use mathlib.Core.List.{List}
 use lib.Dec.{eqb, ltb}
 use lib.ListN.{length}
@@ -12,12 +11,12 @@ use borrow.Author.Tests.{eq-eqb, ne-eqb, le-ltb, lt-ltb}
 use Rattle.plpb.specs.Lists.{_or_}
 use Rattle.rows.specs.Reading.{columns}
 use Rattle.rows.proofs.Rows.{rows-short}
-use Rattle.lists.specs.Refusals.{Entry, rowFault, unlisted, unused, Judged, judgedFrom, judged, Refusal, accepted, inList, planOf, tooLarge, refusalOf}
+use Rattle.lists.specs.Refusals.{Entry, rowFault, unlisted, unused, Judged, judged, Refusal, accepted, planOf, tooLarge, refusalOf}
 use Rattle.lists.proofs.Judging.{judged-before, judged-rows, list-on, list-stop}
-use Rattle.lists.proofs.Accepted.{Faultless, large-by-sites}
+use Rattle.lists.proofs.Accepted.{large-by-sites}
 use Rattle.entries.specs.declared.Judged.{Judged as JudgedT}
 use Rattle.entries.specs.declared.Verdict.{Verdict}
-use Rattle.entries.specs.Judging.{entriesOf, Well, missing, Says, Tells}
+use Rattle.entries.specs.Judging.{entriesOf, missing, Says, Tells}
 
 pub unlisted-is : (sites zones : List Entry) → missing 54 false sites zones ≡ unlisted sites zones
 unfolding missing unlisted

@@ -3,23 +3,22 @@
 use Prim.Native.Nat.{ℕ, zero, suc, _+_, _≤_, _<_}
 use native.Mathlib.Omega.{arith}
 use native.Mathlib.Nat.{le-refl}
-use native.Mathlib.Numerals.{add-one}
 use mathlib.Core.Path.{_≡_, refl, sym, ap, _∙_}
-use mathlib.Core.Bool.{Bool, true, false, not, cond, true≢false}
-use mathlib.Core.List.{List, [], _∷_, _++_, map}
-use mathlib.Core.Option.{Option, none, some}
-use lib.Dec.{T, eqb, leb, ltb}
+use mathlib.Core.Bool.{Bool, true, false, not, cond}
+use mathlib.Core.List.{List, [], _∷_, map}
+use mathlib.Core.Option.{none, some}
+use lib.Dec.{eqb, leb, ltb}
 use lib.ListN.{length, getD, take, length-map}
 use lib.Seq.{take-suc, take-length}
-use borrow.Author.Tests.{eqb-true, eqb-false, eq-eqb, ltb-false, le-leb, le-ltb}
+use borrow.Author.Tests.{eqb-true, eqb-false, ltb-false, le-leb, le-ltb}
 use Rattle.plpb.specs.Lists.{_and_, _or_, count, any, all}
 use Rattle.plpb.proofs.Lists.{count-nil, count-cons, count-append, count-map, any-map, all-map, none-by-count, count-same}
 use Rattle.format.specs.File as File
 use Rattle.format.specs.Writer.{write}
-use Rattle.format.proofs.Bools.{and-left, and-right, and-join}
-use Rattle.cells.specs.Grammar.{Record, columnOf, sameBytes}
-use Rattle.lists.specs.Lists.{Site, Zone, inZone, planFor}
-use Rattle.lists.specs.Refusals.{Entry, numberOf, siteOf, zoneOf, siteFormed, zoneFormed, siteFault, zoneFault, entryAt, has, repeated, rowFault, unlisted, unused, Judged, judgedFrom, judged, Refusal, accepted, inList, planOf, tooLarge, refusalOf}
+use Rattle.format.proofs.Bools.{and-join}
+use Rattle.cells.specs.Grammar.{columnOf, sameBytes}
+use Rattle.lists.specs.Lists.{Site, Zone, inZone}
+use Rattle.lists.specs.Refusals.{Entry, numberOf, siteOf, zoneOf, siteFormed, zoneFormed, siteFault, zoneFault, entryAt, has, repeated, rowFault, unused, judged, Refusal, accepted, planOf, tooLarge, refusalOf}
 use Rattle.lists.proofs.Bytes.{same-eq, same-comm}
 use Rattle.lists.proofs.Counts.{or-left-false, or-right-false, Apart, Used, Few, few, size-alone}
 use Rattle.lists.proofs.Lawful.{Bounded, Sound, plan-read, plan-short}

@@ -1,10 +1,9 @@
 -- The test whether two lists of bytes are the same.
 -- Assumes nothing.
 use Prim.Native.Nat.{ℕ}
-use mathlib.Core.Path.{_≡_, refl, sym, ap, ap₂, _∙_}
-use mathlib.Core.Bool.{Bool, true, false, true≢false}
+use mathlib.Core.Path.{_≡_, refl, sym, ap₂}
+use mathlib.Core.Bool.{true, true≢false}
 use mathlib.Core.List.{List, [], _∷_}
-use lib.Dec.{eqb}
 use borrow.Author.Tests.{eqb-true, eq-eqb}
 use Rattle.plpb.specs.Lists.{_and_}
 use Rattle.format.proofs.Bools.{and-left, and-right, and-join, same-test}

@@ -1,19 +1,19 @@
 -- How many clauses, rules and terms the plan of two lists has: where the zones are apart and each has a site, there are no more zones than sites, and
 -- the zones' terms are no more than the sites. So with 512 sites at most nothing else can be too large.
 -- Assumes nothing.
-use Prim.Native.Nat.{ℕ, zero, suc, _+_, _*_, _≤_, _<_}
+use Prim.Native.Nat.{ℕ, suc, _+_, _*_, _≤_}
 use native.Mathlib.Omega.{arith}
 use native.Mathlib.Nat.{le-refl}
-use mathlib.Core.Path.{_≡_, refl, sym, ap, ap₂, _∙_}
+use mathlib.Core.Path.{_≡_, refl, sym, ap, _∙_}
 use mathlib.Core.Bool.{Bool, true, false, cond, true≢false}
 use mathlib.Core.List.{List, [], _∷_, _++_, map}
-use lib.Dec.{eqb, leb, ltb}
-use lib.ListN.{length, length-append, length-map}
+use lib.Dec.{eqb, ltb}
+use lib.ListN.{length, length-map}
 use borrow.Author.Tests.{le-ltb, ltb-false}
 use Rattle.plpb.specs.Lists.{_or_, count, any, all, concat, sumBy}
 use Rattle.plpb.specs.Plan.{Term, Rule, Plan}
 use Rattle.plpb.specs.Tallies.{rulesOf}
-use Rattle.plpb.proofs.Lists.{count-nil, count-cons, count-is-sum, sumBy-append, sumBy-plus, sumBy-same}
+use Rattle.plpb.proofs.Lists.{count-nil, count-cons, count-is-sum, sumBy-plus, sumBy-same}
 use Rattle.format.specs.Limits.{termCount}
 use Rattle.format.proofs.Bools.{and-left, and-right}
 use Rattle.cells.specs.Grammar.{sameBytes}

@@ -1,26 +1,26 @@
 -- The plan of two lists that nothing is wrong with is lawful, so that its file is accepted and gives it back.
 -- Assumes nothing.
-use Prim.Native.Nat.{ℕ, zero, suc, _+_, _*_, _≤_, _<_}
+use Prim.Native.Nat.{ℕ, suc, _+_, _≤_, _<_}
 use native.Mathlib.Omega.{arith}
-use mathlib.Core.Path.{_≡_, refl, sym, ap, _∙_}
-use mathlib.Core.Bool.{Bool, true, false, not, cond}
-use mathlib.Core.List.{List, [], _∷_, map}
-use lib.Dec.{T, eqb, leb, ltb}
-use lib.IntN.{pos, natAbs}
+use mathlib.Core.Path.{_≡_, refl, _∙_}
+use mathlib.Core.Bool.{Bool, true, false, cond}
+use mathlib.Core.List.{List, [], _∷_}
+use lib.Dec.{T, eqb, leb}
+use lib.IntN.{pos}
 use lib.ListN.{length}
 use borrow.Author.Tests.{le-leb, lt-ltb, leb-true, eqb-false}
-use Rattle.plpb.specs.Lists.{_and_, _or_, count, any, all}
-use Rattle.plpb.specs.Plan.{Term, Rule, Plan, risingAbove, rising}
+use Rattle.plpb.specs.Lists.{_and_, _or_, any, all}
+use Rattle.plpb.specs.Plan.{risingAbove, rising}
 use Rattle.plpb.proofs.Lists.{all-map}
-use Rattle.format.specs.Limits.{weightLawful, boundLawful, isPresent, lockTerm, lockTerms, ruleLawful, termsLawful, lawful}
+use Rattle.format.specs.Limits.{weightLawful, boundLawful, isPresent, ruleLawful, lawful}
 use Rattle.format.specs.File as File
 use Rattle.format.specs.Writer.{write}
 use Rattle.format.proofs.Bools.{and-left, and-right, and-join}
 use Rattle.format.proofs.Bounds.{bothLawful}
-use Rattle.format.proofs.Lawful.{termWithin, LawfulTerms, LawfulRule, rule-whole, clauseLawful, clause-whole, LawfulPlan, plan-whole}
+use Rattle.format.proofs.Lawful.{termWithin, LawfulTerms, rule-whole, clauseLawful, clause-whole, plan-whole}
 use Rattle.format.proofs.RoundTrip.{read-write}
 use Rattle.format.proofs.Sizes.{write-short}
-use Rattle.lists.specs.Lists.{Site, Zone, inZone, termsBy, metresTerms, zoneTerms, between, noneAtAll, zoneClause, planFor}
+use Rattle.lists.specs.Lists.{Site, Zone, inZone, termsBy, zoneTerms, between, noneAtAll, zoneClause, planFor}
 use Rattle.lists.specs.Refusals.{tooLarge}
 use Rattle.lists.proofs.Counts.{any-count, terms-count, Used, small-enough}
 

@@ -1,15 +1,15 @@
 -- The values that the grammar reads consist of bytes: the text of fields does, and what else may stand in quotes.
 -- Assumes nothing.
-use Prim.Native.Nat.{ℕ, zero, suc, _≤_, _<_}
+use Prim.Native.Nat.{ℕ, zero, suc, _<_}
 use native.Mathlib.Omega.{arith}
 use native.Mathlib.Decide.{decLt}
-use mathlib.Core.Path.{_≡_, refl, sym, ap, _∙_}
+use mathlib.Core.Path.{_≡_, refl, sym, _∙_}
 use mathlib.Core.Bool.{Bool, true, false, cond, true≢false}
 use mathlib.Core.List.{List, [], _∷_}
 use mathlib.Core.Option.{Option, none, some}
 use lib.Dec.{eqb, leb, ltb}
 use lib.ListN.{length, getD}
-use borrow.Author.Tests.{lt-leb, lt-ltb, eqb-true, ne-eqb}
+use borrow.Author.Tests.{lt-leb, lt-ltb, eqb-true}
 use Rattle.plpb.specs.Lists.{_and_, _or_, all}
 use Rattle.format.proofs.Bools.{and-left, and-right, and-join, and-false}
 use Rattle.cells.specs.Grammar.{isText, mayStand, quote, comma, cr, lf, Field, broken, field, before, plain, inQuotes, fieldOf, withComma, withEnd, Record, Row, malformed, row, lone, beforeRow, leading, rowOf, valuesIn, behindRow, rowsIn, rowsOf, columnOf}

@@ -4,15 +4,15 @@ use Prim.Native.Nat.{ℕ, zero, suc, _+_}
 use native.Mathlib.Omega.{arith}
 use mathlib.Core.Path.{_≡_, refl, sym, ap, ap₂, _∙_}
 use mathlib.Core.Bool.{Bool, true, false, cond}
-use mathlib.Core.List.{List, [], _∷_, map}
+use mathlib.Core.List.{List, [], _∷_}
 use lib.Dec.{leb, eqb, leb·suc-zero, eqb·suc-zero}
-use lib.IntN.{ℤ, pos, _+ℤ_}
+use lib.IntN.{pos}
 use lib.ListN.{getD, drop}
 use borrow.Author.Tests.{eqb-true}
-use Rattle.plpb.specs.Lists.{_and_, _or_, any, all, sumBy}
-use Rattle.plpb.specs.Plan.{Term, Plan, value, total, atLeast, atMost, ruleHolds, clauseHolds, satisfies, cost}
+use Rattle.plpb.specs.Lists.{_and_, _or_, any, sumBy}
+use Rattle.plpb.specs.Plan.{Term, value, total, atLeast, atMost, ruleHolds, clauseHolds, satisfies, cost}
 use Rattle.plpb.proofs.Lists.{or-false, true-and, false-and, all-map, all-same, count-is-sum}
-use Rattle.lists.specs.Lists.{Site, Zone, inZone, termsBy, metresTerms, zoneTerms, between, noneAtAll, zoneClause, planFor}
+use Rattle.lists.specs.Lists.{Site, Zone, inZone, termsBy, zoneTerms, between, noneAtAll, zoneClause, planFor}
 use Rattle.lists.specs.Choices.{chosen, chosenIn, obeysZone, obeysZones, carried}
 
 -- The sites chosen weigh what those behind the first weigh, and the first if it is chosen.

@@ -1,7 +1,7 @@
 -- "The plan's solutions are the choices of sites that obey the zone list, stated without the plan." (document 02, T-07)
 -- Assumes nothing.
 use Prim.Native.Nat.{ℕ}
-use mathlib.Core.Bool.{Bool, true, false, cond}
+use mathlib.Core.Bool.{Bool, cond}
 use mathlib.Core.List.{List, [], _∷_}
 use lib.Dec.{leb, eqb}
 use Rattle.plpb.specs.Lists.{_and_, _or_, count, all, sumBy}

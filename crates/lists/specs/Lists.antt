@@ -1,12 +1,12 @@
 -- Sites and zones, and the plan that two lists of them mean (document 02, T-07).
 -- Assumes nothing.
-use Prim.Native.Nat.{ℕ, zero, suc}
-use mathlib.Core.Bool.{Bool, true, false, cond}
+use Prim.Native.Nat.{ℕ, suc}
+use mathlib.Core.Bool.{Bool, cond}
 use mathlib.Core.List.{List, [], _∷_, map}
 use lib.Dec.{eqb}
 use lib.IntN.{pos}
 use lib.ListN.{length}
-use Rattle.plpb.specs.Plan.{Bound, absent, present, Term, Rule, Clause, Plan}
+use Rattle.plpb.specs.Plan.{absent, present, Term, Rule, Clause, Plan}
 use Rattle.cells.specs.Grammar.{sameBytes}
 
 -- "Sites: code, carry metres, zone."

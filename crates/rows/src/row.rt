@@ -8,7 +8,6 @@ ghost use Rattle.plpb.specs.Lists.{any};
 ghost use Rattle.cells.specs.Grammar.{Record, beforeRow, rowOf, rowsOf, columnOf};
 ghost use Rattle.cells.specs.Values.{gather, sameValue};
 ghost use Rattle.rows.specs.Reading.{Holds, ReadsRow, columns, noRow};
-use cells::field::Field;
 use cells::field::last;
 use cells::field::lead;
 use cells::value::Value;

@@ -2,7 +2,7 @@
 -- Assumes nothing.
 use borrow.Author.Needs.{needs}
 use native.Mathlib.Omega.{arith}
-use mathlib.Core.Path.{_≡_, refl, sym, ap, _∙_}
+use mathlib.Core.Path.{refl, sym, ap, _∙_}
 use Rattle.lists.specs.Refusals.{Refusal, siteRows, zoneRows}
 use Rattle.lists.proofs.Accepted.{accepted-is}
 use Rattle.csv.proofs.Answers.{small-room, room, says-refused, says-accepted}

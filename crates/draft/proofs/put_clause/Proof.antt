@@ -1,16 +1,10 @@
 -- `draft::put_clause` meets its contract: the clause's field, a rule, and another where none at all will do.
 -- Assumes nothing.
-use borrow.Author.Needs.{needs}
-use Prim.Native.Nat.{_+_}
 use native.Mathlib.Omega.{arith}
-use mathlib.Core.Path.{_≡_, refl, sym, ap, _∙_}
-use mathlib.Core.Bool.{Bool, true, false}
-use mathlib.Core.List.{List, [], _∷_, _++_, map}
-use lib.ListN.{length, length-append}
-use Rattle.format.specs.Writer.{field, clauseFields}
-use Rattle.lists.specs.Lists.{zoneClause}
-use Rattle.lists.specs.Refusals.{siteOf, siteRows}
-use Rattle.draft.specs.Draft.{termsOf, ruleBody, Wrote}
+use mathlib.Core.Path.{sym, _∙_}
+use mathlib.Core.List.{[]}
+use Rattle.format.specs.Writer.{field}
+use Rattle.lists.specs.Refusals.{siteRows}
 use Rattle.draft.proofs.Writing.{wrote-more, wrote-as}
 use Rattle.draft.proofs.Rules.{clause-begun, clause-one, clause-two, clause-as}
 use Rattle.draft.proofs.put_clause.Statement.{statement}

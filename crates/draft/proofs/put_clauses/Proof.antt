@@ -2,11 +2,11 @@
 -- the zones left.
 -- Assumes nothing.
 use borrow.Author.Needs.{needs}
-use Prim.Native.Nat.{ℕ, _+_, _*_, _-_, _≤_, _<_}
+use Prim.Native.Nat.{ℕ, _-_, _≤_, _<_}
 use native.Mathlib.Omega.{arith}
 use mathlib.Core.Path.{_≡_, refl, sym, ap, _∙_}
-use mathlib.Core.Bool.{Bool, true, false}
-use mathlib.Core.List.{List, map}
+use mathlib.Core.Bool.{true}
+use mathlib.Core.List.{map}
 use lib.ListN.{length, take}
 use lib.Seq.{take-length}
 use Rattle.format.specs.Writer.{clauseFields}

@@ -1,11 +1,8 @@
 -- `draft::put_plan` meets its contract: the front, the clauses and the end.
 -- Assumes nothing.
-use borrow.Author.Needs.{needs}
-use Prim.Native.Nat.{_+_, _*_, _≤_}
 use native.Mathlib.Omega.{arith}
-use mathlib.Core.Path.{_≡_, refl, sym, ap, _∙_}
-use mathlib.Core.List.{List, []}
-use lib.ListN.{length}
+use mathlib.Core.Path.{_∙_}
+use mathlib.Core.List.{[]}
 use Rattle.format.specs.Writer.{field}
 use Rattle.lists.specs.Refusals.{siteRows, zoneRows}
 use Rattle.lists.proofs.Accepted.{accepted-faultless}

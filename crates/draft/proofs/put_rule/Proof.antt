@@ -1,6 +1,5 @@
 -- `draft::put_rule` meets its contract: the terms, then what stands before them.
 -- Assumes nothing.
-use borrow.Author.Needs.{needs}
 use native.Mathlib.Omega.{arith}
 use mathlib.Core.Path.{_∙_}
 use Rattle.draft.proofs.Rules.{rule-wrote}

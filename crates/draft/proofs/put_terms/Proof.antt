@@ -5,7 +5,7 @@ use borrow.Author.Needs.{needs}
 use Prim.Native.Nat.{ℕ, _+_, _*_, _-_, _≤_, _<_}
 use native.Mathlib.Omega.{arith}
 use mathlib.Core.Path.{_≡_, refl, sym, ap, _∙_}
-use mathlib.Core.Bool.{Bool, false}
+use mathlib.Core.Bool.{false}
 use mathlib.Core.List.{List}
 use lib.ListN.{length, take}
 use lib.Seq.{take-length}

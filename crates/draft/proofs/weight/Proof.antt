@@ -2,8 +2,8 @@
 -- Assumes nothing.
 use borrow.Author.Needs.{needs}
 use borrow.Author.Tests.{not-true, not-false}
-use mathlib.Core.Path.{_≡_, refl, sym, ap, _∙_}
-use mathlib.Core.Bool.{Bool, true, false}
+use mathlib.Core.Path.{sym, _∙_}
+use mathlib.Core.Bool.{true, false}
 use Rattle.draft.proofs.Terms.{weigh-metres, weigh-zone}
 use Rattle.draft.proofs.weight.Statement.{statement}
 use Rattle.draft.proofs.weight.Tie as tie

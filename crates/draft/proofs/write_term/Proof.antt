@@ -3,7 +3,6 @@
 use borrow.Author.Needs.{needs}
 use Prim.Native.Nat.{_+_}
 use native.Mathlib.Omega.{arith}
-use mathlib.Core.Path.{refl, sym, ap, _∙_}
 use Rattle.words.specs.Words.{bytesOf}
 use Rattle.words.proofs.Words.{length-bytesOf}
 use Rattle.draft.proofs.Writing.{join}

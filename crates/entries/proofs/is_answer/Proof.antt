@@ -1,7 +1,7 @@
 -- `entries::is_answer` meets its contract.
 -- Assumes nothing.
 use borrow.Author.Needs.{needs}
-use mathlib.Core.Path.{_≡_, refl, sym, ap, _∙_}
+use mathlib.Core.Path.{_≡_, sym, _∙_}
 use mathlib.Core.Bool.{Bool, true, false}
 use Rattle.plpb.specs.Lists.{_or_}
 use Rattle.entries.proofs.is_answer.Statement.{statement}

@@ -2,7 +2,7 @@
 -- Assumes nothing.
 use borrow.Author.Needs.{needs}
 use native.Mathlib.Omega.{arith}
-use mathlib.Core.Path.{_≡_, refl, sym, ap, _∙_}
+use mathlib.Core.Path.{_∙_}
 use mathlib.Core.Bool.{true, false}
 use Rattle.lists.specs.Refusals.{rowFault, siteRows, zoneRows}
 use Rattle.entries.proofs.Verdicts.{tells-refused, refuse-sites, refuse-zones, row-counts, all-rows, at-row}

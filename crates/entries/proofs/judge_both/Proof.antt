@@ -1,9 +1,8 @@
 -- `entries::judge_both` meets its contract: 54, 55, then 4.
 -- Assumes nothing.
 use borrow.Author.Needs.{needs}
-use Prim.Native.Nat.{ℕ}
 use native.Mathlib.Omega.{arith}
-use mathlib.Core.Path.{_≡_, refl, sym, ap, _∙_}
+use mathlib.Core.Path.{sym, _∙_}
 use mathlib.Core.Bool.{true, false}
 use Rattle.lists.specs.Refusals.{unlisted, unused, siteRows, zoneRows}
 use Rattle.entries.proofs.Verdicts.{unlisted-is, unused-is, tells-refused, tells-accepted, refuse-unlisted, refuse-unused, refuse-empty, refuse-large, accept, row-counts, all-rows, at-row}

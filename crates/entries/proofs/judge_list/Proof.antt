@@ -2,9 +2,9 @@
 -- does. The measure is the rows left.
 -- Assumes nothing.
 use borrow.Author.Needs.{needs}
-use Prim.Native.Nat.{ℕ, _+_, _-_, _<_}
+use Prim.Native.Nat.{_-_}
 use native.Mathlib.Omega.{arith}
-use mathlib.Core.Path.{_≡_, refl, sym, ap, _∙_}
+use mathlib.Core.Path.{_≡_, refl, sym, _∙_}
 use lib.ListN.{length}
 use Rattle.rows.proofs.Rows.{Place, place-first, no-bytes}
 use Rattle.lists.specs.Refusals.{rowFault, judgedFrom, judged}

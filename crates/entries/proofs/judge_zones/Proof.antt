@@ -3,15 +3,15 @@
 -- Assumes nothing.
 use borrow.Author.Needs.{needs}
 use borrow.Author.Tests.{not-true, not-false}
-use Prim.Native.Nat.{ℕ, _+_, _-_, _<_, _≤_}
+use Prim.Native.Nat.{_-_}
 use native.Mathlib.Omega.{arith}
 use native.Mathlib.Nat.{le-of-eq}
-use mathlib.Core.Path.{_≡_, refl, sym, ap, _∙_, subst}
-use mathlib.Core.Bool.{Bool, not}
+use mathlib.Core.Path.{_≡_, refl, sym, _∙_}
+use mathlib.Core.Bool.{not}
 use lib.ListN.{length}
 use Rattle.rows.proofs.Rows.{Place, place-first, no-bytes}
 use Rattle.lists.specs.Refusals.{judgedFrom, judged}
-use Rattle.entries.specs.Judging.{entriesOf, zoneColumn, missing}
+use Rattle.entries.specs.Judging.{entriesOf, missing}
 use Rattle.entries.proofs.Rows.{judge-start, judge-end, says, row-here, row-fits, row-next, stop-missing, go-listed, column-known}
 use Rattle.entries.proofs.judge_zones.Statement.{statement}
 use Rattle.entries.proofs.judge_zones.Tie as tie

@@ -1,7 +1,7 @@
 -- `entries::own_fault` meets its contract.
 -- Assumes nothing.
 use borrow.Author.Needs.{needs}
-use mathlib.Core.Path.{_≡_, sym, ap, _∙_}
+use mathlib.Core.Path.{sym, ap, _∙_}
 use mathlib.Core.Bool.{Bool}
 use Rattle.entries.specs.Judging.{ownFault}
 use Rattle.entries.proofs.own_fault.Statement.{statement}

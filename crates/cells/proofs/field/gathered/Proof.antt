@@ -1,7 +1,7 @@
 -- `cells::field::gathered` meets its contract.
 -- Assumes nothing.
 use borrow.Author.Needs.{needs}
-use mathlib.Core.Path.{_≡_, refl, sym, ap, _∙_}
+use mathlib.Core.Path.{_≡_, sym, ap, _∙_}
 use mathlib.Core.Bool.{Bool, true, false, cond}
 use Rattle.cells.specs.declared.value.Value.{Value}
 use Rattle.cells.proofs.field.gathered.Statement.{statement}

@@ -3,7 +3,6 @@
 use borrow.Author.Needs.{needs}
 use native.Mathlib.Omega.{arith}
 use mathlib.Core.Path.{refl}
-use Rattle.cells.specs.Reading.{Reads}
 use Rattle.cells.proofs.Fields.{field-none, field-quoted, field-plain}
 use Rattle.cells.proofs.field.read_field.Statement.{statement}
 use Rattle.cells.proofs.field.read_field.Tie as tie

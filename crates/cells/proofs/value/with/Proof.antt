@@ -2,7 +2,6 @@
 -- Assumes nothing.
 use borrow.Author.Needs.{needs}
 use borrow.Author.Tests.{le-leb, lt-leb, lt-ltb, le-ltb}
-use mathlib.Core.Path.{_∙_}
 use Rattle.cells.specs.Values.{added}
 use Rattle.cells.proofs.value.with.Statement.{statement}
 use Rattle.cells.proofs.value.with.Tie as tie

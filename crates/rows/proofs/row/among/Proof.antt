@@ -4,13 +4,12 @@
 use borrow.Author.Needs.{needs}
 use Prim.Native.Nat.{_-_, _≤_}
 use native.Mathlib.Omega.{arith}
-use mathlib.Core.Path.{_≡_, refl, sym, ap, _∙_}
-use mathlib.Core.Bool.{Bool, false}
-use mathlib.Core.Option.{Option}
-use lib.ListN.{length, take}
+use mathlib.Core.Path.{_≡_, sym, ap, _∙_}
+use mathlib.Core.Bool.{false}
+use lib.ListN.{take}
 use Rattle.plpb.specs.Lists.{any}
 use Rattle.cells.specs.declared.value.Value.{Value}
-use Rattle.cells.specs.Grammar.{Record, rowsOf, columnOf}
+use Rattle.cells.specs.Grammar.{rowsOf, columnOf}
 use Rattle.cells.specs.Values.{gather, sameValue}
 use Rattle.rows.specs.Reading.{columns}
 use Rattle.rows.proofs.Rows.{Place, place-first, more-bytes, is-row, row-held, place-next, any-none, any-more, any-found}

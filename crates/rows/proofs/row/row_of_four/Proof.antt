@@ -2,10 +2,6 @@
 -- Assumes nothing.
 use borrow.Author.Needs.{needs}
 use borrow.Author.Tests.{not-true, not-false}
-use mathlib.Core.Path.{_∙_, sym, ap}
-use mathlib.Core.List.{List}
-use Prim.Native.Nat.{ℕ}
-use Rattle.cells.specs.Grammar.{withEnd, fieldOf}
 use Rattle.rows.proofs.Rows.{read-field, no-field, row-stop, two-left, two-stop, reads-malformed, still-malformed, reads-four}
 use Rattle.rows.proofs.row.row_of_four.Statement.{statement}
 use Rattle.rows.proofs.row.row_of_four.Tie as tie
