@@ -4,7 +4,7 @@ use fuzz::figures::CASES;
 
 #[test]
 fn a_short_run() {
-    let figures = fuzz::run(2026, |number| number < 48_000);
+    let figures = fuzz::run(2026, |number| number < 96_000);
     let calls: [(&str, &[u32]); 6] = [
         ("load", &[0, 1, 2, 3, 4, 5, 6, 7, 10, 21]),
         ("open", &[0, 21, 22, 24]),
