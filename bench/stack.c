@@ -7,12 +7,13 @@
 #include <string.h>
 #include <ucontext.h>
 
-enum { SIZE = 1 << 20, PAINT = 0xa5, CALLS = 6, LISTED = 4 * 200 };
+enum { SIZE = 1 << 20, PAINT = 0xa5, CALLS = 7, LISTED = 4 * 200 };
 
 static uint8_t file[PLANNER_INPUT_SIZE], numbers[LISTED];
 static planner_plan plan;
 static planner_state state;
 static planner_work work;
+static planner_list old;
 static size_t length, listed;
 static uint32_t refusal;
 
@@ -25,6 +26,7 @@ static void search(void) {
     planner_settings settings = planner_settings_of(500, 10, 1000, PLANNER_LBS);
     refusal = planner_plan_search(&plan, settings, numbers, listed, &state, &work).refusal;
 }
+static void squeeze(void) { refusal = planner_file_squeeze(file, length, &old).refusal; }
 
 static size_t touched(void (*call)(void)) {
     static uint8_t stack[SIZE];
@@ -49,8 +51,8 @@ static size_t contents(const char *name, uint8_t *bytes, size_t most) {
 }
 
 int main(int count, char **names) {
-    void (*calls[CALLS])(void) = {nothing, load, search, open, flip, counts};
-    const char *called[CALLS] = {"nothing", "load", "search", "open", "flip", "counts"};
+    void (*calls[CALLS])(void) = {nothing, load, search, open, flip, counts, squeeze};
+    const char *called[CALLS] = {"nothing", "load", "search", "open", "flip", "counts", "squeeze"};
     size_t deepest[CALLS] = {0};
     if (count < 3) {
         printf("usage: stack NUMBERS PLAN...\n");

@@ -70,6 +70,17 @@ static void run(uint32_t load, uint32_t call, uint32_t search, const size_t *siz
     }
 }
 
+/* A squeeze of a file in a block of its own, with a list of this many bytes. */
+static void squeeze(uint32_t refusal, const uint8_t *file, size_t length, size_t list) {
+    uint8_t *own = block(length), *old = block(list);
+    if (own) memcpy(own, file, length);
+    planner_squeezed squeezed = planner_squeeze(own, length, old, list);
+    expect("squeeze", squeezed.refusal, refusal);
+    if (!refusal && squeezed.length > length) exit(1);
+    free(own);
+    free(old);
+}
+
 int main(int count, char **arguments) {
     if (count != 4) return 2;
     size_t length, listed, size[BUFFERS];
@@ -86,6 +97,11 @@ int main(int count, char **arguments) {
             run(shortened < 2 ? small : 0, shortened < 4 ? small : 0, small, size, file, length, numbers, listed);
         }
     }
+    squeeze(0, file, length, PLANNER_LIST_SIZE);
+    squeeze(small, file, length, PLANNER_LIST_SIZE - 1);
+    squeeze(small, file, length, 0);
+    squeeze(PLANNER_CUT_SHORT, file, length - 1, PLANNER_LIST_SIZE);
+    squeeze(PLANNER_CUT_SHORT, NULL, 0, PLANNER_LIST_SIZE);
     printf("%s: exact and short blocks\n", arguments[1]);
     free(file);
     free(numbers);

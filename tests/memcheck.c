@@ -44,6 +44,23 @@ static void flip(planner_state *state, const planner_plan *plan, uint32_t variab
     }
 }
 
+/* Squeezes the plan's file and loads what is left of it: its variables are those that were unlocked, in order. A plan
+ * that has every variable locked, or whose locks lose a clause, stays as it is. */
+static void squeeze(planner_plan *plan, uint8_t *file, size_t length) {
+    planner_list *old = block(sizeof *old);
+    planner_squeezed squeezed = planner_file_squeeze(file, length, old);
+    uint32_t left = 0;
+    if (squeezed.refusal != PLANNER_ALL_LOCKED && squeezed.refusal != PLANNER_CLAUSE_LOST) {
+        expect("squeeze", squeezed.refusal);
+        for (uint32_t variable = 1; variable <= planner_plan_variables(plan); variable++) {
+            if (planner_plan_lock(plan, variable) == PLANNER_FREE && planner_list_old(old, ++left) != variable) exit(1);
+        }
+        expect("load of what is left", planner_plan_load(plan, file, squeezed.length).refusal);
+        if (planner_plan_variables(plan) != left || planner_list_old(old, left + 1) != 0) exit(1);
+    }
+    free(old);
+}
+
 int main(int count, char **arguments) {
     if (count != 4) return 2;
     size_t length, listed;
@@ -77,6 +94,7 @@ int main(int count, char **arguments) {
         printf("%s: the readers disagree\n", arguments[1]);
         return 1;
     }
+    squeeze(plan, file, length);
     printf("%s: %s, %zu found, %zu flips\n", arguments[1], planner_ending_text(found.ending), found.finds, found.flips);
     free(file);
     free(numbers);
