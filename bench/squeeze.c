@@ -1,5 +1,5 @@
-// The squeeze of each plan file named, with no variable locked, with each sixteenth one and with each fourth one: what it
-// takes for each byte of the file.
+// The squeeze of each plan file named, with no variable locked, with each sixteenth one and with each fourth one: what
+// it takes for each byte of the file.
 //     squeeze ROUNDS PLAN...     the best of so many rounds
 #include "../include/planner.h"
 

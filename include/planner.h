@@ -12,16 +12,17 @@
  *     planner_flipped flipped = planner_state_flip(&state, &plan, 7);
  *
  * There are two layers. The archive exports six calls on pointers and lengths: planner_load, planner_open,
- * planner_flip, planner_counts, planner_search and planner_squeeze. What the comments say of them is proved. The structs and the
- * inline functions after them are plain C, which is tested and not proved: they lend buffers of the right sizes, so
- * that none is mixed up, and read what the calls leave. A program that uses these alone need not change when a call
- * gains an argument or an answer a field.
+ * planner_flip, planner_counts, planner_search and planner_squeeze. What the comments say of them is proved. The
+ * structs and the inline functions after them are plain C, which is tested and not proved: they lend buffers of the
+ * right sizes, so that none is mixed up, and read what the calls leave. A program that uses these alone need not change
+ * when a call gains an argument or an answer a field.
  *
  * What holds of every call:
  * - It may be made with anything at all. It returns, and gives what it was asked for or one of the refusals below.
  *   A refused call changes no byte of what it was lent.
  * - It touches nothing but the buffers it is lent, keeps no pointer, allocates nothing, has no state of its own and
- *   takes about a kilobyte of stack, planner_squeeze three. It is reentrant: threads may call at once, each with buffers of its own.
+ *   takes about a kilobyte of stack, planner_squeeze two and a half. It is reentrant: threads may call at once, each
+ *   with buffers of its own.
  * - The caller lends the memory that it says it lends, and no byte twice in one call. This cannot be tested by the
  *   call; it is assumed.
  * - NULL is fine where the length is 0: a file or a list of numbers may be empty, and any other buffer is then too
@@ -29,11 +30,11 @@
  * - The archive is for x86-64 Linux. Where the layout of the answers is another one, this header does not compile
  *   (C11, C++11).
  *
- * Time: load, open, flip, counts and squeeze take microseconds. A search works through the list of numbers: a flip takes at
- * least two of them. With 16,384 numbers it takes from a tenth of a second to some seconds on a server's core, more
- * on a slow one. It cannot be stopped or asked how far it is. To show something early, search with the first part of
- * the list, then with a longer one: a search that did not run short answers the same with a longer list, and one that ran
- * short with a find ends with a cost no higher.
+ * Time: load, open, flip, counts and squeeze take microseconds. A search works through the list of numbers: a flip
+ * takes at least two of them. With 16,384 numbers it takes from a tenth of a second to some seconds on a server's core,
+ * more on a slow one. It cannot be stopped or asked how far it is. To show something early, search with the first part
+ * of the list, then with a longer one: a search that did not run short answers the same with a longer list, and one
+ * that ran short with a find ends with a cost no higher.
  */
 #ifndef PLANNER_H
 #define PLANNER_H
