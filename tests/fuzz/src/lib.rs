@@ -8,6 +8,7 @@ pub mod calls;
 pub mod figures;
 pub mod loading;
 pub mod making;
+pub mod mapping;
 pub mod searching;
 pub mod squeezing;
 
@@ -15,7 +16,7 @@ use figures::Figures;
 use reference::random::Random;
 
 /// The calls, in the order in which the figures show them.
-pub const CALLS: [&str; 6] = ["load", "open", "flip", "counts", "search", "squeeze"];
+pub const CALLS: [&str; 7] = ["load", "open", "flip", "counts", "search", "squeeze", "map"];
 
 /// One call. It panics where the library and the reference differ.
 fn case(random: &mut Random, figures: &mut Figures) {
@@ -23,6 +24,7 @@ fn case(random: &mut Random, figures: &mut Figures) {
     match CALLS[call] {
         "load" => figures.count(call, loading::case(random)),
         "squeeze" => figures.count(call, squeezing::case(random)),
+        "map" => figures.count(call, mapping::case(random)),
         "search" => {
             let answer = searching::case(random, figures);
             figures.count(call, answer.refusal);
