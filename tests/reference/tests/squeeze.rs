@@ -97,7 +97,7 @@ fn clauses_along_the_edges() {
     let always = at_most(1, &[(2, 1)]);
     let either = at_least(1, &[(1, 1)]);
     let left = |rules: &[Rule]| left(&[], rules);
-    assert_eq!(left(&[never.clone()]), Err(Fault::ClauseLost));
+    assert_eq!(left(std::slice::from_ref(&never)), Err(Fault::ClauseLost));
     assert_eq!(
         left(&[never.clone(), never.clone()]),
         Err(Fault::ClauseLost)
