@@ -12,7 +12,8 @@ ghost use Rattle.format.specs.Limits.{maxVariables, maxClauses, maxRules, maxTe
 ghost use Rattle.format.specs.Layout.{tableSize, termSize, locksAt, clauseFirstAt, clauseCountAt, ruleFirstAt, ruleCountAt};
 ghost use Rattle.format.specs.File.{boundsLawful};
 ghost use Rattle.format.specs.Tables.{isLoaded};
-ghost use Rattle.format.specs.Good.{everyFrom, chainFrom, termsFrom, coefficientGood, objectiveGood, lockGood, locksGood, clausesGood, rulesGood, ruleGood, goodBy};
+ghost use Rattle.format.specs.Good.{everyFrom, chainFrom, termsFrom, coefficientGood, objectiveGood, lockGood, locksGood};
+ghost use Rattle.format.specs.Good.{clausesGood, rulesGood, ruleGood, goodBy};
 use format::CLAUSE_COUNT;
 use format::CLAUSES;
 use format::LOCKS;

@@ -39,7 +39,8 @@ fn add_term(tables: &[u8], terms: &mut [u8], v: usize, at: usize) -> usize
 
 // Writes the objective's terms from term `first` on; answers where the next goes.
 fn add_terms(tables: &[u8], terms: &mut [u8], first: usize) -> usize
-    requires { ⌜ (wordAt (now tables) 0 ≤ maxVariables) × (clausesByte ≤ length (now tables)) × (8 * (first + wordAt (now tables) 0) ≤ length (now terms)) ⌝ }
+    requires { ⌜ (wordAt (now tables) 0 ≤ maxVariables) × (clausesByte ≤ length (now tables))
+        × (8 * (first + wordAt (now tables) 0) ≤ length (now terms)) ⌝ }
     ensures { λ r. ⌜ (now (terms .exit) ≡ putWords (2 * first) (termEntries (objectiveOf (wordAt (now (tables .entry))))) (now (terms .entry)))
         × (r ≡ first + length (objectiveOf (wordAt (now (tables .entry))))) ⌝ }
 {
