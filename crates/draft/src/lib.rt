@@ -77,8 +77,8 @@ fn number_of(v: Value) -> u32
 
 // What a site weighs: 1 in the zone and 0 elsewhere, or its metres.
 fn weight(metres: Value, own: Value, zoned: bool, zone: Value) -> u32
-    ensures { λ r. ⌜ ((x : Entry) (name : List ℕ) → metres ≡ gather (columnOf 1 x) → own ≡ gather (columnOf 2 x) → OfBytes x → siteFault x ≡ 0
-        → Named zone name → r ≡ weigh zoned name (siteOf x)) ⌝ }
+    ensures { λ r. ⌜ ((x : Entry) (name : List ℕ) → metres ≡ gather (columnOf 1 x) → own ≡ gather (columnOf 2 x) → OfBytes x
+        → siteFault x ≡ 0 → Named zone name → r ≡ weigh zoned name (siteOf x)) ⌝ }
 {
     if !zoned {
         return number_of(metres);
@@ -89,7 +89,8 @@ fn weight(metres: Value, own: Value, zoned: bool, zone: Value) -> u32
 // A term, or none for weight 0. Answers the next place.
 fn put_term(out: &mut [u8], at: usize, variable: usize, weight: u32) -> usize
     requires { ⌜ at + 6 ≤ length (now out) ⌝ }
-    ensures { λ r. ⌜ Wrote at (cond (eqb weight 0) [] (bytesOf 2 variable ++ bytesOf 4 weight)) (now (out .entry)) (now (out .exit)) r × (r ≤ at + 6) ⌝ }
+    ensures { λ r. ⌜ Wrote at (cond (eqb weight 0) [] (bytesOf 2 variable ++ bytesOf 4 weight)) (now (out .entry)) (now (out .exit)) r
+        × (r ≤ at + 6) ⌝ }
 {
     if weight == 0 {
         return at;
@@ -102,7 +103,8 @@ fn put_term(out: &mut [u8], at: usize, variable: usize, weight: u32) -> usize
 fn put_terms(out: &mut [u8], from: usize, sites: &[u8], n: usize, zoned: bool, zone: Value) -> usize
     requires { ⌜ Well false (now sites) × (n ≡ length (siteRows (now sites))) × (from + 6 * n ≤ length (now out)) ⌝ }
     ensures { λ r. ⌜ ((name : List ℕ) → Named zone name
-        → Wrote from (termsOf zoned name (siteRows (now (sites .entry)))) (now (out .entry)) (now (out .exit)) r) × (r ≤ from + 6 * n) × (from ≤ r) ⌝ }
+        → Wrote from (termsOf zoned name (siteRows (now (sites .entry)))) (now (out .entry)) (now (out .exit)) r)
+        × (r ≤ from + 6 * n) × (from ≤ r) ⌝ }
 {
     let mut to = from;
     let mut at = 0;
