@@ -43,7 +43,8 @@ fn put_rule(file: &mut [u8], at: usize, map: &[u8], to: usize, fate: Fate) -> us
 // Writes what is left of a rule, if anything is.
 fn keep_rule(file: &mut [u8], at: usize, map: &[u8], to: usize) -> usize
     requires { ⌜ RuleFits (now file) at × (to ≤ at) × (mapSize ≤ length (now map)) ⌝ }
-    ensures { λ r. ⌜ Laid (now (file .entry)) to (rulesWritten (decoded (now (map .entry))) (ruleAt (now (file .entry)) at ∷ [])) (now (file .exit)) r ⌝ }
+    ensures { λ r. ⌜ Laid (now (file .entry)) to (rulesWritten (decoded (now (map .entry))) (ruleAt (now (file .entry)) at ∷ []))
+        (now (file .exit)) r ⌝ }
 {
     let fate = rule::fate(file, at, map);
     if fate.mode == 4 {
@@ -74,7 +75,8 @@ fn keep_rules(file: &mut [u8], from: usize, map: &[u8], to: usize) -> Places
 
 // Writes what is left of a clause, if it is not dropped.
 fn keep_clause(file: &mut [u8], at: usize, map: &[u8], to: usize) -> Places
-    requires { ⌜ ((n : ℕ) × (c : Clause) × (cs : List Clause) × Rest n (now file) at [] (c ∷ cs)) × (to ≤ at) × (mapSize ≤ length (now map)) ⌝ }
+    requires { ⌜ ((n : ℕ) × (c : Clause) × (cs : List Clause) × Rest n (now file) at [] (c ∷ cs)) × (to ≤ at)
+        × (mapSize ≤ length (now map)) ⌝ }
     ensures { λ r. ⌜ ClauseMoved (decoded (now (map .entry))) (now (file .entry)) at to (now (file .exit)) (r .at) (r .to) ⌝ }
 {
     let run = clause::run_rules(file, at + 3, map);
