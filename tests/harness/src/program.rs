@@ -16,6 +16,24 @@ pub fn root() -> PathBuf {
     Path::new(env!("CARGO_MANIFEST_DIR")).join("../..")
 }
 
+/// What a C program over the headers prints, compiled by this standard.
+pub fn printed_by_c(standard: &str, program: &str) -> String {
+    let folder = Folder::empty();
+    let [source, built] = ["main.c", "main"].map(|name| folder.0.join(name));
+    fs::write(&source, program).unwrap();
+    let compiled = Command::new("gcc")
+        .args([standard, "-Wall", "-Wextra", "-Werror", "-I"])
+        .arg(root().join("include"))
+        .arg("-o")
+        .args([&built, &source])
+        .status()
+        .expect("gcc");
+    assert!(compiled.success());
+    let output = Command::new(&built).output().unwrap();
+    assert!(output.status.success());
+    String::from_utf8(output.stdout).unwrap()
+}
+
 /// A temporary folder, removed when it is dropped.
 pub struct Folder(pub PathBuf);
 

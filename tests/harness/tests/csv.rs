@@ -6,15 +6,15 @@ use harness::guarded::Guarded;
 use harness::layout;
 use harness::mapper::{map, raw, refused, Mapped};
 use harness::planner::Loaded;
-use harness::program::{root, Folder};
+use harness::program::{printed_by_c, root};
 use reference::csv::{mapped, LEAST_ROOM};
 use reference::file::{parse, write};
+use reference::making::from_hexadecimal;
 use reference::mapper::{damage, lists, sound};
 use reference::random::Random;
 use std::collections::BTreeMap;
 use std::fs;
 use std::mem::{offset_of, size_of};
-use std::process::Command;
 use std::ptr::{null, null_mut};
 
 /// The call answers and leaves what the reference says, with a buffer of this size; answers the
@@ -51,14 +51,6 @@ fn check(random: &mut Random, sites: &[u8], zones: &[u8], room: usize) -> u32 {
     answer.refusal
 }
 
-fn bytes(word: &str) -> Vec<u8> {
-    if word == "." {
-        return Vec::new();
-    }
-    let byte = |place| u8::from_str_radix(&word[place..place + 2], 16).unwrap();
-    (0..word.len()).step_by(2).map(byte).collect()
-}
-
 #[test]
 fn cases_of_a_separately_written_program() {
     let cases = fs::read_to_string(root().join("tests/vectors/csv.txt")).unwrap();
@@ -67,7 +59,11 @@ fn cases_of_a_separately_written_program() {
         let (given, expected) = case.split_once(" = ").unwrap();
         let (sites, zones) = given.split_once(' ').unwrap();
         let mut plan = vec![0; LEAST_ROOM];
-        let answer = map(&bytes(sites), &bytes(zones), &mut plan);
+        let answer = map(
+            &from_hexadecimal(sites),
+            &from_hexadecimal(zones),
+            &mut plan,
+        );
         let shown = if answer.refusal == 0 {
             let hex: Vec<String> = plan[..answer.length]
                 .iter()
@@ -214,23 +210,6 @@ fn null_where_a_length_is_0() {
     assert_eq!(answer, refusal(21));
 }
 
-/// What a C program over the header prints.
-fn printed(program: &str) -> String {
-    let folder = Folder::empty();
-    let [source, built] = ["main.c", "main"].map(|name| folder.0.join(name));
-    fs::write(&source, program).unwrap();
-    let compiled = Command::new("gcc")
-        .args(["-std=c99", "-Wall", "-Wextra", "-Werror", "-I"])
-        .arg(root().join("include"))
-        .arg("-o")
-        .args([&built, &source])
-        .status()
-        .expect("gcc");
-    assert!(compiled.success());
-    let output = Command::new(&built).output().unwrap();
-    String::from_utf8(output.stdout).unwrap()
-}
-
 #[test]
 fn the_header() {
     let program = "#include \"mapper.h\"\n#include <stdio.h>\nint main(void) {\n\
@@ -246,7 +225,7 @@ fn the_header() {
         LEAST_ROOM,
     ];
     let expected: Vec<String> = expected.iter().map(|n| n.to_string()).collect();
-    assert_eq!(printed(program).trim(), expected.join(" "));
+    assert_eq!(printed_by_c("-std=c99", program).trim(), expected.join(" "));
 }
 
 /// The rows of docs/REFUSALS.md that speak of lists have the header's names and words.
@@ -257,7 +236,10 @@ fn the_words_of_a_refusal() {
     let header = fs::read_to_string(root().join("include/mapper.h")).unwrap();
     let program = "#include \"mapper.h\"\n#include <stdio.h>\nint main(void) {\n\
         for (uint32_t i = 0; i < 100; i++) puts(planner_mapped_text(i));\n return 0;\n}\n";
-    let words: Vec<String> = printed(program).lines().map(str::to_string).collect();
+    let words: Vec<String> = printed_by_c("-std=c99", program)
+        .lines()
+        .map(str::to_string)
+        .collect();
     let mut count = 0;
     for line in section.lines().filter(|line| line.starts_with('|')) {
         let cells: Vec<&str> = line.trim_matches('|').split('|').map(str::trim).collect();

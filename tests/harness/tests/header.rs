@@ -3,7 +3,7 @@
 
 use harness::layout::{self, ASSIGNMENT, MARKS, SECTIONS, TABLES, TALLIES, TERM_TABLE};
 use harness::planner::{Counted, Loaded, Searched, Squeezed};
-use harness::program::{root, Folder};
+use harness::program::{printed_by_c, root};
 use harness::searching::{ending, ENDINGS};
 use reference::file::{MOST_CLAUSES, MOST_RULES, MOST_TERMS, MOST_VARIABLES};
 use reference::program::MOST_BYTES;
@@ -12,7 +12,6 @@ use reference::squeeze::LIST;
 use reference::walk::{Ending, LBS, LINEAR};
 use std::fs;
 use std::mem::{offset_of, size_of};
-use std::process::Command;
 
 /// What the C compiler makes of each expression of the header.
 fn in_c(expressions: &[&str]) -> Vec<i64> {
@@ -21,28 +20,10 @@ fn in_c(expressions: &[&str]) -> Vec<i64> {
         program += &format!("    printf(\"%lld\\n\", (long long)({expression}));\n");
     }
     program += "    return 0;\n}\n";
-    printed(&program)
+    printed_by_c("-std=c11", &program)
         .lines()
         .map(|line| line.parse().unwrap())
         .collect()
-}
-
-/// What a C program over the header prints.
-fn printed(program: &str) -> String {
-    let folder = Folder::empty();
-    let [source, built] = ["main.c", "main"].map(|name| folder.0.join(name));
-    fs::write(&source, program).unwrap();
-    let compiled = Command::new("gcc")
-        .args(["-std=c11", "-Wall", "-Wextra", "-Werror", "-I"])
-        .arg(root().join("include"))
-        .arg("-o")
-        .args([&built, &source])
-        .status()
-        .expect("gcc");
-    assert!(compiled.success());
-    let output = Command::new(&built).output().unwrap();
-    assert!(output.status.success());
-    String::from_utf8(output.stdout).unwrap()
 }
 
 #[test]
@@ -174,7 +155,7 @@ fn sizes_offsets_and_numbers() {
 fn texts_of_endings() {
     let program = "#include \"planner.h\"\n#include <stdio.h>\nint main(void) {\n\
         for (uint32_t i = 1; i <= 5; i++) puts(planner_ending_text(i));\n return 0;\n}\n";
-    let texts = printed(program);
+    let texts = printed_by_c("-std=c11", program);
     assert_eq!(texts.lines().count(), ENDINGS.len());
     for (text, ending) in texts.lines().zip(ENDINGS) {
         assert!(text.starts_with(&format!("{}: ", ending.name())), "{text}");
@@ -195,7 +176,7 @@ fn locks_of_a_plan() {
              printf(\"%u\\n\", (unsigned)planner_plan_lock(&plan, i));\n return 0;\n}}\n",
             bytes.join(",")
         );
-        let locks: Vec<Option<bool>> = printed(&program)
+        let locks: Vec<Option<bool>> = printed_by_c("-std=c11", &program)
             .lines()
             .map(|line| match line {
                 "0" => None,

@@ -5,7 +5,7 @@ use harness::guarded::Guarded;
 use harness::layout::{TABLES, TERM_TABLE};
 use harness::planner::{load, squeeze, Squeezed};
 use reference::file::{self, Refusal};
-use reference::making::{at_least, between, locking, plan};
+use reference::making::{at_least, between, from_hexadecimal, locking, plan};
 use reference::random::{self, Random};
 use reference::squeeze::{self as reference_squeeze, LIST};
 use std::collections::BTreeMap;
@@ -46,10 +46,7 @@ fn cases_of_a_separately_written_program() {
     let mut random = Random::new(120);
     for case in include_str!("../../vectors/squeezed.txt").lines() {
         let (digits, wanted) = case.split_once(" = ").unwrap();
-        let digits = digits.trim_matches('.');
-        let byte = |place| u8::from_str_radix(&digits[place..place + 2], 16).unwrap();
-        let bytes: Vec<u8> = (0..digits.len()).step_by(2).map(byte).collect();
-        let refusal = check(&mut random, &bytes, LIST);
+        let refusal = check(&mut random, &from_hexadecimal(digits), LIST);
         let wanted: Vec<&str> = wanted.split(' ').collect();
         let number = match wanted[0] {
             "refused" => wanted[1],

@@ -9,21 +9,13 @@ use reference::book::{Book, Call};
 use reference::counts::Count;
 use reference::exact;
 use reference::file::parse;
-use reference::making::bits;
+use reference::making::{bits, from_hexadecimal};
 use std::collections::BTreeSet;
 use std::fs;
 
 /// A file of a case; None for one that is not there.
 fn file(word: &str) -> Option<Vec<u8>> {
-    match word {
-        "-" => None,
-        "." => Some(Vec::new()),
-        digits => {
-            assert!(digits.len().is_multiple_of(2));
-            let byte = |place| u8::from_str_radix(&digits[place..place + 2], 16).unwrap();
-            Some((0..digits.len()).step_by(2).map(byte).collect())
-        }
-    }
+    (word != "-").then(|| from_hexadecimal(word))
 }
 
 #[test]

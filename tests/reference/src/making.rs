@@ -64,6 +64,14 @@ pub fn bits(digits: &str) -> Vec<bool> {
     digits.chars().map(|digit| digit == '1').collect()
 }
 
+/// Bytes from pairs of hexadecimal digits; `.` stands for none.
+pub fn from_hexadecimal(word: &str) -> Vec<u8> {
+    let digits = if word == "." { "" } else { word };
+    assert!(digits.len().is_multiple_of(2));
+    let byte = |place| u8::from_str_radix(&digits[place..place + 2], 16).unwrap();
+    (0..digits.len()).step_by(2).map(byte).collect()
+}
+
 /// A plan and an assignment at which variable 1 would spoil m + w over 2 less m over 2 clauses: the
 /// rule is w·x1 + Σ ≤ 1, and the weights of the sum, where all are 1, come to m. m is above 0.
 pub fn difference_over_2(m: i64, w: i64) -> (Plan, Vec<bool>) {

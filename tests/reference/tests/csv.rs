@@ -3,6 +3,7 @@
 
 use reference::csv::{lists, mapped, obeyed, plan, rows, Refusal, LEAST_ROOM};
 use reference::file::{parse, write};
+use reference::making::from_hexadecimal;
 use reference::mapper;
 use reference::plan::Plan;
 use reference::random::Random;
@@ -16,14 +17,6 @@ fn refused(number: u32, list: u32, row: usize) -> Result<Plan, Refusal> {
     Err(Refusal { number, list, row })
 }
 
-fn bytes(word: &str) -> Vec<u8> {
-    if word == "." {
-        return Vec::new();
-    }
-    let byte = |place| u8::from_str_radix(&word[place..place + 2], 16).unwrap();
-    (0..word.len()).step_by(2).map(byte).collect()
-}
-
 #[test]
 fn cases_of_a_separately_written_program() {
     let cases = include_str!("../../vectors/csv.txt");
@@ -31,7 +24,7 @@ fn cases_of_a_separately_written_program() {
     for case in cases.lines() {
         let (given, expected) = case.split_once(" = ").unwrap();
         let (sites, zones) = given.split_once(' ').unwrap();
-        let answer = match map(&bytes(sites), &bytes(zones)) {
+        let answer = match map(&from_hexadecimal(sites), &from_hexadecimal(zones)) {
             Ok(plan) => {
                 let hex: Vec<String> = write(&plan).iter().map(|b| format!("{b:02x}")).collect();
                 format!("accepted {}", hex.concat())

@@ -2,16 +2,11 @@
 //! the edges, and every assignment of the unlocked variables of small random plans.
 
 use reference::file::{parse, write, Refusal};
-use reference::making::{at_least, at_most, between, locking, plan, terms};
+use reference::making::{at_least, at_most, between, from_hexadecimal, locking, plan, terms};
 use reference::plan::{Plan, Rule};
 use reference::random::{self, Random, Shape};
 use reference::squeeze::{extended, squeeze, squeezed, Answer, Fault, LIST};
 use std::collections::BTreeSet;
-
-fn bytes_of(digits: &str) -> Vec<u8> {
-    let byte = |place| u8::from_str_radix(&digits[place..place + 2], 16).unwrap();
-    (0..digits.len()).step_by(2).map(byte).collect()
-}
 
 /// The words of a list up to its first 0.
 fn words(list: &[u8]) -> Vec<u32> {
@@ -26,7 +21,7 @@ fn cases_of_a_separately_written_program() {
     for case in cases.lines() {
         let (file, wanted) = case.split_once(" = ").unwrap();
         let wanted: Vec<&str> = wanted.split(' ').collect();
-        let mut file = bytes_of(file.trim_matches('.'));
+        let mut file = from_hexadecimal(file);
         let (before, mut list) = (file.clone(), vec![0xa5; LIST]);
         match squeeze(&mut file, &mut list) {
             Err(Refusal { number, offset }) => {
@@ -43,7 +38,7 @@ fn cases_of_a_separately_written_program() {
             Ok(Answer { length, constant }) => {
                 assert_eq!(wanted[0], length.to_string());
                 assert_eq!(wanted[1], constant.to_string());
-                assert_eq!(file, bytes_of(wanted[2]));
+                assert_eq!(file, from_hexadecimal(wanted[2]));
                 let old: Vec<String> = words(&list).iter().map(u32::to_string).collect();
                 assert_eq!(old.join(","), wanted[3]);
                 assert!(list[4 * old.len()..].iter().all(|&byte| byte == 0));
