@@ -26,8 +26,9 @@ use Rattle.recount.proofs.Along.{along-start, along-step, along-end}
 use Rattle.recount.proofs.Laid.{rule-lawful, rises}
 use Rattle.recount.proofs.Unnamed.{no-break}
 use Rattle.breaks.specs.declared.Effect.{Effect}
-use Rattle.breaks.specs.Breaks.{lentBits, spoilsPart, falseAfter, EffectOf, breaksAlong}
-use Rattle.breaks.proofs.Thresholds.{clause-breaks, plan-breaks}
+use Rattle.order.specs.Breaks.{spoilsPart, falseAfter, breaksAlong}
+use Rattle.breaks.specs.Breaks.{lentBits, EffectOf}
+use Rattle.order.proofs.Thresholds.{clause-breaks, plan-breaks}
 use Rattle.format.specs.Layout.{clauseCountAt, clauseFirstAt, ruleFirstAt}
 
 -- ---- one rule

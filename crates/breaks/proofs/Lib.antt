@@ -1,3 +1,3 @@
 -- Why thresholds tell whether a flip breaks anything.
-pub mod Thresholds
+pub mod After
 pub mod Breaking

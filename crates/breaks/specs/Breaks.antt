@@ -1,14 +1,11 @@
--- Whether a flip breaks a clause, told without a count.
+-- What a flip does to a rule of the tables, as the code has it.
 -- Assumes nothing.
-use Prim.Native.Nat.{ℕ, _+_}
+use Prim.Native.Nat.{ℕ}
 use mathlib.Core.Path.{_≡_}
-use mathlib.Core.Bool.{Bool}
 use mathlib.Core.List.{List}
-use lib.Dec.{ltb}
-use Rattle.plpb.specs.Lists.{_and_, _or_, any, all}
 use Rattle.plpb.specs.Plan.{Rule, Assignment}
-use Rattle.plpb.specs.Equations.{sharesOf}
 use Rattle.plpb.specs.Try.{Try}
+use Rattle.order.specs.Breaks.{spoilsPart, falseAfter}
 use Rattle.format.specs.Tables.{planOfTables}
 use Rattle.tallies.specs.Layout.{bitsOf}
 use Rattle.breaks.specs.declared.Effect.{Effect}
@@ -21,18 +18,6 @@ lentBits tables terms assignment = bitsOf (planOfTables tables terms .variables)
 abbrev pub lentTry : List ℕ → List ℕ → List ℕ → Try
 lentTry tables terms assignment = record { bits = lentBits tables terms assignment }
 
--- The flip spoils some part of a rule: 0 < e.
-unfoldable pub spoilsPart : Assignment → ℕ → Rule → Bool
-spoilsPart a x q = ltb 0 (sharesOf a x q .e)
-
--- Some part of it is false after the flip: 0 < e + g.
-unfoldable pub falseAfter : Assignment → ℕ → Rule → Bool
-falseAfter a x q = ltb 0 (sharesOf a x q .e + sharesOf a x q .g)
-
 pub record EffectOf (a : Assignment) (x : ℕ) (q : Rule) (e : Effect) : Type 0 where
   pub fails : e .fails ≡ falseAfter a x q
   pub spoils : e .spoils ≡ spoilsPart a x q
-
--- A joined part is spoiled where each rule has a part that is false after the flip, and one of them was true before it: of this rule or of one seen before.
-unfoldable pub breaksAlong : Assignment → ℕ → Bool → List Rule → Bool
-breaksAlong a x seen rs = all (falseAfter a x) rs and (seen or any (spoilsPart a x) rs)

@@ -34,10 +34,11 @@ use Rattle.recount.specs.Core.{Laid, Ready}
 use Rattle.recount.proofs.Along.{along-start, along-step, any-end}
 use Rattle.recount.proofs.Laid.{parts, rule-lawful, clause-here, rules-inside, rules-few}
 use Rattle.recount.proofs.Unnamed.{no-break}
-use Rattle.breaks.specs.Breaks.{lentBits, spoilsPart, falseAfter, breaksAlong}
+use Rattle.order.specs.Breaks.{spoilsPart, falseAfter, breaksAlong}
+use Rattle.breaks.specs.Breaks.{lentBits}
 use Rattle.free.specs.Marks.{lowering, Written, hasBreak, parting}
 use Rattle.free.specs.Free.{raising, lowerIf, Lowered, spoilsBy, spoilsAt}
-use Rattle.breaks.proofs.Thresholds.{clause-breaks}
+use Rattle.order.proofs.Thresholds.{clause-breaks}
 use Rattle.breaks.proofs.Breaking.{lent-state, none-breaks}
 use Rattle.free.proofs.Marking.{clause-lawful}
 use Rattle.free.proofs.Parting.{more-written}

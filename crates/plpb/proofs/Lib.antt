@@ -14,6 +14,7 @@ pub mod Tallies
 pub mod Book
 pub mod Theorem1
 pub mod Equations
+pub mod Unnamed
 pub mod Stars
 pub mod Costs
 pub mod Walks

@@ -5,7 +5,7 @@ use Prim.Native.Nat.{ℕ}
 use mathlib.Core.Bool.{Bool, not}
 use mathlib.Core.List.{List, map}
 use Rattle.plpb.specs.Lists.{count, concat}
-use Rattle.plpb.specs.Plan.{Rule, Clause, Plan, Assignment, ruleHolds, clauseHolds}
+use Rattle.plpb.specs.Plan.{Rule, Clause, Plan, Assignment, ruleHolds, clauseHolds, namedIn}
 use Rattle.plpb.specs.Normal.{P}
 
 -- "Per rule P; per clause how many of its rules hold; and how many clauses hold no rule."
@@ -17,6 +17,10 @@ pub record Tallies : Type 0 where
 -- The rules of a plan, in the order of its clauses.
 unfoldable pub rulesOf : Plan → List Rule
 rulesOf p = concat (p .clauses)
+
+-- "the number of rules naming the variable" (T-05)
+unfoldable pub rulesNamed : Plan → ℕ → ℕ
+rulesNamed p x = count (λ r. namedIn x (r .terms)) (rulesOf p)
 
 unfoldable pub unsatisfied : Assignment → Clause → Bool
 unsatisfied a c = not (clauseHolds a c)

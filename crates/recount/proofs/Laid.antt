@@ -8,11 +8,12 @@ use mathlib.Core.Bool.{Bool}
 use mathlib.Core.List.{List, [], _∷_, _++_, map}
 use lib.Dec.{T}
 use lib.ListN.{length, getD, take, length-take, length-append}
-use lib.Seq.{take-all}
 use Rattle.plpb.specs.Lists.{all, concat, row, sumBy}
 use Rattle.plpb.specs.Plan.{Rule, Clause, Plan, rising, numbersRise}
 use Rattle.plpb.specs.Tallies.{rulesOf}
 use Rattle.plpb.proofs.Lists.{and-left, and-right, and-both, all-at, all-concat}
+use Rattle.order.specs.Order.{firstRule}
+use Rattle.order.proofs.Runs.{first-all, first-next, first-within}
 use Rattle.words.specs.Words.{wordAt}
 use Rattle.words.proofs.Words.{length-wordBytes}
 use Rattle.format.specs.Limits.{ruleLawful, termCount}
@@ -37,34 +38,6 @@ getD-row h i zero j d l = absurd (omega arith)
 getD-row h i (suc k) zero d l = rw (add-zero i) refl
 getD-row h i (suc k) (suc j) d l = rw (add-suc i j, ← suc-add i j) (getD-row h (suc i) k j d (omega arith))
 
--- How many stand in the first c lists of a list of lists: where the next one begins.
-unfoldable pub startOf : {A : Type 0} → List (List A) → ℕ → ℕ
-startOf xss c = length (concat (take c xss))
-
-module _ {A : Type 0} where
-  pub start-none : (xss : List (List A)) → startOf xss 0 ≡ 0
-  unfolding startOf concat
-  start-none xss = refl
-
-  pub start-all : (xss : List (List A)) → startOf xss (length xss) ≡ length (concat xss)
-  unfolding startOf
-  start-all xss = ap (λ l. length (concat l)) (take-all (length xss) xss (omega arith))
-
-  pub start-next : (xss : List (List A)) (c : ℕ) → c < length xss → startOf xss (suc c) ≡ startOf xss c + length (getD xss c [])
-  unfolding startOf concat
-  start-next [] c h = absurd (omega arith)
-  start-next (xs ∷ xss) zero h = rw (length-append xs []) (omega arith)
-  start-next (xs ∷ xss) (suc c) h =
-      rw (length-append xs (concat (take (suc c) xss)), length-append xs (concat (take c xss)))
-      (omega (arith, start-next xss c (omega arith)))
-
-  pub start-within : (xss : List (List A)) (c : ℕ) → startOf xss c ≤ length (concat xss)
-  unfolding startOf concat
-  start-within xss zero = omega arith
-  start-within [] (suc c) = omega arith
-  start-within (xs ∷ xss) (suc c) =
-      rw (length-append xs (concat (take c xss)), length-append xs (concat xss)) (omega (arith, start-within xss c))
-
 -- What follows of each follows of all.
 all-follow : {A : Type 0} (p q : A → Bool) → ((x : A) → T (p x) → T (q x)) → (xs : List A) → T (all p xs) → T (all q xs)
 unfolding all
@@ -76,8 +49,8 @@ all-follow p q h (x ∷ xs) t = and-both _ _ (h x (and-left _ _ t)) (all-follow 
 -- A clause's entry says where its rules begin and how many they are.
 clause-entry :
     (f : ℕ → ℕ) (i first : ℕ) (cs : List Clause) → Spells f (clauseFirstAt i) (clauseEntries first cs) → (c : ℕ) → c < length cs
-    → (f (clauseFirstAt (i + c)) ≡ first + startOf cs c) × (f (clauseCountAt (i + c)) ≡ length (getD cs c []))
-unfolding Spells clauseEntries startOf concat
+    → (f (clauseFirstAt (i + c)) ≡ first + firstRule cs c) × (f (clauseCountAt (i + c)) ≡ length (getD cs c []))
+unfolding Spells clauseEntries firstRule concat
 clause-entry f i first [] s c h = absurd (omega arith)
 clause-entry f i first (q ∷ cs) s zero h =
     let a : clauseCountAt i ≡ suc (clauseFirstAt i) = omega arith in
@@ -150,25 +123,25 @@ module _ (tables terms : List ℕ) (l : Laid tables terms) where
 
   -- The rules of a clause begin where those of the one before it end.
   module _ (c : ℕ) (h : c < wordAt tables 1) where
-    pub first-rule : wordAt tables (clauseFirstAt c) ≡ startOf (planOfTables tables terms .clauses) c
+    pub first-rule : wordAt tables (clauseFirstAt c) ≡ firstRule (planOfTables tables terms .clauses) c
     first-rule =
         rw (zero-add, zero-add) at (clause-entry (wordAt tables) 0 0 (here .clauses) (sections .clauseEntry) c (omega (arith, clauses-word)) .0)
 
-    pub next-rule : startOf (planOfTables tables terms .clauses) (suc c) ≡ wordAt tables (clauseFirstAt c) + wordAt tables (clauseCountAt c)
+    pub next-rule : firstRule (planOfTables tables terms .clauses) (suc c) ≡ wordAt tables (clauseFirstAt c) + wordAt tables (clauseCountAt c)
     next-rule =
         let n = rw zero-add at (clause-entry (wordAt tables) 0 0 (here .clauses) (sections .clauseEntry) c (omega (arith, clauses-word)) .1) in
-        omega (arith, start-next (here .clauses) c (omega (arith, clauses-word)), first-rule, n)
+        omega (arith, first-next (here .clauses) c (omega (arith, clauses-word)), first-rule, n)
 
     pub rules-inside : wordAt tables (clauseFirstAt c) + wordAt tables (clauseCountAt c) ≤ wordAt tables 2
     unfolding rulesOf
-    rules-inside = omega (arith, next-rule, start-within (here .clauses) (suc c), rules-word)
+    rules-inside = omega (arith, next-rule, first-within (here .clauses) (suc c), rules-word)
 
     pub run-readable : RunReadable tables c
     run-readable = record { inside = omega (arith, tables-long, clauses-few); few = omega (arith, rules-inside, rules-few) }
 
-  pub last-rule : startOf (planOfTables tables terms .clauses) (wordAt tables 1) ≡ wordAt tables 2
+  pub last-rule : firstRule (planOfTables tables terms .clauses) (wordAt tables 1) ≡ wordAt tables 2
   unfolding rulesOf
-  last-rule = ap (startOf (here .clauses)) clauses-word ∙ start-all (here .clauses) ∙ sym rules-word
+  last-rule = ap (firstRule (here .clauses)) clauses-word ∙ first-all (here .clauses) ∙ sym rules-word
 
   -- A rule is lawful, and can be read with its terms.
   module _ (r : ℕ) (h : r < wordAt tables 2) where

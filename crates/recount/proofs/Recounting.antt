@@ -16,6 +16,8 @@ use Rattle.plpb.specs.Plan.{Plan, Assignment, ruleHolds, clauseHolds, namedIn, 
 use Rattle.plpb.specs.Normal.{P}
 use Rattle.plpb.specs.Tallies.{rulesOf, unsatisfied, freshCount}
 use Rattle.plpb.proofs.Lists.{count-nil, count-cons, none-by-count}
+use Rattle.order.specs.Order.{firstRule}
+use Rattle.order.proofs.Runs.{first-none}
 use Rattle.words.specs.Words.{wordAt}
 use Rattle.words.proofs.Words.{Below}
 use Rattle.format.specs.Tables.{ruleOf, clauseOf, planIn, planOfTables}
@@ -30,7 +32,7 @@ use Rattle.recount.specs.Core.{Laid, Wrote, Kept, Right, RuleCounted, Cl
 use Rattle.recount.proofs.Along.{along-step, along-end}
 use Rattle.tallies.proofs.TallyBytes.{roomy-fits}
 use Rattle.tallies.proofs.Tallied.{rule-word, clause-word, total-word, unused-rule, unused-clause, words-fresh}
-use Rattle.recount.proofs.Laid.{startOf, start-none, rules-word, clauses-word, rules-few, clauses-few, rule-here, clause-here, first-rule, next-rule, last-rule, rules-inside}
+use Rattle.recount.proofs.Laid.{rules-word, clauses-word, rules-few, clauses-few, rule-here, clause-here, first-rule, next-rule, last-rule, rules-inside}
 use Rattle.recount.proofs.Keeping.{kept-none, kept-more, wrote-kept}
 use Rattle.recount.proofs.Unnamed.{rule-unconcerned, clause-unconcerned, rule-of-clause}
 use Rattle.format.specs.Layout.{clauseCountAt, clauseFirstAt, holdingAt, ruleFirstAt, ruleRoom, tallyWordCount, unsatisfiedAt}
@@ -165,7 +167,7 @@ pub record ClausesDone (tables terms bits s₀ : List ℕ) (unsat c : ℕ) (s : 
   pub high : c ≤ wordAt tables 1
   pub few : unsat ≤ c
   pub counted : unsat + count (unsatisfied (bitsIn bits)) (map (clauseOf (wordAt tables) (wordAt terms)) (row c (wordAt tables 1 - c))) ≡ count (unsatisfied (bitsIn bits)) (planOfTables tables terms .clauses)
-  pub weights : Right (tallyWord (planOfTables tables terms) (bitsIn bits)) s 0 (startOf (planOfTables tables terms .clauses) c)
+  pub weights : Right (tallyWord (planOfTables tables terms) (bitsIn bits)) s 0 (firstRule (planOfTables tables terms .clauses) c)
   pub holding : Right (tallyWord (planOfTables tables terms) (bitsIn bits)) s ruleRoom (holdingAt c)
   pub kept : Kept (tallyWord (planOfTables tables terms) (bitsIn bits)) s₀ s
 
@@ -178,7 +180,7 @@ module _ (tables terms bits : List ℕ) (l : Laid tables terms) (s₀ : List ℕ
         high = omega arith;
         few = omega arith;
         counted = rw z (zero-add _);
-        weights = rw (start-none (planOfTables tables terms .clauses)) (right-none _ s₀ 0);
+        weights = rw (first-none (planOfTables tables terms .clauses)) (right-none _ s₀ 0);
         holding = right-none _ s₀ ruleRoom;
         kept = kept-none _ s₀;
       }
@@ -209,7 +211,7 @@ module _ (tables terms bits : List ℕ) (l : Laid tables terms) (s₀ : List ℕ
         next : holdingAt (c + 1) ≡ holdingAt c + 1
         next = omega arith
 
-        weights : (i : ℕ) → i < startOf (planOfTables tables terms .clauses) (c + 1) → wordAt t i ≡ tallyWord (planOfTables tables terms) (bitsIn bits) i
+        weights : (i : ℕ) → i < firstRule (planOfTables tables terms .clauses) (c + 1) → wordAt t i ≡ tallyWord (planOfTables tables terms) (bitsIn bits) i
         weights i n = at (decLt i (wordAt tables (clauseFirstAt c)))
           where
             at : Dec (i < wordAt tables (clauseFirstAt c)) → wordAt t i ≡ tallyWord (planOfTables tables terms) (bitsIn bits) i
@@ -245,7 +247,7 @@ module _ (tables terms bits : List ℕ) (l : Laid tables terms) (s₀ : List ℕ
         whole = kept-more _ s₀ s t (d .kept) last
 
         rule-right : (i : ℕ) → i < ruleRoom → Dec (i < wordAt tables 2) → wordAt t i ≡ tallyWord p a i
-        rule-right i n (yes z) = last .right i (d .weights i (omega arith) (omega (arith, last-rule tables terms l, ap (startOf (p .clauses)) all)))
+        rule-right i n (yes z) = last .right i (d .weights i (omega arith) (omega (arith, last-rule tables terms l, ap (firstRule (p .clauses)) all)))
           where
             all : c ≡ wordAt tables 1
             all = omega (arith, d .high)

@@ -13,7 +13,7 @@ use Rattle.plpb.specs.Equations.{sharesOf, product, clauseBreak, clauseMake}
 use Rattle.plpb.specs.Tallies.{rulesOf}
 use Rattle.words.specs.Words.{wordAt}
 use Rattle.format.specs.Tables.{ruleOf, clauseOf, planOfTables}
-use Rattle.rules.proofs.Unnamed.{unnamed-shares}
+use Rattle.plpb.proofs.Unnamed.{unnamed-shares}
 use Rattle.tallies.specs.Narrow.{rulesNaming, clausesNaming, concerns}
 use Rattle.recount.specs.Core.{Laid}
 use Rattle.tallies.proofs.TallyBytes.{roomy-fits}

@@ -4,5 +4,4 @@ pub mod Summing
 pub mod Finding
 pub mod Sizes
 pub mod States
-pub mod Unnamed
 pub mod Tables

@@ -9,7 +9,8 @@ use mathlib.Core.List.{map}
 use Rattle.plpb.specs.Lists.{row}
 use Rattle.words.specs.Words.{wordAt}
 use Rattle.format.specs.Tables.{ruleOf}
-use Rattle.breaks.specs.Breaks.{lentBits, breaksAlong}
+use Rattle.order.specs.Breaks.{breaksAlong}
+use Rattle.breaks.specs.Breaks.{lentBits}
 use Rattle.breaks.proofs.Breaking.{rules-go, rules-stop, rules-end}
 use Rattle.breaks.proofs.breaks_along.Statement.{statement}
 use Rattle.breaks.proofs.breaks_along.Tie as tie

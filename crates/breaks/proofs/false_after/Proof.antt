@@ -3,7 +3,7 @@
 use borrow.Author.Needs.{needs}
 use mathlib.Core.Path.{sym, ap, _∙_}
 use mathlib.Core.Bool.{not}
-use Rattle.breaks.proofs.Thresholds.{false-after}
+use Rattle.breaks.proofs.After.{false-after}
 use Rattle.breaks.proofs.false_after.Statement.{statement}
 use Rattle.breaks.proofs.false_after.Tie as tie
 

@@ -2,7 +2,7 @@
 -- Assumes nothing.
 use borrow.Author.Needs.{needs}
 use native.Mathlib.Omega.{arith}
-use Rattle.breaks.proofs.Thresholds.{grows-absent, grows-empty, grows-still, grows-present}
+use Rattle.order.proofs.Thresholds.{grows-absent, grows-empty, grows-still, grows-present}
 use Rattle.breaks.proofs.grows.Statement.{statement}
 use Rattle.breaks.proofs.grows.Tie as tie
 

@@ -5,7 +5,7 @@ use Prim.Native.Nat.{ℕ, zero, suc, _+_, _*_, _-_, _≤_, _<_}
 use native.Mathlib.Nat.{zero-add, add-zero, suc-add, le-refl, le-trans, zero-mul, mul-zero, mul-sub, sub-add-cancel, add-mul, le-mul-of-pos-right, mul-le-mul, mul-le-mul-left}
 use native.Mathlib.Numerals.{add-one}
 use native.Mathlib.Omega.{arith}
-use mathlib.Core.Path.{_≡_, refl, sym, ap, ap₂, _∙_}
+use mathlib.Core.Path.{_≡_, refl, sym, ap, _∙_}
 use mathlib.Core.Bool.{Bool, true, false, not}
 use mathlib.Core.List.{List, [], _∷_}
 use lib.Dec.{T, ltb, leb, eqb}
@@ -17,15 +17,10 @@ use Rattle.plpb.specs.Equations.{binom, over, Standing, out, on, off, shares, s
 use Rattle.plpb.specs.Count.{capped, cappedBreak}
 use Rattle.plpb.specs.Expansion.{breakCount}
 use Rattle.plpb.proofs.Capped.{capped-zero, capped-none}
-use Rattle.plpb.proofs.Lists.{not-and}
 use Rattle.plpb.proofs.Binomial.{binom-vanishes, binom-mono-upper, binom-positive}
 use Rattle.plpb.specs.Normal.{belowSize}
 use Rattle.plpb.proofs.Equations.{break-formula}
-use Rattle.counting.specs.Bound.{boundOf}
-use Rattle.rules.specs.declared.state.State.{State}
-use Rattle.rules.specs.Places.{standingIn}
-use Rattle.rules.specs.State.{Balanced, holdsIn, sharesFrom, Turned}
-use Rattle.breaks.specs.Breaks.{spoilsPart, falseAfter, breaksAlong}
+use Rattle.order.specs.Breaks.{spoilsPart, falseAfter, breaksAlong}
 
 -- ---- more to choose from
 
@@ -59,7 +54,7 @@ module _ (m w k : ℕ) where
 -- ---- a rule after the flip
 
 -- There is nothing to choose exactly where a bound's size is not reached.
-some-chosen : (n : ℕ) (b : Bound ℕ) → ltb 0 (over n b) ≡ not (belowSize n b)
+pub some-chosen : (n : ℕ) (b : Bound ℕ) → ltb 0 (over n b) ≡ not (belowSize n b)
 unfolding over belowSize
 some-chosen n absent = refl
 some-chosen n (present k) = at (ltb n k) refl
@@ -71,7 +66,7 @@ some-chosen n (present k) = at (ltb n k) refl
 some-suc : (n : ℕ) → ltb 0 (suc n) ≡ true
 some-suc n = lt-ltb 0 (suc n) (omega arith)
 
-some-of-two : (u v : ℕ) → ltb 0 (u + v) ≡ ltb 0 u or ltb 0 v
+pub some-of-two : (u v : ℕ) → ltb 0 (u + v) ≡ ltb 0 u or ltb 0 v
 unfolding _or_
 some-of-two zero v = ap (ltb 0) (zero-add v)
 some-of-two (suc u) v = rw (some-suc u) (lt-ltb 0 (suc u + v) (omega arith))
@@ -82,7 +77,7 @@ over-mono absent m w = le-refl 0
 over-mono (present k) m w = binom-mono-upper k (omega arith)
 
 -- What is false after the flip, from N and P after it.
-after-flip : (s : Standing) (n p n′ p′ : ℕ) (A B : Bound ℕ) → lost s ≤ p → gained s ≤ n → n′ + gained s ≡ n + lost s → p′ + lost s ≡ p + gained s → shares s n p A B .e + shares s n p A B .g ≡ over n′ A + over p′ B
+pub after-flip : (s : Standing) (n p n′ p′ : ℕ) (A B : Bound ℕ) → lost s ≤ p → gained s ≤ n → n′ + gained s ≡ n + lost s → p′ + lost s ≡ p + gained s → shares s n p A B .e + shares s n p A B .g ≡ over n′ A + over p′ B
 unfolding shares lost gained
 after-flip out n p n′ p′ A B l g en ep =
     let i : n′ ≡ n = omega arith in
@@ -96,15 +91,6 @@ after-flip (off w) n p n′ p′ A B l g en ep =
     let i : n′ ≡ n - w = omega arith in
     let j : p′ ≡ p + w = omega arith in
     rw (i, j) (omega (arith, over-mono B p w))
-
-pub false-after : (s r : State) → Balanced s → Turned s r → ltb 0 (sharesFrom s .e + sharesFrom s .g) ≡ not (holdsIn r)
-unfolding sharesFrom holdsIn
-false-after s r b t =
-    ap (ltb 0) (after-flip (standingIn (s .stands)) (s .n) (s .p) (r .n) (r .p) (boundOf (s .a)) (boundOf (s .b)) (b .loses) (b .gains) (t .falses) (t .trues))
-    ∙ some-of-two (over (r .n) (boundOf (s .a))) (over (r .p) (boundOf (s .b)))
-    ∙ ap₂ _or_ (some-chosen (r .n) (boundOf (s .a))) (some-chosen (r .p) (boundOf (s .b)))
-    ∙ sym (not-and (belowSize (r .n) (boundOf (s .a))) (belowSize (r .p) (boundOf (s .b))))
-    ∙ ap₂ (λ A B. not (belowSize (r .n) (boundOf A) and belowSize (r .p) (boundOf B))) (sym (t .lower)) (sym (t .upper))
 
 -- ---- a clause
 

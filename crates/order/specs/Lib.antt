@@ -1,0 +1,6 @@
+-- A plan's terms by variable, and the flip that visits only those; whether a flip breaks a clause.
+pub mod Order
+pub mod Along
+pub mod Mentions
+pub mod Grouped
+pub mod Breaks
