@@ -6,6 +6,7 @@ pub mod Bools
 pub mod Lists
 pub mod Bounds
 pub mod Lawful
+pub mod Naming
 -- The file: what is written is read back, and what is accepted was written.
 pub mod Fields
 pub mod Places
@@ -23,17 +24,20 @@ pub mod Example
 pub mod Good
 pub mod Spells
 pub mod Sections
+pub mod Arranged
 pub mod WordBounds
 pub mod Objective
 pub mod Locks
 pub mod Entries
 pub mod ReadBack
+pub mod Placed
 pub mod LockWords
 -- The test of tables: what it says, and that it means 22.
 pub mod Chains
 pub mod Sound
 pub mod GoodPlan
 pub mod PlanGood
+pub mod GoodOrder
 pub mod GoodTables
 pub mod IsLoaded
 pub mod Within

@@ -21,7 +21,8 @@ use Rattle.format.specs.Good.{everyFrom, chainFrom, ruleGood}
 use Rattle.format.proofs.Good.{every-at}
 use Rattle.format.proofs.Spells.{Spells, spells-left, spells-right, spells-map}
 use Rattle.format.proofs.Sections.{Sections, length-allTerms}
-use Rattle.format.proofs.WordBounds.{rules-lawful, coefficient-small, lockWord-small}
+use Rattle.format.proofs.Naming.{rules-lawful}
+use Rattle.format.proofs.WordBounds.{coefficient-small, lockWord-small}
 use Rattle.format.proofs.Objective.{coefficient-above}
 use Rattle.format.proofs.Locks.{free-beyond}
 use Rattle.format.proofs.Entries.{Entry, entry-here, entries-behind}

@@ -2,7 +2,7 @@
 use Prim.Native.Nat.{ℕ, suc, _+_, _*_, _≤_}
 use mathlib.Core.Path.{_≡_, sym, ap, _∙_}
 use mathlib.Core.Bool.{true}
-use mathlib.Core.List.{List, [], _∷_, map}
+use mathlib.Core.List.{List, [], _∷_, _++_, map}
 use native.Mathlib.Nat.{zero-add}
 use native.Mathlib.Numerals.{add-one}
 use native.Mathlib.Omega.{arith}
@@ -16,17 +16,19 @@ use Rattle.words.proofs.Words.{Below, words-read, words-determine, signed-unsig
 use Rattle.format.specs.Limits.{lockTerms, ruleLawful, roomy}
 use Rattle.format.specs.File.{boundOf}
 use Rattle.format.specs.Writer.{boundNumber}
-use Rattle.format.specs.Tables.{coefficient, clauseEntries, ruleEntries, termEntries, allTerms, tableWords, termWords, tableSize, termSize, Holds, termOf, ruleOf, clauseOf, objectiveOf, termLock, locksOf, planIn, planOfTables, sparse, named, isSome}
+use Rattle.format.specs.Tables.{coefficient, clauseEntries, ruleEntries, termEntries, allTerms, baseWords, orderWords, tableWords, termWords, tableSize, termSize, Holds, termOf, ruleOf, clauseOf, objectiveOf, termLock, locksOf, planIn, planOfTables, sparse, named, isSome}
 use Rattle.format.proofs.Bools.{and-left, and-right}
 use Rattle.format.proofs.Bounds.{bounds-written, bounds-tested, lower-back, upper-back}
 use Rattle.format.proofs.Lawful.{termWithin, weight-small, LawfulRule, rule-parts, RoomyPlan, roomy-parts}
-use Rattle.format.proofs.Spells.{Spells, spells-at, spells-all, spells-left, spells-right, spells-map}
-use Rattle.format.proofs.Sections.{Sections, length-tableWords, length-termWords, spelt-sections, sections-table, sections-terms}
+use Rattle.format.proofs.Naming.{each-rule-lawful, terms-lawful}
+use Rattle.format.proofs.Spells.{Spells, spells-at, spells-all, spells-left, spells-right, spells-join, spells-map}
+use Rattle.format.proofs.Sections.{Sections, length-baseWords, length-tableWords, length-termWords, spelt-sections, sections-base, sections-terms}
+use Rattle.format.proofs.Arranged.{Arranged, spelt-arranged, arranged-spells}
 use Rattle.format.proofs.Entries.{Entry, entry-here, entries-behind}
-use Rattle.format.proofs.WordBounds.{rules-lawful, terms-lawful, coefficient-small, lockWord-small, table-below, term-below}
+use Rattle.format.proofs.WordBounds.{coefficient-small, lockWord-small, table-below, base-below, term-below}
 use Rattle.format.proofs.Objective.{sparse-back}
 use Rattle.format.proofs.Locks.{lock-coefficient, small-signed, locks-back}
-use Rattle.format.specs.Layout.{clauseCountAt, clauseFirstAt, clausesAt, lockAt, ruleCountAt, ruleFirstAt, ruleLowerAt, ruleModeAt, ruleUpperAt}
+use Rattle.format.specs.Layout.{baseSize, clauseCountAt, clauseFirstAt, clausesAt, lockAt, ruleCountAt, ruleFirstAt, ruleLowerAt, ruleModeAt, ruleUpperAt}
 
 -- Terms.
 pub terms-back : (g : ℕ → ℕ) (n i : ℕ) (ts : List Term) → Spells g (2 * i) (termEntries ts) → all (termWithin n) ts ≡ true → Spells (termOf g) i ts
@@ -77,8 +79,7 @@ clauses-back f g i first (c ∷ cs) s t =
 -- The whole plan.
 module _ (p : Plan) (l : RoomyPlan p) (f g : ℕ → ℕ) (s : Sections p f g) where
   rulesHere : all (ruleLawful (p .variables)) (rulesOf p) ≡ true
-  unfolding rulesOf
-  rulesHere = rules-lawful (p .variables) (p .clauses) (l .clauses)
+  rulesHere = each-rule-lawful p l
 
   pub terms-spelt : Spells (termOf g) 0 (allTerms p)
   unfolding allTerms
@@ -88,7 +89,7 @@ module _ (p : Plan) (l : RoomyPlan p) (f g : ℕ → ℕ) (s : Sections p f g) w
   unfolding allTerms
   rules-spelt = rules-back f g (p .variables) 0 0 (rulesOf p) (s .ruleEntry) rulesHere terms-spelt
 
-  clauses-spelt : Spells (clauseOf f g) 0 (p .clauses)
+  pub clauses-spelt : Spells (clauseOf f g) 0 (p .clauses)
   unfolding rulesOf
   clauses-spelt = clauses-back f g 0 0 (p .clauses) (s .clauseEntry) rules-spelt
 
@@ -120,21 +121,44 @@ module _ (p : Plan) (l : RoomyPlan p) (f g : ℕ → ℕ) (s : Sections p f g) w
 
 -- The bytes of the tables.
 module _ (p : Plan) (l : RoomyPlan p) (tables terms : List ℕ) where
+  table-spelt : take tableSize tables ≡ wordBytes (tableWords p) → Spells (wordAt tables) 0 (tableWords p)
+  table-spelt h =
+      let a : take (4 * length (tableWords p)) tables ≡ wordBytes (tableWords p) = rw (length-tableWords p l) h in
+      spells-all (wordAt tables) 0 (tableWords p) 0 (λ j u. rw (zero-add j) (words-read (tableWords p) tables j (table-below p l) a u))
+
+  base-spelt : take baseSize tables ≡ wordBytes (baseWords p) → Spells (wordAt tables) 0 (baseWords p)
+  base-spelt h =
+      let a : take (4 * length (baseWords p)) tables ≡ wordBytes (baseWords p) = rw (length-baseWords p l) h in
+      spells-all (wordAt tables) 0 (baseWords p) 0 (λ j u. rw (zero-add j) (words-read (baseWords p) tables j (base-below p l) a u))
+
+  terms-read : take termSize terms ≡ wordBytes (termWords p) → Spells (wordAt terms) 0 (termWords p)
+  terms-read h =
+      let b : take (4 * length (termWords p)) terms ≡ wordBytes (termWords p) = rw (length-termWords p l) h in
+      spells-all (wordAt terms) 0 (termWords p) 0 (λ j u. rw (zero-add j) (words-read (termWords p) terms j (term-below p l) b u))
+
+  -- Tables of which the base is that of a plan.
+  pub based-sections : take baseSize tables ≡ wordBytes (baseWords p) → take termSize terms ≡ wordBytes (termWords p) → Sections p (wordAt tables) (wordAt terms)
+  based-sections a b = spelt-sections p l (wordAt tables) (wordAt terms) (base-spelt a) (terms-read b)
+
   pub holds-sections : Holds p tables terms → Sections p (wordAt tables) (wordAt terms)
-  unfolding Holds
-  holds-sections h =
-      let a : take (4 * length (tableWords p)) tables ≡ wordBytes (tableWords p) = rw (length-tableWords p l) (h .0) in
-      let b : take (4 * length (termWords p)) terms ≡ wordBytes (termWords p) = rw (length-termWords p l) (h .1) in
-      spelt-sections p l (wordAt tables) (wordAt terms)
-      (spells-all (wordAt tables) 0 (tableWords p) 0 (λ j u. rw (zero-add j) (words-read (tableWords p) tables j (table-below p l) a u)))
-      (spells-all (wordAt terms) 0 (termWords p) 0 (λ j u. rw (zero-add j) (words-read (termWords p) terms j (term-below p l) b u)))
+  unfolding Holds tableWords
+  holds-sections h = spelt-sections p l (wordAt tables) (wordAt terms) (spells-left (wordAt tables) 0 (baseWords p) (orderWords p) (table-spelt (h .0))) (terms-read (h .1))
+
+  -- .. and of which the order is.
+  pub holds-arranged : Holds p tables terms → Arranged p (wordAt tables)
+  unfolding Holds tableWords
+  holds-arranged h =
+      spelt-arranged p l (wordAt tables)
+      (rw (length-baseWords p l, zero-add) at (spells-right (wordAt tables) 0 (baseWords p) (orderWords p) (table-spelt (h .0))))
 
   pub sections-holds :
       Below 256 tables → Below 256 terms → tableSize ≤ length tables → termSize ≤ length terms → Sections p (wordAt tables) (wordAt terms)
-      → Holds p tables terms
-  unfolding Holds
-  sections-holds bt bs nt ns s =
-      let a = spells-at (wordAt tables) 0 (tableWords p) (sections-table p l (wordAt tables) (wordAt terms) s) 0 in
+      → Arranged p (wordAt tables) → Holds p tables terms
+  unfolding Holds tableWords
+  sections-holds bt bs nt ns s o =
+      let words : Spells (wordAt tables) 0 (baseWords p ++ orderWords p) =
+      spells-join (wordAt tables) 0 (baseWords p) (orderWords p) (sections-base p l (wordAt tables) (wordAt terms) s) (rw (length-baseWords p l, zero-add) (arranged-spells p l (wordAt tables) o)) in
+      let a = spells-at (wordAt tables) 0 (baseWords p ++ orderWords p) words 0 in
       let b = spells-at (wordAt terms) 0 (termWords p) (sections-terms p l (wordAt tables) (wordAt terms) s) 0 in
       let room : 4 * length (tableWords p) ≤ length tables = omega (arith, length-tableWords p l) in
       let space : 4 * length (termWords p) ≤ length terms = omega (arith, length-termWords p l) in (

@@ -1,6 +1,6 @@
 -- The words of a lawful plan's tables, section by section: each section has its full length, so the next begins where the layout says.
 use Prim.Native.Nat.{ℕ, suc, _+_, _*_, _-_, _≤_}
-use mathlib.Core.Path.{_≡_, refl, _∙_}
+use mathlib.Core.Path.{_≡_, refl, ap₂, _∙_}
 use mathlib.Core.Bool.{true}
 use mathlib.Core.List.{List, [], _∷_, _++_, map}
 use native.Mathlib.Nat.{zero-add}
@@ -9,14 +9,17 @@ use lib.ListN.{length, length-append, length-map}
 use Rattle.plpb.specs.Lists.{row}
 use Rattle.plpb.specs.Plan.{Term, Rule, Clause, Plan, lockOf}
 use Rattle.plpb.specs.Tallies.{rulesOf}
+use Rattle.order.specs.Order.{order, runEnd, placeWord}
+use Rattle.order.proofs.Tested.{order-length}
 use Rattle.words.specs.Words.{unsigned}
 use Rattle.format.specs.Limits.{termCount}
-use Rattle.format.specs.Tables.{coefficient, padTo, padWith, clauseEntries, ruleEntries, termEntries, allTerms, lockWord, tableWords, termWords}
+use Rattle.format.specs.Tables.{coefficient, padTo, padWith, clauseEntries, ruleEntries, termEntries, allTerms, lockWord, baseWords, runEnds, orderWords, tableWords, termWords}
 use Rattle.format.specs.Good.{zerosFrom}
-use Rattle.format.proofs.Lists.{length-row, length-concat}
+use Rattle.format.proofs.Lists.{length-row, length-concat, length-spread}
 use Rattle.format.proofs.Lawful.{RoomyPlan}
+use Rattle.format.proofs.Naming.{numbers-within}
 use Rattle.format.proofs.Spells.{Spells, spells-left, spells-right, spells-join, spells-zeros, zeros-spell, spells-row, row-spells, length-padTo}
-use Rattle.format.specs.Layout.{clauseWordCount, clausesAt, lockAt, ruleWordCount, rulesAt, tableWordCount, termWordCount}
+use Rattle.format.specs.Layout.{baseWordCount, clauseWordCount, clausesAt, endRoom, lockAt, ruleWordCount, rulesAt, tableWordCount, termRoom, termWordCount}
 
 -- How long the sections are.
 pub length-clauseEntries : (first : ℕ) (cs : List Clause) → length (clauseEntries first cs) ≡ 2 * length cs
@@ -55,15 +58,15 @@ pub record Sections (p : Plan) (f g : ℕ → ℕ) : Type 0 where
 
 -- A padded section: its words, then zeros.
 module _ (f : ℕ → ℕ) (i k n : ℕ) (ws : List ℕ) (l : length ws ≡ n) where
-  pad-words : Spells f i (padTo k ws) → Spells f i ws
+  pub pad-words : Spells f i (padTo k ws) → Spells f i ws
   unfolding padWith
   pad-words s = spells-left f i ws _ s
 
-  pad-rest : Spells f i (padTo k ws) → zerosFrom f (i + n) (k - n) ≡ true
+  pub pad-rest : Spells f i (padTo k ws) → zerosFrom f (i + n) (k - n) ≡ true
   unfolding padWith
   pad-rest s = rw l at (spells-zeros f (i + length ws) (k - length ws) (spells-right f i ws _ s))
 
-  pad-whole : Spells f i ws → zerosFrom f (i + n) (k - n) ≡ true → Spells f i (padTo k ws)
+  pub pad-whole : Spells f i ws → zerosFrom f (i + n) (k - n) ≡ true → Spells f i (padTo k ws)
   unfolding padWith
   pad-whole s z = spells-join f i ws _ s (zeros-spell f (i + length ws) (k - length ws) (rw l z))
 
@@ -96,11 +99,29 @@ module _ (p : Plan) (l : RoomyPlan p) where
   length-ruleWords : length ruleWords ≡ ruleWordCount
   length-ruleWords = length-padTo ruleWordCount _ (omega (arith, length-ruleEntries 0 (rulesOf p), l .ruleCount))
 
-  pub length-tableWords : length (tableWords p) ≡ tableWordCount
-  unfolding tableWords
-  length-tableWords =
+  pub length-baseWords : length (baseWords p) ≡ baseWordCount
+  unfolding baseWords
+  length-baseWords =
       omega
       (arith, length-append objectiveWords behindObjective, length-append clauseWords (ruleWords ++ lockWords), length-append ruleWords lockWords, length-objective, length-clauseWords, length-ruleWords, length-locks)
+
+  pub length-runEnds : length (runEnds p) ≡ suc (p .variables)
+  unfolding runEnds
+  length-runEnds = length-spread (runEnd p) 0 (suc (p .variables))
+
+  pub length-orderEntries : length (map (placeWord p) (order p)) ≡ termCount p
+  length-orderEntries = length-map (order p) (placeWord p) ∙ order-length p (numbers-within p l)
+
+  pub length-orderWords : length (orderWords p) ≡ endRoom + termRoom
+  unfolding orderWords
+  length-orderWords =
+      length-append (padTo endRoom (runEnds p)) (padTo termRoom (map (placeWord p) (order p)))
+      ∙ ap₂ _+_ (length-padTo endRoom (runEnds p) (omega (arith, length-runEnds, l .high)))
+      (length-padTo termRoom (map (placeWord p) (order p)) (omega (arith, length-orderEntries, l .terms)))
+
+  pub length-tableWords : length (tableWords p) ≡ tableWordCount
+  unfolding tableWords
+  length-tableWords = omega (arith, length-append (baseWords p) (orderWords p), length-baseWords, length-orderWords)
 
   pub length-termWords : length (termWords p) ≡ termWordCount
   unfolding termWords
@@ -118,8 +139,8 @@ module _ (p : Plan) (l : RoomyPlan p) where
     dense-all h i e =
         row-spells f h (suc i) 1 512 (λ j b. let m : i + (1 + j) ≡ suc i + j = omega arith in rw m at (e (1 + j) (omega arith) (omega arith)))
 
-    pub spelt-sections : Spells f 0 (tableWords p) → Spells g 0 (termWords p) → Sections p f g
-    unfolding Spells tableWords termWords
+    pub spelt-sections : Spells f 0 (baseWords p) → Spells g 0 (termWords p) → Sections p f g
+    unfolding Spells baseWords termWords
     spelt-sections s t =
         let body : Spells f 4 (objectiveWords ++ behindObjective) = s .1 .1 .1 .1 in
         let rest = rw length-objective at (spells-right f 4 objectiveWords behindObjective body) in
@@ -145,9 +166,9 @@ module _ (p : Plan) (l : RoomyPlan p) where
           termRest = rw zero-add at (pad-rest g 0 termWordCount (2 * f 3) _ (omega (arith, length-termEntries (allTerms p), length-allTerms p)) t);
         }
 
-    pub sections-table : Sections p f g → Spells f 0 (tableWords p)
-    unfolding Spells tableWords
-    sections-table s =
+    pub sections-base : Sections p f g → Spells f 0 (baseWords p)
+    unfolding Spells baseWords
+    sections-base s =
         let n₁ : length (clauseEntries 0 (p .clauses)) ≡ 2 * f 1 = omega (arith, length-clauseEntries 0 (p .clauses), s .clauseCount) in
         let n₂ : length (ruleEntries 0 (rulesOf p)) ≡ 5 * f 2 = omega (arith, length-ruleEntries 0 (rulesOf p), s .ruleCount) in
         let cs = pad-whole f clausesAt clauseWordCount (2 * f 1) _ n₁ (s .clauseEntry) (s .clauseRest) in

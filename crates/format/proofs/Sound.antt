@@ -19,10 +19,10 @@ use Rattle.format.proofs.Bools.{and-left, and-right, and-join}
 use Rattle.format.proofs.Lists.{length-row}
 use Rattle.format.proofs.Bounds.{bounds-tested, bounds-meant}
 use Rattle.format.proofs.Lawful.{termWithin, LawfulRule}
-use Rattle.format.specs.Good.{zerosFrom, chainFrom, termGood, termsFrom, countsGood, coefficientGood, objectiveGood, lockGood, locksGood, clausesGood, rulesGood, ruleGood, goodBy}
+use Rattle.format.specs.Good.{zerosFrom, chainFrom, termGood, termsFrom, countsGood, coefficientGood, objectiveGood, lockGood, locksGood, clausesGood, rulesGood, ruleGood, baseGood}
 use Rattle.format.proofs.Good.{every-at, every-all, zeros-at, zeros-all}
 use Rattle.format.proofs.Chains.{chain-at}
-use Rattle.format.specs.Layout.{clauseCountAt, clauseFirstAt, clauseWordCount, clausesAt, lockAt, locksAt, tableWordCount, ruleCountAt, ruleFirstAt, ruleLowerAt, ruleModeAt, ruleUpperAt, ruleWordCount, rulesAt, termWordCount}
+use Rattle.format.specs.Layout.{baseWordCount, clauseCountAt, clauseFirstAt, clauseWordCount, clausesAt, lockAt, locksAt, ruleCountAt, ruleFirstAt, ruleLowerAt, ruleModeAt, ruleUpperAt, ruleWordCount, rulesAt, termWordCount}
 
 -- Good terms rise and are within the range, and the other way round.
 module _ (g : ℕ → ℕ) (n : ℕ) where
@@ -79,8 +79,8 @@ pub record Sound (f g : ℕ → ℕ) : Type 0 where
   pub termRest : zerosFrom g (2 * f 3) (termWordCount - 2 * f 3) ≡ true
 
 module _ (f g : ℕ → ℕ) where
-  pub good-sound : goodBy f g ≡ true → Sound f g
-  unfolding goodBy countsGood objectiveGood coefficientGood lockGood locksGood clausesGood rulesGood
+  pub good-sound : baseGood f g ≡ true → Sound f g
+  unfolding baseGood countsGood objectiveGood coefficientGood lockGood locksGood clausesGood rulesGood
   good-sound h' =
       let h = and-left _ _ h' in
       let k = and-right _ _ h' in
@@ -111,11 +111,11 @@ module _ (f g : ℕ → ℕ) where
   rest-zero : Sound f g → (j : ℕ) → 4 + f 0 ≤ j → j < clausesAt → f j ≡ 0
   rest-zero s j p q = let m : 3 + (j - 3) ≡ j = omega arith in rw m at (s .costRest (j - 3) (omega arith) (omega arith))
 
-  locks-zero : Sound f g → (j : ℕ) → locksAt + f 0 ≤ j → j < tableWordCount → f j ≡ 0
+  locks-zero : Sound f g → (j : ℕ) → locksAt + f 0 ≤ j → j < baseWordCount → f j ≡ 0
   locks-zero s j p q = let m : lockAt (j - 6_666) ≡ j = omega arith in rw m at (s .lockRest (j - 6_666) (omega arith) (omega arith))
 
-  pub sound-good : Sound f g → goodBy f g ≡ true
-  unfolding goodBy countsGood objectiveGood coefficientGood lockGood locksGood clausesGood rulesGood
+  pub sound-good : Sound f g → baseGood f g ≡ true
+  unfolding baseGood countsGood objectiveGood coefficientGood lockGood locksGood clausesGood rulesGood
   sound-good s =
       and-join _ _
       (and-join _ _

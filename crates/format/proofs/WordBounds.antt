@@ -1,41 +1,34 @@
 -- Every word of a lawful plan's tables fits in 4 bytes: counts are within the limits, weights and bounds within their ranges.
 use Prim.Native.Nat.{ℕ, zero, suc, _+_, _-_, _≤_, _<_}
-use mathlib.Core.Path.{_≡_, refl}
+use mathlib.Core.Path.{_≡_}
 use mathlib.Core.Bool.{Bool, true, false, cond}
 use mathlib.Core.List.{List, [], _∷_, _++_, map}
 use native.Mathlib.Omega.{arith}
 use lib.Dec.{eqb}
 use lib.IntN.{ℤ, natAbs}
-use lib.ListN.{length, replicate, length-append}
+use lib.ListN.{length, getD, replicate, length-append}
 use borrow.Author.Tests.{leb-true}
 use Rattle.plpb.specs.Lists.{all, concat, sumBy, row}
 use Rattle.plpb.specs.Plan.{Bound, absent, present, Term, Rule, Clause, Plan, lockOf}
 use Rattle.plpb.specs.Tallies.{rulesOf}
+use Rattle.plpb.specs.Normal.{isNegative}
+use Rattle.order.specs.Order.{Place, order, runEnd, termAt, isPlace, hasSeveral, placeWord}
+use Rattle.order.proofs.Runs.{order-places}
+use Rattle.order.proofs.Tested.{ends-ordered, last-end}
+use Rattle.order.proofs.Words.{spelled-small}
 use Rattle.words.specs.Words.{unsigned}
 use Rattle.words.proofs.Words.{Below, below-nil, below-cons, unsigned-lt}
 use Rattle.format.specs.Limits.{ruleLawful, termCount}
-use Rattle.format.specs.Tables.{coefficient, padTo, padWith, clauseEntries, ruleEntries, termEntries, allTerms, lockWord, tableWords, termWords}
-use Rattle.format.proofs.Bools.{and-left, and-right}
-use Rattle.format.proofs.Lists.{all-append}
+use Rattle.format.specs.Tables.{coefficient, padTo, padWith, clauseEntries, ruleEntries, termEntries, allTerms, lockWord, baseWords, runEnds, orderWords, tableWords, termWords}
+use Rattle.format.proofs.Bools.{T-true, true-T, and-left, and-right}
 use Rattle.format.proofs.Bounds.{bounds-written, bounds-tested}
-use Rattle.format.proofs.Lawful.{termWithin, weight-small, rule-parts, clauseLawful, clause-rules, RoomyPlan}
+use Rattle.format.proofs.Lawful.{termWithin, weight-small, rule-parts, RoomyPlan}
+use Rattle.format.proofs.Naming.{each-rule-lawful, terms-lawful, numbers-within, place-small}
 use Rattle.format.proofs.Sizes.{termsOf}
-use Rattle.format.specs.Layout.{clauseWordCount, ruleWordCount, termWordCount}
+use Rattle.format.specs.Layout.{clauseWordCount, endRoom, ruleWordCount, termRoom, termWordCount}
 
 abbrev pub wordLimit : ℕ
 wordLimit = 4_294_967_296
-
--- The rules of lawful clauses are lawful, and so are the terms of lawful rules.
-pub rules-lawful : (n : ℕ) (cs : List Clause) → all (clauseLawful n) cs ≡ true → all (ruleLawful n) (concat cs) ≡ true
-unfolding all concat
-rules-lawful n [] h = refl
-rules-lawful n (c ∷ cs) h = all-append (ruleLawful n) c (concat cs) (clause-rules n c (and-left _ _ h)) (rules-lawful n cs (and-right _ _ h))
-
-pub terms-lawful : (n : ℕ) (rs : List Rule) → all (ruleLawful n) rs ≡ true → all (termWithin n) (concat (map (λ r. r .terms) rs)) ≡ true
-unfolding all concat
-terms-lawful n [] h = refl
-terms-lawful n (r ∷ rs) h =
-    all-append (termWithin n) (r .terms) _ (rule-parts n r (and-left _ _ h) .terms .within) (terms-lawful n rs (and-right _ _ h))
 
 either-small : (b : Bool) (y z : ℤ) → natAbs y ≤ 1_000_000 → natAbs z ≤ 1_000_000 → natAbs (cond b y z) ≤ 1_000_000
 either-small true y z h k = h
@@ -105,12 +98,11 @@ lockWord-small (present false) = omega arith
 -- The two tables.
 module _ (p : Plan) (l : RoomyPlan p) where
   rulesHere : all (ruleLawful (p .variables)) (rulesOf p) ≡ true
-  unfolding rulesOf
-  rulesHere = rules-lawful (p .variables) (p .clauses) (l .clauses)
+  rulesHere = each-rule-lawful p l
 
-  pub table-below : Below wordLimit (tableWords p)
-  unfolding tableWords termCount rulesOf
-  table-below =
+  base-each : Each (baseWords p)
+  unfolding baseWords termCount rulesOf
+  base-each =
       let a = map (λ x. unsigned (coefficient (p .objective) x)) (row 1 512) in
       let b = padTo clauseWordCount (clauseEntries 0 (p .clauses)) in
       let c = padTo ruleWordCount (ruleEntries 0 (rulesOf p)) in
@@ -120,8 +112,35 @@ module _ (p : Plan) (l : RoomyPlan p) where
       let rules : Each c = each-padTo ruleWordCount _ (each-rule (p .variables) 0 (rulesOf p) rulesHere (omega (arith, l .terms))) in
       let d = map (λ x. lockWord (lockOf p x)) (row 1 512) in
       let locks : Each d = each-map _ (row 1 512) (λ x. omega (arith, lockWord-small (lockOf p x))) in
-      each-below (tableWords p)
       (omega (arith, l .high), (omega (arith, l .clauseCount), (omega (arith, l .ruleCount), (omega (arith, l .terms), each-append a (b ++ (c ++ d)) costs (each-append b (c ++ d) clauses (each-append c d rules locks))))))
+
+  pub end-small : (x : ℕ) → x ≤ p .variables → runEnd p x ≤ termCount p
+  end-small x h = omega (arith, ends-ordered p x (p .variables) h, last-end p (numbers-within p l))
+
+  ends-each : (i k : ℕ) → i + k ≤ suc (p .variables) → Each (map (runEnd p) (row i k))
+  unfolding row
+  ends-each i zero h = tt
+  ends-each i (suc k) h = (omega (arith, end-small i (omega arith), l .terms), ends-each (suc i) k (omega arith))
+
+  places-each : (qs : List Place) → all (isPlace p) qs ≡ true → Each (map (placeWord p) qs)
+  unfolding all placeWord
+  places-each [] t = tt
+  places-each (q ∷ qs) t =
+      (spelled-small (hasSeveral (getD (p .clauses) (q .clause) [])) q (isNegative (termAt p q .weight)) (place-small p l q (true-T _ (and-left _ _ t))), places-each qs (and-right _ _ t))
+
+  order-each : Each (orderWords p)
+  unfolding orderWords runEnds
+  order-each =
+      each-append (padTo endRoom (map (runEnd p) (row 0 (suc (p .variables))))) (padTo termRoom (map (placeWord p) (order p)))
+      (each-padTo endRoom (map (runEnd p) (row 0 (suc (p .variables)))) (ends-each 0 (suc (p .variables)) (omega arith)))
+      (each-padTo termRoom (map (placeWord p) (order p)) (places-each (order p) (T-true _ (order-places p))))
+
+  pub table-below : Below wordLimit (tableWords p)
+  unfolding tableWords
+  table-below = each-below (baseWords p ++ orderWords p) (each-append (baseWords p) (orderWords p) base-each order-each)
+
+  pub base-below : Below wordLimit (baseWords p)
+  base-below = each-below (baseWords p) base-each
 
   pub term-below : Below wordLimit (termWords p)
   unfolding termWords allTerms

@@ -6,10 +6,12 @@ use mathlib.Core.Bool.{Bool, true}
 use lib.Dec.{leb, ltb, eqb}
 use lib.IntN.{natAbs}
 use Rattle.plpb.specs.Lists.{_and_}
+use Rattle.plpb.specs.Normal.{isNegative}
+use Rattle.order.specs.Order.{Place, spelled, wordPlace}
 use Rattle.words.specs.Words.{signed}
 use Rattle.format.specs.Limits.{maxVariables, maxClauses, maxRules, maxTerms, maxWeight, weightLawful}
 use Rattle.format.specs.File.{boundsLawful}
-use Rattle.format.specs.Layout.{clauseCountAt, clauseFirstAt, clauseWordCount, clausesAt, lockAt, locksAt, objectiveAt, ruleCountAt, ruleFirstAt, ruleLowerAt, ruleModeAt, ruleUpperAt, ruleWordCount, rulesAt, termWordCount}
+use Rattle.format.specs.Layout.{clauseCountAt, clauseFirstAt, clauseWordCount, clausesAt, endAt, entryAt, lockAt, locksAt, objectiveAt, ruleCountAt, ruleFirstAt, ruleLowerAt, ruleModeAt, ruleUpperAt, ruleWordCount, rulesAt, termRoom, termWordCount}
 
 -- A test holds at i, i + 1, .., k places in all.
 unfoldable pub everyFrom : (ℕ → Bool) → ℕ → ℕ → Bool
@@ -72,8 +74,51 @@ ruleGood f g r =
     boundsLawful (f (ruleModeAt r)) (signed (f (ruleLowerAt r))) (signed (f (ruleUpperAt r)))
     and termsFrom g (f 0) 0 (f (ruleFirstAt r)) (f (ruleCountAt r))
 
--- Whether two tables, as words, are those of a lawful plan.
-unfoldable pub goodBy : (ℕ → ℕ) → (ℕ → ℕ) → Bool
-goodBy f g =
+-- The base of the tables and the terms, as words, are those of a lawful plan.
+unfoldable pub baseGood : (ℕ → ℕ) → (ℕ → ℕ) → Bool
+baseGood f g =
     countsGood f and objectiveGood f and clausesGood f and rulesGood f and everyFrom (ruleGood f g) 0 (f 2)
     and zerosFrom g (2 * f 3) (termWordCount - 2 * f 3) and locksGood f
+
+-- The term that a place of the order says, counted among all terms.
+abbrev pub termHere : (ℕ → ℕ) → Place → ℕ
+termHere f q = f (ruleFirstAt (q .rule)) + q .term
+
+-- A place in the run of x, where rules from v on may stand: its clause is there, its rule is one of the clause's and its term one of the rule's, and the
+-- term names x.
+unfoldable pub placeGood : (ℕ → ℕ) → (ℕ → ℕ) → ℕ → ℕ → Place → Bool
+placeGood f g x v q =
+    ltb (q .clause) (f 1)
+    and leb (f (clauseFirstAt (q .clause))) (q .rule)
+    and ltb (q .rule) (f (clauseFirstAt (q .clause)) + f (clauseCountAt (q .clause)))
+    and ltb (q .term) (f (ruleCountAt (q .rule)))
+    and eqb (g (2 * termHere f q)) x
+    and leb v (q .rule)
+
+-- .. and its word is spelled as that place is.
+unfoldable pub entryGood : (ℕ → ℕ) → (ℕ → ℕ) → ℕ → ℕ → ℕ → Bool
+entryGood f g x v w =
+    let q = wordPlace w in
+    placeGood f g x v q
+    and eqb w (spelled (ltb 1 (f (clauseCountAt (q .clause)))) q (isNegative (signed (g (2 * termHere f q + 1)))))
+
+-- Entries j in number from entry k on, of which the rules rise strictly from v on.
+unfoldable pub entriesFrom : (ℕ → ℕ) → (ℕ → ℕ) → ℕ → ℕ → ℕ → ℕ → Bool
+entriesFrom f g x v k zero = true
+entriesFrom f g x v k (suc j) = entryGood f g x v (f (entryAt k)) and entriesFrom f g x (suc (wordPlace (f (entryAt k)) .rule)) (suc k) j
+
+-- The run of x: it begins where that of the variable before ends, and ends there or behind, where the terms end or before.
+unfoldable pub runGood : (ℕ → ℕ) → (ℕ → ℕ) → ℕ → Bool
+runGood f g x =
+    leb (f (endAt (x - 1))) (f (endAt x)) and leb (f (endAt x)) (f 3)
+    and entriesFrom f g x 0 (f (endAt (x - 1))) (f (endAt x) - f (endAt (x - 1)))
+
+-- The order: the first run begins at 0, each is good, the last ends where the terms end; unused entries 0.
+unfoldable pub orderGood : (ℕ → ℕ) → (ℕ → ℕ) → Bool
+orderGood f g =
+    eqb (f (endAt 0)) 0 and everyFrom (runGood f g) 1 (f 0) and eqb (f (endAt (f 0))) (f 3)
+    and zerosFrom f (endAt (suc (f 0))) (512 - f 0) and zerosFrom f (entryAt (f 3)) (termRoom - f 3)
+
+-- Whether two tables, as words, are those of a lawful plan.
+unfoldable pub goodBy : (ℕ → ℕ) → (ℕ → ℕ) → Bool
+goodBy f g = baseGood f g and orderGood f g

@@ -3,15 +3,22 @@
 -- Assumes nothing.
 use Prim.Native.Nat.{ℕ, _+_, _*_}
 
--- The words of the two tables, and their bytes.
+-- The words of the two tables, and their bytes. The first of the tables' words are the base: all but the order, which is worked out from the base and the
+-- terms.
+abbrev pub baseWordCount : ℕ
+baseWordCount = 7_179
+
 abbrev pub tableWordCount : ℕ
-tableWordCount = 7_179
+tableWordCount = 14_204
 
 abbrev pub termWordCount : ℕ
 termWordCount = 13_024
 
+abbrev pub baseSize : ℕ
+baseSize = 28_716
+
 abbrev pub tableSize : ℕ
-tableSize = 28_716
+tableSize = 56_816
 
 abbrev pub termSize : ℕ
 termSize = 52_096
@@ -26,6 +33,10 @@ ruleRoom = 1_025
 abbrev pub termRoom : ℕ
 termRoom = 6_512
 
+-- An end for each variable, and one for no variable.
+abbrev pub endRoom : ℕ
+endRoom = 513
+
 -- The words of the clauses' entries and of the rules'.
 abbrev pub clauseWordCount : ℕ
 clauseWordCount = 1_026
@@ -33,7 +44,7 @@ clauseWordCount = 1_026
 abbrev pub ruleWordCount : ℕ
 ruleWordCount = 5_125
 
--- The bytes of the four sections behind the counts, and where each begins.
+-- The bytes of the four sections of the base behind the counts, and where each begins.
 abbrev pub objectiveSize : ℕ
 objectiveSize = 2_048
 
@@ -108,6 +119,19 @@ lastUpperAt rules = 1_541 + 5 * rules
 -- A variable's lock.
 abbrev pub lockAt : ℕ → ℕ
 lockAt x = 6_666 + x
+
+-- Where the ends of the runs begin and where the order does; where the run of a variable ends, counted in entries of the order, and the order's entry k.
+abbrev pub endsAt : ℕ
+endsAt = 7_179
+
+abbrev pub orderAt : ℕ
+orderAt = 7_692
+
+abbrev pub endAt : ℕ → ℕ
+endAt x = 7_179 + x
+
+abbrev pub entryAt : ℕ → ℕ
+entryAt k = 7_692 + k
 
 -- The words of the tallies, and their bytes.
 abbrev pub tallyWordCount : ℕ

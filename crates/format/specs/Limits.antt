@@ -6,9 +6,10 @@ use mathlib.Core.List.{List, map}
 use lib.Dec.{leb, ltb}
 use lib.IntN.{ℤ, pos, natAbs}
 use lib.ListN.{length}
-use Rattle.plpb.specs.Lists.{_and_, _or_, all, isEmpty, sumBy}
+use Rattle.plpb.specs.Lists.{_and_, _or_, all, isEmpty}
 use Rattle.plpb.specs.Plan.{Bound, absent, present, Term, Rule, Lock, Plan, rising}
 use Rattle.plpb.specs.Tallies.{rulesOf}
+unfoldable pub use Rattle.order.specs.Order.{termCount}
 use Rattle.format.specs.Layout.{clauseRoom, ruleRoom, termRoom}
 
 -- "A plan holds at most 512 yes-or-no variables, 512 clauses, 1,024 rules and 6,000 terms, with weights up to 1,000,000 either way."
@@ -59,9 +60,6 @@ unfoldable pub ruleLawful : ℕ → Rule → Bool
 ruleLawful n r =
     (isPresent (r .lower) or isPresent (r .upper)) and boundLawful (r .lower) and boundLawful (r .upper)
     and not (isEmpty (r .terms)) and termsLawful n (r .terms)
-
-unfoldable pub termCount : Plan → ℕ
-termCount p = sumBy (λ r. length (r .terms)) (rulesOf p)
 
 -- A plan within every range, its locks' numbers "as in terms", each clause with "one or more" rules, and with so many clauses, rules and terms at most.
 unfoldable pub within : ℕ → ℕ → ℕ → Plan → Bool

@@ -11,11 +11,12 @@ use lib.Pow.{areBytes}
 use Rattle.plpb.specs.Lists.{_and_, concat, keep, row}
 use Rattle.plpb.specs.Plan.{Bound, absent, present, Term, Rule, Clause, Lock, Plan, lockOf}
 use Rattle.plpb.specs.Tallies.{rulesOf}
+use Rattle.order.specs.Order.{order, runEnd, placeWord}
 use Rattle.words.specs.Words.{wordBytes, wordAt, signed, unsigned}
 use Rattle.format.specs.Limits.{termCount, lawful}
 use Rattle.format.specs.File.{accepted, read, boundOf}
 pub use Rattle.format.specs.Layout.{tableSize, termSize}
-use Rattle.format.specs.Layout.{termWordCount, objectiveAt, clauseFirstAt, clauseCountAt, ruleFirstAt, ruleCountAt, ruleModeAt, ruleLowerAt, ruleUpperAt, lockAt, clauseWordCount, ruleWordCount}
+use Rattle.format.specs.Layout.{endRoom, termRoom, termWordCount, objectiveAt, clauseFirstAt, clauseCountAt, ruleFirstAt, ruleCountAt, ruleModeAt, ruleLowerAt, ruleUpperAt, lockAt, clauseWordCount, ruleWordCount}
 use Rattle.format.specs.Writer.{mode, boundNumber}
 
 -- The coefficient of a variable in a sum, 0 where it has none.
@@ -61,11 +62,11 @@ unfoldable pub lockWord : Bound Bool → ℕ
 lockWord absent = 0
 lockWord (present v) = cond v 2 1
 
--- The table of counts, objective (dense, by variable), clauses, rules and locks (dense too): 4 + 512 + 2·513 + 5·1,025 + 512 words. There is room
--- for one clause and rule more than a plan may have, so that the tables of a search, which adds one, are laid out alike. "The plan's record
--- carries the locks."
-unfoldable pub tableWords : Plan → List ℕ
-tableWords p =
+-- The base of the tables: counts, objective (dense, by variable), clauses, rules and locks (dense too): 4 + 512 + 2·513 + 5·1,025 + 512 words. There is
+-- room for one clause and rule more than a plan may have, so that the tables of a search, which adds one, are laid out alike. "The plan's record carries
+-- the locks."
+unfoldable pub baseWords : Plan → List ℕ
+baseWords p =
     p .variables
     ∷ length (p .clauses)
     ∷ length (rulesOf p)
@@ -73,6 +74,17 @@ tableWords p =
     ∷ (map (λ x. unsigned (coefficient (p .objective) x)) (row 1 512)
     ++ (padTo clauseWordCount (clauseEntries 0 (p .clauses))
     ++ (padTo ruleWordCount (ruleEntries 0 (rulesOf p)) ++ map (λ x. lockWord (lockOf p x)) (row 1 512))))
+
+-- "keep, beside the term table, an order of the same terms by variable, then rule, built at loading" (T-05): where the run of each variable ends, from that
+-- of no variable on, and the words of the places, 513 + 6,512 words.
+unfoldable pub runEnds : Plan → List ℕ
+runEnds p = map (runEnd p) (row 0 (suc (p .variables)))
+
+unfoldable pub orderWords : Plan → List ℕ
+orderWords p = padTo endRoom (runEnds p) ++ padTo termRoom (map (placeWord p) (order p))
+
+unfoldable pub tableWords : Plan → List ℕ
+tableWords p = baseWords p ++ orderWords p
 
 -- The term table: 2·6,512 words, with room for the terms of one rule more.
 unfoldable pub termWords : Plan → List ℕ

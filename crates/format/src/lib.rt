@@ -11,7 +11,7 @@ pub const MAX_RULES: usize = 1024;
 pub const MAX_TERMS: usize = 6000;
 
 // The words of the tables: four counts, a coefficient for each variable, two words for each clause, five for each rule, and a lock for each
-// variable.
+// variable. Behind this base stands the order of the terms by variable: where the run of each variable ends, and a word for each term.
 pub const OBJECTIVE: usize = 4 - 1; // variable x has its coefficient at OBJECTIVE + x
 
 pub const CLAUSES: usize = 4 + MAX_VARIABLES; // clause c has its first rule at CLAUSES + 2 * c
@@ -32,7 +32,11 @@ pub const RULES_END: usize = RULES + 5 * (MAX_RULES + 1);
 
 pub const LOCKS: usize = RULES_END - 1; // variable x has its lock at LOCKS + x
 
-pub const TABLE_WORDS: usize = RULES_END + MAX_VARIABLES;
+pub const ENDS: usize = RULES_END + MAX_VARIABLES; // variable x's run ends at entry ENDS + x, and begins where that of x - 1 ends
+
+pub const ORDER: usize = ENDS + MAX_VARIABLES + 1; // entry k of the order
+
+pub const TABLE_WORDS: usize = ORDER + MAX_TERMS + MAX_VARIABLES;
 
 pub const TERM_WORDS: usize = 2 * (MAX_TERMS + MAX_VARIABLES);
 
@@ -51,6 +55,8 @@ pub const CLAUSES_BYTE: usize = 4 * CLAUSES;
 pub const RULES_BYTE: usize = 4 * RULES;
 
 pub const LOCKS_BYTE: usize = 4 * RULES_END;
+
+pub const ENDS_BYTE: usize = 4 * ENDS;
 
 pub const TABLES: usize = 4 * TABLE_WORDS;
 
