@@ -14,8 +14,8 @@ use Rattle.plpb.specs.Plan.{Rule, Clause, Plan}
 use Rattle.plpb.specs.Normal.{isNegative}
 use Rattle.plpb.specs.Tallies.{rulesOf}
 use Rattle.order.specs.Order.{Place, noRule, noTerm, ruleAt, termAt, firstRule, isPlace, namesAt, spelled, hasSeveral, placeWord, wordPlace}
-use Rattle.order.proofs.Runs.{first-next, first-within, named-of, named-below}
-use Rattle.order.proofs.Mentions.{termsBefore}
+use Rattle.order.specs.Mentions.{termsBefore}
+use Rattle.order.proofs.Runs.{first-next, first-within, Named, named-of, named-below}
 use Rattle.order.proofs.Words.{Small, place-back}
 use Rattle.words.specs.Words.{signed}
 use Rattle.format.specs.Layout.{clauseCountAt, clauseFirstAt, clausesAt, ruleCountAt, ruleFirstAt}
@@ -145,10 +145,9 @@ module _ (p : Plan) (l : RoomyPlan p) (f g : ℕ → ℕ) (s : Sections p f g) w
       (le-leb v (q .rule) low)
 
   -- The word of a place, as the tables say it.
-  pub place-spelt : (x : ℕ) (q : Place) → T (namesAt p x q) → spelled (ltb 1 (f (clauseCountAt (q .clause)))) q (isNegative (signed (g (2 * termHere f q + 1)))) ≡ placeWord p q
+  pub place-spelt : (x : ℕ) (q : Place) → Named p x q → spelled (ltb 1 (f (clauseCountAt (q .clause)))) q (isNegative (signed (g (2 * termHere f q + 1)))) ≡ placeWord p q
   unfolding placeWord hasSeveral termOf
-  place-spelt x q t =
-      let n = named-of p x q t in
+  place-spelt x q n =
       let below = named-below p x q n in
       ap₂ (λ k u. spelled (ltb 1 k) q (isNegative (u .weight))) (clause-size (q .clause) (n .clause-there))
       (sym (term-is q below (omega (arith, n .term-there, rule-size (q .rule) below))))
@@ -158,11 +157,11 @@ module _ (p : Plan) (l : RoomyPlan p) (f g : ℕ → ℕ) (s : Sections p f g) w
   unfolding entryGood
   entry-names x v w t =
       let (low, names) = place-names x v (wordPlace w) (and-left _ _ t) in
-      (low, names, eqb-true _ _ (and-right _ _ t) ∙ place-spelt x (wordPlace w) names)
+      (low, names, eqb-true _ _ (and-right _ _ t) ∙ place-spelt x (wordPlace w) (named-of p x (wordPlace w) names))
 
   pub names-entry : (x v : ℕ) (q : Place) → Small q → v ≤ q .rule → T (namesAt p x q) → entryGood f g x v (placeWord p q) ≡ true
   names-entry x v q small low t =
-      subst (λ w. entryGood f g x v w ≡ true) (place-spelt x q t) (spelt (ltb 1 (f (clauseCountAt (q .clause)))) (isNegative (signed (g (2 * termHere f q + 1)))) refl refl)
+      subst (λ w. entryGood f g x v w ≡ true) (place-spelt x q (named-of p x q t)) (spelt (ltb 1 (f (clauseCountAt (q .clause)))) (isNegative (signed (g (2 * termHere f q + 1)))) refl refl)
     where
       spelt : (b n : Bool) → ltb 1 (f (clauseCountAt (q .clause))) ≡ b → isNegative (signed (g (2 * termHere f q + 1))) ≡ n → entryGood f g x v (spelled b q n) ≡ true
       spelt b n d e =

@@ -1,18 +1,18 @@
 -- Laws of opening and flip: the first n bytes say the plan's variables, cleared tallies have 0 in unused entries, and those of an assignment
 -- are right for another that differs in one variable, but where that is concerned.
 -- Assumes nothing.
-use Prim.Native.Nat.{ℕ, zero, suc, _+_, _*_, _-_, _≤_, _<_}
-use native.Mathlib.Nat.{add-zero, add-suc, suc-add}
+use Prim.Native.Nat.{ℕ, zero, suc, _+_, _-_, _≤_, _<_}
 use native.Mathlib.Omega.{arith}
 use mathlib.Core.Path.{_≡_, refl, sym, ap, ap₂, _∙_}
 use mathlib.Core.Bool.{true, false, true≢false}
 use mathlib.Core.List.{List, _++_}
-use lib.ListN.{length, getD, set, take, drop, replicate, length-take, length-append, length-replicate, getD-replicate, List·getD-append}
+use lib.ListN.{length, getD, set, take, drop, replicate, length-take, length-append, length-replicate}
 use lib.Seq.{length-take-le, drop-at}
 use Rattle.plpb.specs.Plan.{Plan, flip}
 use Rattle.plpb.specs.Tallies.{freshCount}
 use Rattle.plpb.proofs.Flip.{flip-twice}
-use Rattle.words.specs.Words.{wordAt, numAt}
+use Rattle.words.specs.Words.{wordAt}
+use Rattle.words.proofs.Writes.{zero-word}
 use Rattle.format.specs.Tables.{planOfTables}
 use Rattle.rules.specs.Terms.{bitsIn}
 use Rattle.tallies.specs.Layout.{tallySize, bitsOf, tallyBytes, tallyWord}
@@ -48,21 +48,6 @@ module _ (tables terms assignment : List ℕ) (y : Ready tables terms assignment
   first-fresh x s h = h ∙ ap (λ b. tallyBytes (freshCount (planOfTables tables terms) (flip b x))) (sym first-bits-of)
 
 -- ---- cleared tallies
-
-zero-num : (k : ℕ) (s : List ℕ) (i : ℕ) → ((m : ℕ) → m < k → getD s (i + m) 0 ≡ 0) → numAt k s i ≡ 0
-unfolding numAt
-zero-num zero s i h = refl
-zero-num (suc k) s i h =
-    let first : getD s i 0 ≡ 0 = rw (add-zero i) at (h 0 (omega arith)) in
-    let rest = zero-num k s (suc i) (λ m l. rw (suc-add i m, ← add-suc i m) (h (suc m) (omega arith))) in
-    omega (arith, first, rest)
-
-zero-word : (k : ℕ) (ys rest : List ℕ) (i : ℕ) → ys ≡ replicate k 0 → 4 * i + 4 ≤ k → wordAt (ys ++ rest) i ≡ 0
-unfolding wordAt
-zero-word k ys rest i e h =
-    let long : length ys ≡ k = ap length e ∙ length-replicate {A = ℕ} k 0 in
-    zero-num 4 (ys ++ rest) (4 * i)
-    (λ m l. List·getD-append ys rest 0 (4 * i + m) (omega arith) ∙ ap (λ s. getD s (4 * i + m) 0) e ∙ getD-replicate k (4 * i + m) 0 0 (omega arith))
 
 module _ (s ys : List ℕ) (room : tallySize ≤ length s) (e : ys ≡ replicate (length (take tallySize s)) 0) where
   full : length (take tallySize s) ≡ tallySize

@@ -1,43 +1,18 @@
 -- Tallies that become right word by word: what was right stays so, so that once every word is written or was right all are.
 -- Assumes nothing.
-use Prim.Native.Nat.{ℕ, _+_, _*_, _-_, _≤_, _<_}
-use native.Mathlib.Decide.{decLt, ℕ-discrete}
+use Prim.Native.Nat.{ℕ, _*_, _-_, _≤_, _<_}
+use native.Mathlib.Decide.{ℕ-discrete}
 use native.Mathlib.Omega.{arith}
 use mathlib.Core.Path.{_≡_, refl, sym, ap, _∙_}
-use mathlib.Core.Logic.{_≢_}
-use mathlib.Core.List.{List, _++_}
-use lib.ListN.{length, take, drop}
-use lib.Seq.{drop-append-add, drop-drop, length-take-le}
-use Rattle.words.specs.Words.{wordAt, numAt, bytesOf}
-use Rattle.words.specs.Writes.{front, put}
+use mathlib.Core.List.{List}
+use lib.ListN.{length}
+use Rattle.words.specs.Words.{wordAt, bytesOf}
+use Rattle.words.specs.Writes.{put}
 use Rattle.words.proofs.Words.{length-bytesOf}
-use Rattle.words.proofs.Writes.{length-put, read-put, read-before, read-behind}
+use Rattle.words.proofs.Writes.{length-put, read-put, drop-put, put-beside}
 use Rattle.tallies.specs.Layout.{tallySize}
 use Rattle.recount.specs.Core.{Wrote, Kept}
 use Rattle.format.specs.Layout.{tallyWordCount}
-
--- What stands past a write is as it was.
-drop-put : (n at : ℕ) (bs s : List ℕ) → at + length bs ≤ n → n ≤ length s → drop n (put at bs s) ≡ drop n s
-unfolding put front
-drop-put n at bs s h k =
-    let m = n - (at + length bs) in
-    let room : at ≤ length s = omega arith in
-    let first : length (take at s) + (length bs + m) ≡ n = omega (arith, length-take-le at s room) in
-    let last : at + (length bs + m) ≡ n = omega arith in
-    ap (λ i. drop i (take at s ++ (bs ++ drop (length bs) (drop at s)))) (sym first)
-    ∙ drop-append-add (take at s) (bs ++ drop (length bs) (drop at s)) (length bs + m)
-    ∙ drop-append-add bs (drop (length bs) (drop at s)) m
-    ∙ drop-drop m (length bs) (drop at s)
-    ∙ drop-drop (length bs + m) at s
-    ∙ ap (λ i. drop i s) last
-
-put-beside : (s : List ℕ) (i j v : ℕ) → 4 * i + 4 ≤ length s → j ≢ i → wordAt (put (4 * i) (bytesOf 4 v) s) j ≡ wordAt s j
-unfolding wordAt
-put-beside s i j v h n = at (decLt j i)
-  where
-    at : Dec (j < i) → numAt 4 (put (4 * i) (bytesOf 4 v) s) (4 * j) ≡ numAt 4 s (4 * j)
-    at (yes l) = read-before 4 (4 * i) (4 * j) (bytesOf 4 v) s (omega arith) (omega arith)
-    at (no l) = read-behind 4 (4 * i) (4 * j) (bytesOf 4 v) s (omega arith) (rw (length-bytesOf 4 v) (omega arith))
 
 pub put-wrote : (s : List ℕ) (i v : ℕ) → i < tallyWordCount → v < 4_294_967_296 → tallySize ≤ length s → Wrote i v s (put (4 * i) (bytesOf 4 v) s)
 unfolding wordAt

@@ -30,7 +30,7 @@ fn fill_tables(file: &[u8], tables: &mut [u8])
         &mut tables[format::CLAUSES_BYTE..format::RULES_BYTE],
     );
     let counted = sections::rule_section(file, &mut tables[format::RULES_BYTE..format::LOCKS_BYTE]);
-    sections::lock_section(file, &mut tables[format::LOCKS_BYTE..format::TABLES]);
+    sections::lock_section(file, &mut tables[format::LOCKS_BYTE..format::ENDS_BYTE]);
     let variables = words::read_u16(file, 3);
     entries::put_head(tables, variables, clauses, counted.rules, counted.terms);
 }
@@ -62,5 +62,6 @@ pub fn load(file: &[u8], tables: &mut [u8], terms: &mut [u8]) -> Answer
     };
     fill_tables(file, tables);
     fill_terms(file, terms);
+    arrange::derive(tables, terms);
     Answer::Accepted
 }

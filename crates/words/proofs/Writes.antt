@@ -1,17 +1,19 @@
 -- Laws of bytes written over a list of bytes: what stands there afterwards, and how writes one after the other join.
 -- Assumes nothing.
 use Prim.Native.Nat.{ℕ, zero, suc, _+_, _*_, _-_, _/_, _%_, _^_, _≤_, _<_}
+use native.Mathlib.Decide.{decLt}
 use native.Mathlib.Omega.{arith}
-use native.Mathlib.Nat.{le-of-eq, le-refl}
+use native.Mathlib.Nat.{add-zero, add-suc, suc-add, le-of-eq, le-refl}
 use native.Mathlib.Numerals.{add-one, add-two, add-three}
 use mathlib.Core.Path.{_≡_, refl, sym, ap, ap₂, _∙_}
+use mathlib.Core.Logic.{_≢_}
 use mathlib.Core.List.{List, [], _∷_, _++_, append-assoc, append-nil}
-use lib.ListN.{length, take, drop, getD, set, replicate, length-append, length-drop, length-replicate, take-append-drop}
-use lib.Seq.{take-length, set-at, append-snoc, take-suc, drop-cons, sets, sets-eq, drop-at, drop-drop, length-take-le, drop-append-seam, take-append-seam, drop-length, take-all}
+use lib.ListN.{length, take, drop, getD, set, replicate, length-append, length-drop, length-replicate, take-append-drop, getD-replicate, List·getD-append}
+use lib.Seq.{take-length, set-at, append-snoc, take-suc, drop-cons, sets, sets-eq, drop-at, drop-drop, length-take-le, drop-append-seam, drop-append-add, take-append-seam, take-append-le, take-take, drop-length, take-all}
 use borrow.Rule.Slice.PartMut.{midOf, postOf, putMid, post-is, mid-len, same-len-mid}
-use Rattle.words.specs.Words.{numAt, bytesOf, wordBytes}
-use Rattle.words.specs.Writes.{front, put, putWords}
-use Rattle.words.proofs.Words.{numAt-append, numAt-inside, numAt-bytesOf, numAt-take, numAt-drop, length-wordBytes}
+use Rattle.words.specs.Words.{numAt, bytesOf, wordBytes, wordAt}
+use Rattle.words.specs.Writes.{front, put, putWords, Wrote}
+use Rattle.words.proofs.Words.{numAt-append, numAt-inside, numAt-bytesOf, numAt-take, numAt-drop, length-bytesOf, length-wordBytes}
 
 -- What two and four bytes read join to.
 pub num-two : (s : List ℕ) (at : ℕ) → getD s at 0 + 256 * getD s (at + 1) 0 ≡ numAt 2 s at
@@ -253,3 +255,64 @@ copied-more s t i h k =
 pub copied-whole : (s o : List ℕ) {t : List ℕ} → t ≡ take (length s) s ++ drop (length s) o → t ≡ front s o
 unfolding front
 copied-whole s o e = e ∙ ap (λ (l : List ℕ). l ++ drop (length s) o) (take-length s)
+
+-- What stands past a write is as it was.
+pub drop-put : (n at : ℕ) (bs s : List ℕ) → at + length bs ≤ n → n ≤ length s → drop n (put at bs s) ≡ drop n s
+unfolding put front
+drop-put n at bs s h k =
+    let m = n - (at + length bs) in
+    let room : at ≤ length s = omega arith in
+    let first : length (take at s) + (length bs + m) ≡ n = omega (arith, length-take-le at s room) in
+    let last : at + (length bs + m) ≡ n = omega arith in
+    ap (λ i. drop i (take at s ++ (bs ++ drop (length bs) (drop at s)))) (sym first)
+    ∙ drop-append-add (take at s) (bs ++ drop (length bs) (drop at s)) (length bs + m)
+    ∙ drop-append-add bs (drop (length bs) (drop at s)) m
+    ∙ drop-drop m (length bs) (drop at s)
+    ∙ drop-drop (length bs + m) at s
+    ∙ ap (λ i. drop i s) last
+
+pub put-beside : (s : List ℕ) (i j v : ℕ) → 4 * i + 4 ≤ length s → j ≢ i → wordAt (put (4 * i) (bytesOf 4 v) s) j ≡ wordAt s j
+unfolding wordAt
+put-beside s i j v h n = at (decLt j i)
+  where
+    at : Dec (j < i) → numAt 4 (put (4 * i) (bytesOf 4 v) s) (4 * j) ≡ numAt 4 s (4 * j)
+    at (yes l) = read-before 4 (4 * i) (4 * j) (bytesOf 4 v) s (omega arith) (omega arith)
+    at (no l) = read-behind 4 (4 * i) (4 * j) (bytesOf 4 v) s (omega arith) (rw (length-bytesOf 4 v) (omega arith))
+
+-- .. and what stands before it.
+pub take-put : (n at : ℕ) (bs s : List ℕ) → n ≤ at → at ≤ length s → take n (put at bs s) ≡ take n s
+unfolding put front
+take-put n at bs s h k =
+    take-append-le n (take at s) (bs ++ drop (length bs) (drop at s)) (omega (arith, length-take-le at s k)) ∙ take-take n at s h
+
+pub word-wrote : (i v : ℕ) (s t : List ℕ) → 4 * i + 4 ≤ length s → v < 4_294_967_296 → t ≡ putWords i (v ∷ []) s → Wrote i v s t
+word-wrote i v s t h k e = rw (e, ← one-word i v s) wrote
+  where
+    long : length (bytesOf 4 v) ≡ 4
+    long = length-bytesOf 4 v
+
+    wrote : Wrote i v s (put (4 * i) (bytesOf 4 v) s)
+    wrote = record {
+      here = unfold wordAt in read-put 4 (4 * i) v s (omega arith) k;
+      others = λ j n. put-beside s i j v h n;
+      size = length-put (4 * i) (bytesOf 4 v) s (omega (arith, long));
+      before = λ n l. take-put n (4 * i) (bytesOf 4 v) s l (omega arith);
+      beyond = λ n l u. drop-put n (4 * i) (bytesOf 4 v) s (omega (arith, long)) u;
+    }
+
+-- ---- words of 0
+
+zero-num : (k : ℕ) (s : List ℕ) (i : ℕ) → ((m : ℕ) → m < k → getD s (i + m) 0 ≡ 0) → numAt k s i ≡ 0
+unfolding numAt
+zero-num zero s i h = refl
+zero-num (suc k) s i h =
+    let first : getD s i 0 ≡ 0 = rw (add-zero i) at (h 0 (omega arith)) in
+    let rest = zero-num k s (suc i) (λ m l. rw (suc-add i m, ← add-suc i m) (h (suc m) (omega arith))) in
+    omega (arith, first, rest)
+
+pub zero-word : (k : ℕ) (ys rest : List ℕ) (i : ℕ) → ys ≡ replicate k 0 → 4 * i + 4 ≤ k → wordAt (ys ++ rest) i ≡ 0
+unfolding wordAt
+zero-word k ys rest i e h =
+    let long : length ys ≡ k = ap length e ∙ length-replicate {A = ℕ} k 0 in
+    zero-num 4 (ys ++ rest) (4 * i)
+    (λ m l. List·getD-append ys rest 0 (4 * i + m) (omega arith) ∙ ap (λ s. getD s (4 * i + m) 0) e ∙ getD-replicate k (4 * i + m) 0 0 (omega arith))

@@ -1,0 +1,2 @@
+-- What the builder of the order needs, and how far it has come.
+pub mod Arranging
