@@ -4,5 +4,6 @@ pub mod Entered
 pub mod Filled
 pub mod Dense
 pub mod Whole
+pub mod Ordered
 pub mod Holding
 pub mod Within

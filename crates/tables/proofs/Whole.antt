@@ -18,18 +18,18 @@ use Rattle.words.proofs.Words.{length-wordBytes}
 use Rattle.words.proofs.Writes.{front-before, length-front, length-put, lent-part, put-put, wordBytes-append}
 use Rattle.format.specs.Limits.{termCount}
 use Rattle.format.specs.File.{Reading, refused, accepted, read}
-use Rattle.format.specs.Tables.{coefficient, clauseEntries, ruleEntries, lockWord, tableWords, termWords, tableSize, termSize}
+use Rattle.format.specs.Tables.{coefficient, clauseEntries, ruleEntries, lockWord, baseWords, tableWords, termWords, tableSize, termSize}
 use Rattle.format.proofs.Lists.{length-row}
 use Rattle.format.proofs.Lawful.{LawfulPlan, room-for}
 use Rattle.format.proofs.Spells.{length-padTo}
-use Rattle.format.proofs.Sections.{length-clauseEntries, length-ruleEntries, length-tableWords, length-termWords}
+use Rattle.format.proofs.Sections.{length-clauseEntries, length-ruleEntries, length-baseWords, length-tableWords, length-termWords}
 use Rattle.verdict.specs.declared.Answer.{Answer}
 use Rattle.verdict.specs.declared.Answer.the-variants.{Accepted, Refused}
 use Rattle.tables.specs.Load.{outcome, tooSmall, loading, tablesOf, termsOf, tablesAfter, termsAfter}
 use Rattle.tables.specs.Places.{said}
 use Rattle.tables.specs.Sections.{objectiveWords, clauseWords, ruleWords, lockWords}
 use Rattle.tables.proofs.Filled.{lawful-file}
-use Rattle.format.specs.Layout.{clauseSectionSize, clauseWordCount, clausesByte, lockSectionSize, locksByte, objectiveByte, objectiveSize, ruleSectionSize, ruleWordCount, rulesByte}
+use Rattle.format.specs.Layout.{baseSize, clauseSectionSize, clauseWordCount, clausesByte, lockSectionSize, locksByte, objectiveByte, objectiveSize, ruleSectionSize, ruleWordCount, rulesByte}
 
 -- How long each section is.
 module _ (p : Plan) (q : LawfulPlan p) where
@@ -97,7 +97,7 @@ module _ (p : Plan) (q : LawfulPlan p) where
 
       behind-head : four o y z w k ≡ put objectiveByte (y ++ z ++ w ++ k) o
       behind-head =
-          lent-part locksByte tableSize _ k (omega arith) lk
+          lent-part locksByte baseSize _ k (omega arith) lk
           ∙ ap (put locksByte k) behind-three
           ∙ ap (λ (m : ℕ). put m k (put objectiveByte (y ++ z ++ w) o)) (sym long)
           ∙ put-put objectiveByte (y ++ z ++ w) k o (omega (arith, long, n))
@@ -119,8 +119,8 @@ module _ (p : Plan) (q : LawfulPlan p) where
       pub tables-whole :
           (u : List ℕ) {v cl ru te : ℕ} → v ≡ p .variables → cl ≡ length (p .clauses) → ru ≡ length (rulesOf p) → te ≡ termCount p
           → u ≡ front (wordBytes (v ∷ cl ∷ ru ∷ te ∷ [])) (four o y z w k)
-          → u ≡ front (wordBytes (tableWords p)) o
-      unfolding tableWords objectiveWords clauseWords ruleWords lockWords
+          → u ≡ front (wordBytes (baseWords p)) o
+      unfolding baseWords objectiveWords clauseWords ruleWords lockWords
       tables-whole u {v} {cl} {ru} {te} pv pc pr pt e =
           let hs = v ∷ cl ∷ ru ∷ te ∷ [] in
           let m : length (wordBytes hs) ≡ 16 = length-wordBytes hs in
@@ -130,8 +130,11 @@ module _ (p : Plan) (q : LawfulPlan p) where
           ∙ ap (λ (x : List ℕ). front x o) (ap (λ (x : List ℕ). wordBytes hs ++ x) bytes ∙ sym (wordBytes-append hs sections))
           ∙ ap (λ (ws : List ℕ). front (wordBytes (ws ++ sections)) o) (λ i. pv i ∷ pc i ∷ pr i ∷ pt i ∷ [])
 
-  pub table-size : (o : List ℕ) → tableSize ≤ length o → length (front (wordBytes (tableWords p)) o) ≡ length o
-  table-size o n = length-front (wordBytes (tableWords p)) o (omega (arith, length-wordBytes (tableWords p), length-tableWords p (room-for p q)))
+  pub base-long : length (wordBytes (baseWords p)) ≡ baseSize
+  base-long = omega (arith, length-wordBytes (baseWords p), length-baseWords p (room-for p q))
+
+  pub base-size : (o : List ℕ) → tableSize ≤ length o → length (front (wordBytes (baseWords p)) o) ≡ length o
+  base-size o n = length-front (wordBytes (baseWords p)) o (omega (arith, base-long))
 
 -- The term table.
 pub terms-whole :

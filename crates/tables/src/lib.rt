@@ -1,11 +1,11 @@
 // The tables filled from a plan file that was judged lawful (document 01, "The plan file").
-// The whole file is judged before a byte is written; then each section of the tables is filled by a loop of its own.
+// The whole file is judged before a byte is written; then each section of the tables is filled by a loop of its own, and last the order, from the others.
 ghost use mathlib.Core.Path.{_≡_};
 ghost use Prim.Native.Nat.{_≤_};
 ghost use lib.ListN.{length};
 ghost use Rattle.words.specs.Words.{wordBytes};
 ghost use Rattle.words.specs.Writes.{front};
-ghost use Rattle.format.specs.Tables.{tableWords, termWords, tableSize, termSize};
+ghost use Rattle.format.specs.Tables.{baseWords, termWords, tableSize, termSize};
 ghost use Rattle.tables.specs.Load.{loading, tablesAfter, termsAfter};
 ghost use Rattle.tables.specs.Places.{Accepts, planOfFile};
 
@@ -13,13 +13,14 @@ mod entries;
 pub mod fields;
 pub mod sections;
 
+use arrange::derive;
 pub use verdict::Answer;
 
-// The table of counts, objective, clauses, rules and locks of an accepted file.
+// The table of counts, objective, clauses, rules and locks of an accepted file: all but the order of the terms.
 fn fill_tables(file: &[u8], tables: &mut [u8])
     requires { ⌜ Accepts (now file) ⌝ }
     requires { ⌜ tableSize ≤ length (now tables) ⌝ }
-    ensures { λ _. ⌜ now (tables .exit) ≡ front (wordBytes (tableWords (planOfFile (now (file .entry))))) (now (tables .entry)) ⌝ }
+    ensures { λ _. ⌜ now (tables .exit) ≡ front (wordBytes (baseWords (planOfFile (now (file .entry))))) (now (tables .entry)) ⌝ }
 {
     sections::objective_section(
         file,
@@ -62,6 +63,6 @@ pub fn load(file: &[u8], tables: &mut [u8], terms: &mut [u8]) -> Answer
     };
     fill_tables(file, tables);
     fill_terms(file, terms);
-    arrange::derive(tables, terms);
+    derive(tables, terms);
     Answer::Accepted
 }

@@ -7,7 +7,7 @@ use lib.ListN.{length}
 use Rattle.tables.specs.Places.{behindObjective}
 use Rattle.tables.proofs.Found.{begun-file, begun-front}
 use Rattle.tables.proofs.Filled.{lawful-file}
-use Rattle.tables.proofs.Whole.{three-long, behind-long, tables-whole, table-size}
+use Rattle.tables.proofs.Whole.{three-long, behind-long, tables-whole, base-size}
 use Rattle.tables.proofs.fill_tables.Statement.{statement}
 use Rattle.tables.proofs.fill_tables.Tie as tie
 
@@ -65,7 +65,7 @@ returns c =
 same-length : tie.Need-same-length
 same-length c =
     let start = c .before .before .before .before .before .before .before .before .before .before .before .before .before .before .before .before .before .before .before .before .before .before .before in
-    ap length (returns c) ∙ table-size _ (lawful-file _ _ (start .pre .0)) (start .args .tables .now) (start .pre .1)
+    ap length (returns c) ∙ base-size _ (lawful-file _ _ (start .pre .0)) (start .args .tables .now) (start .pre .1)
 
 pub fill-tables-spec : {M : Type 1} → statement M
 fill-tables-spec =

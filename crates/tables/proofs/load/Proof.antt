@@ -2,6 +2,8 @@
 -- Assumes nothing.
 use borrow.Author.Needs.{needs}
 use mathlib.Core.Path.{sym, _∙_}
+use Rattle.tables.proofs.Filled.{lawful-file}
+use Rattle.tables.proofs.Ordered.{order-ready, order-left}
 use Rattle.tables.proofs.Whole.{accepts, small-tables, small-terms, kept, filled}
 use Rattle.tables.proofs.load.Statement.{statement}
 use Rattle.tables.proofs.load.Tie as tie
@@ -26,16 +28,21 @@ fill-terms-requires c κs =
     let test2 = judge .before in
     (accepts _ (sym (enum .enum-told .given .1) ∙ judge .judge .ensures), test2 .if2 .left)
 
+-- What stands in the two tables before the order is built.
+derive-requires : tie.Need-derive-requires
+derive-requires c κs =
+    let enum = c .before .before .before .before .before .before .before .before .before .before in
+    let judge = enum .before .before in
+    let accepted = accepts _ (sym (enum .enum-told .given .1) ∙ judge .judge .ensures) in
+    order-ready _ (lawful-file _ _ accepted) _ _ (c .before .before .before .before .before .before .before .before .before .before .before .before .before .before .if1 .left) (c .before .before .before .before .before .before .before .before .fill-tables .ensures) (c .before .before .before .before .fill-terms .ensures)
+
 returns-4 : tie.Need-returns-4
 returns-4 c =
-    let fill = c .before .before in
-    let fill2 = fill .before .before .before .before in
-    let enum = fill2 .before .before in
+    let enum = c .before .before .before .before .before .before .before .before .before .before .before .before .before in
     let judge = enum .before .before in
-    let test2 = judge .before in
-    let test = test2 .before in
-    filled _ _ _ (test .if1 .left) (test2 .if2 .left) _ _ (accepts _ (sym (enum .enum-told .given .1) ∙ judge .judge .ensures))
-    (fill2 .fill-tables .ensures) (fill .fill-terms .ensures)
+    let accepted = accepts _ (sym (enum .enum-told .given .1) ∙ judge .judge .ensures) in
+    let tables = order-left _ (lawful-file _ _ accepted) _ _ (c .before .before .before .before .before .before .before .before .before .before .before .before .before .before .before .before .before .if1 .left) (c .before .before .before .before .before .before .before .before .before .before .before .fill-tables .ensures) (c .before .before .before .before .before .before .before .fill-terms .ensures) (c .before .before .derive .ensures) in
+    filled _ _ _ (c .before .before .before .before .before .before .before .before .before .before .before .before .before .before .before .before .before .if1 .left) (c .before .before .before .before .before .before .before .before .before .before .before .before .before .before .before .before .if2 .left) _ _ accepted tables (c .before .before .before .before .before .before .before .fill-terms .ensures)
 
 pub load-spec : {M : Type 1} → statement M
 load-spec =
@@ -49,6 +56,7 @@ load-spec =
     returns-3
     fill-tables-requires
     fill-terms-requires
+    derive-requires
     (λ c. search needs)
     (λ c. search needs)
     returns-4)
