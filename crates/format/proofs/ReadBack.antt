@@ -8,11 +8,13 @@ use native.Mathlib.Numerals.{add-one}
 use native.Mathlib.Omega.{arith}
 use lib.Dec.{T}
 use lib.ListN.{length, take}
+use lib.Seq.{take-at, take-take}
 use Rattle.plpb.specs.Lists.{all, concat, row}
 use Rattle.plpb.specs.Plan.{Term, Rule, Clause, Plan, lockOf, rising}
 use Rattle.plpb.specs.Tallies.{rulesOf}
 use Rattle.words.specs.Words.{wordBytes, wordAt, signed}
-use Rattle.words.proofs.Words.{Below, words-read, words-determine, signed-unsigned}
+use Rattle.words.proofs.Writes.{wordBytes-append}
+use Rattle.words.proofs.Words.{Below, length-wordBytes, words-read, words-determine, signed-unsigned}
 use Rattle.format.specs.Limits.{lockTerms, ruleLawful, roomy}
 use Rattle.format.specs.File.{boundOf}
 use Rattle.format.specs.Writer.{boundNumber}
@@ -139,6 +141,15 @@ module _ (p : Plan) (l : RoomyPlan p) (tables terms : List ℕ) where
   -- Tables of which the base is that of a plan.
   pub based-sections : take baseSize tables ≡ wordBytes (baseWords p) → take termSize terms ≡ wordBytes (termWords p) → Sections p (wordAt tables) (wordAt terms)
   based-sections a b = spelt-sections p l (wordAt tables) (wordAt terms) (base-spelt a) (terms-read b)
+
+  -- Tables that hold a plan have its base.
+  pub holds-base : Holds p tables terms → take baseSize tables ≡ wordBytes (baseWords p)
+  unfolding Holds tableWords
+  holds-base h =
+      let n : length (wordBytes (baseWords p)) ≡ baseSize = omega (arith, length-wordBytes (baseWords p), length-baseWords p l) in
+      sym (take-take baseSize tableSize tables (omega arith))
+      ∙ ap (take baseSize) (h .0 ∙ wordBytes-append (baseWords p) (orderWords p))
+      ∙ take-at (wordBytes (baseWords p)) (wordBytes (orderWords p)) baseSize n
 
   pub holds-sections : Holds p tables terms → Sections p (wordAt tables) (wordAt terms)
   unfolding Holds tableWords

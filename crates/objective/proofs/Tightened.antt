@@ -14,16 +14,18 @@ use Rattle.plpb.specs.Lists.{_and_, _or_, all, concat, sumBy, row}
 use Rattle.plpb.specs.Plan.{absent, present, Rule, Clause, Plan, isVariable, lockOf, rising}
 use Rattle.plpb.specs.Search.{tightened}
 use Rattle.plpb.specs.Tallies.{rulesOf}
+use Rattle.order.proofs.Terms.{termsOf}
 use Rattle.words.specs.Words.{unsigned}
 use Rattle.words.specs.Writes.{front, put}
 use Rattle.format.specs.Limits.{termCount, boundLawful, isPresent}
 use Rattle.format.specs.Writer.{mode, boundNumber}
-use Rattle.format.specs.Tables.{coefficient, padTo, padWith, clauseEntries, ruleEntries, termEntries, allTerms, lockWord, tableWords, termWords}
+use Rattle.format.specs.Tables.{coefficient, padTo, padWith, clauseEntries, ruleEntries, termEntries, allTerms, lockWord, baseWords, orderWords, termWords}
 use Rattle.format.proofs.Bools.{and-join}
 use Rattle.format.proofs.Bounds.{bothLawful}
 use Rattle.format.proofs.Lists.{all-append, sumBy-append, length-row}
 use Rattle.format.proofs.Lawful.{LawfulPlan, RoomyPlan, clauseLawful, clause-whole, rule-whole, terms-short}
 use Rattle.format.proofs.Sections.{length-clauseEntries, length-ruleEntries, length-termEntries, length-allTerms}
+use Rattle.format.proofs.Arranged.{order-same}
 use Rattle.format.proofs.Spells.{length-padTo}
 use Rattle.objective.proofs.Parts.{put-inside, put-behind, pad-more}
 use Rattle.objective.proofs.AddedTerms.{termEntries-append}
@@ -208,13 +210,13 @@ module _ (p : Plan) (l : LawfulPlan p) where
         ∙ ap (λ n. second ++ (n ∷ length (p .objective) ∷ 2 ∷ 0 ∷ unsigned m ∷ [])) (zero-add (termCount p))
 
     spelt :
-        tableWords (tightened p m)
+        baseWords (tightened p m)
         ≡ p .variables
         ∷ (length (p .clauses) + 1)
         ∷ (length (rulesOf p) + 1)
         ∷ (termCount p + length (p .objective))
         ∷ (costs ++ (padTo clauseWordCount (first ++ clauseWords) ++ (padTo ruleWordCount (second ++ ruleWords m) ++ locked)))
-    unfolding tableWords tightened lockOf isVariable
+    unfolding baseWords tightened lockOf isVariable
     spelt =
         λ i. p .variables
         ∷ clause-count i
@@ -224,9 +226,9 @@ module _ (p : Plan) (l : LawfulPlan p) where
 
     -- Three writes make them of the plan's own.
     pub new-table :
-        put 1 countWords (put (rulesAt + 5 * length (rulesOf p)) (ruleWords m) (put (clausesAt + 2 * length (p .clauses)) clauseWords (tableWords p)))
-        ≡ tableWords (tightened p m)
-    unfolding tableWords
+        put 1 countWords (put (rulesAt + 5 * length (rulesOf p)) (ruleWords m) (put (clausesAt + 2 * length (p .clauses)) clauseWords (baseWords p)))
+        ≡ baseWords (tightened p m)
+    unfolding baseWords
     new-table =
         let n = length (p .clauses) in
         let room : 2 * n + 2 ≤ length (padTo clauseWordCount first) =
@@ -270,7 +272,7 @@ module _ (p : Plan) (l : LawfulPlan p) where
       let a = length-append second (ruleWords k) in
       omega (arith, length-second, length-padTo ruleWordCount (second ++ ruleWords k) (omega (arith, length-second, l .ruleCount)), l .ruleCount)
 
-  pub other-table : (m k : ℤ) → put (ruleUpperAt (length (rulesOf p))) (unsigned m ∷ []) (tableWords (tightened p k)) ≡ tableWords (tightened p m)
+  pub other-table : (m k : ℤ) → put (ruleUpperAt (length (rulesOf p))) (unsigned m ∷ []) (baseWords (tightened p k)) ≡ baseWords (tightened p m)
   other-table m k =
       let e : ruleUpperAt (length (rulesOf p)) ≡ rulesAt + (5 * length (rulesOf p) + 4) = omega arith in
       ap₂ (λ i t. put i (unsigned m ∷ []) t) e (spelt k)
@@ -287,3 +289,10 @@ module _ (p : Plan) (l : LawfulPlan p) where
 
   pub same-terms : (m k : ℤ) → termWords (tightened p k) ≡ termWords (tightened p m)
   same-terms m k = sym (new-terms k) ∙ new-terms m
+
+  -- The order of the terms does not tell the bound.
+  pub same-order : (m k : ℤ) → orderWords (tightened p k) ≡ orderWords (tightened p m)
+  same-order m k = order-same (tightened p k) (tightened p m) (unfold tightened in refl) (terms-told k ∙ sym (terms-told m))
+    where
+      terms-told : (m : ℤ) → map termsOf (tightened p m .clauses) ≡ map termsOf (p .clauses) ++ ((p .objective ∷ []) ∷ [])
+      terms-told m = ap (map termsOf) (clauses-last p m) ∙ map-last termsOf (p .clauses) (boundRule p m ∷ [])

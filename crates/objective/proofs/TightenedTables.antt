@@ -1,14 +1,14 @@
 -- What code writes over the tables of a lawful plan, byte for byte, leaves the tables of that plan with the added clause O ≤ m; and another bound
 -- leaves those with the other bound.
 -- Assumes nothing.
-use Prim.Native.Nat.{ℕ, _+_, _*_, _≤_, _<_}
+use Prim.Native.Nat.{ℕ, _+_, _*_, _-_, _≤_, _<_}
 use native.Mathlib.Omega.{arith}
 use mathlib.Core.Path.{_≡_, sym, ap, ap₂, _∙_}
 use mathlib.Core.List.{List, [], _∷_, _++_}
 use lib.Dec.{T}
 use lib.IntN.{ℤ, natAbs}
-use lib.ListN.{length, getD, take, drop, take-append-drop}
-use lib.Seq.{take-at}
+use lib.ListN.{length, getD, take, drop, take-append-drop, length-append, length-drop}
+use lib.Seq.{take-at, drop-append-add, drop-drop}
 use Rattle.plpb.specs.Plan.{Plan}
 use Rattle.plpb.specs.Search.{tightened}
 use Rattle.plpb.specs.Tallies.{rulesOf}
@@ -17,16 +17,18 @@ use Rattle.words.specs.Writes.{put, putWords}
 use Rattle.words.proofs.Words.{length-wordBytes, words-read}
 use Rattle.words.proofs.Writes.{length-put}
 use Rattle.format.specs.Limits.{termCount, lawful, roomy}
-use Rattle.format.specs.Tables.{termEntries, tableWords, termWords, tableSize, termSize, Holds, objectiveOf, planOfTables}
+use Rattle.format.specs.Tables.{termEntries, baseWords, orderWords, tableWords, termWords, tableSize, termSize, Holds, objectiveOf, planOfTables}
 use Rattle.format.proofs.Lawful.{LawfulPlan, RoomyPlan, plan-parts, roomy-parts, roomy-whole, room-for, lawful-roomy}
-use Rattle.format.proofs.ReadBack.{read-back}
-use Rattle.format.proofs.Sections.{length-tableWords, length-termWords, length-termEntries}
+use Rattle.format.proofs.ReadBack.{read-back, holds-base}
+use Rattle.format.proofs.Sections.{length-baseWords, length-tableWords, length-termWords, length-termEntries}
 use Rattle.format.proofs.WordBounds.{table-below}
+use Rattle.arrange.specs.Arranging.{Based}
+use Rattle.arrange.proofs.Bases.{plan-here}
 use Rattle.objective.specs.Added.{addedEntries, rebound, Boundable}
 use Rattle.costs.proofs.Costs.{table-room, term-room, variables-in, objective-in, objective-short}
-use Rattle.objective.proofs.Parts.{put-table}
-use Rattle.objective.proofs.Tightened.{room-tightened, clauseWords, ruleWords, countWords, new-table, new-terms, rule-count, other-table, same-terms}
-use Rattle.format.specs.Layout.{clausesAt, lastUpperAt, ruleRoom, ruleUpperAt, rulesAt, tableWordCount, termWordCount}
+use Rattle.objective.proofs.Parts.{put-inside, put-table}
+use Rattle.objective.proofs.Tightened.{room-tightened, clauseWords, ruleWords, countWords, new-table, new-terms, rule-count, other-table, same-order, same-terms}
+use Rattle.format.specs.Layout.{baseSize, baseWordCount, clausesAt, lastUpperAt, ruleRoom, ruleUpperAt, rulesAt, tableWordCount, termWordCount}
 
 -- ---- a table that holds a plan's words
 
@@ -40,15 +42,15 @@ module _ (q : Plan) (l : RoomyPlan q) (tables : List ℕ) (h : take tableSize ta
       words-read (tableWords q) tables i (table-below q l) (rw n h) (omega arith)
 
   pub clauses-in : wordAt tables 1 ≡ length (q .clauses)
-  unfolding tableWords
+  unfolding tableWords baseWords
   clauses-in = word-in 1 (omega arith)
 
   pub rules-in : wordAt tables 2 ≡ length (rulesOf q)
-  unfolding tableWords
+  unfolding tableWords baseWords
   rules-in = word-in 2 (omega arith)
 
   pub terms-in : wordAt tables 3 ≡ termCount q
-  unfolding tableWords
+  unfolding tableWords baseWords
   terms-in = word-in 3 (omega arith)
 
 -- Tables with the words of a plan and a rest hold that plan.
@@ -76,27 +78,27 @@ module _ (p : Plan) (t : T (lawful p)) (some : 0 < length (p .objective)) (m : �
   pub roomy-tightened : T (roomy (tightened p m))
   roomy-tightened = roomy-whole (tightened p m) (room-tightened p (plan-parts p t) some m within)
 
-module _ (p : Plan) (t : T (lawful p)) (tables : List ℕ) (h : take tableSize tables ≡ wordBytes (tableWords p)) where
+module _ (p : Plan) (t : T (lawful p)) (tables : List ℕ) (h : take tableSize tables ≡ wordBytes (tableWords p)) (base : take baseSize tables ≡ wordBytes (baseWords p)) where
   lp : LawfulPlan p
   lp = plan-parts p t
 
   rp : RoomyPlan p
   rp = room-for p lp
 
-  pub added-table : (m : ℤ) → addedEntries (length (p .objective)) (unsigned m) tables ≡ wordBytes (tableWords (tightened p m)) ++ drop tableSize tables
+  pub added-table : (m : ℤ) → addedEntries (length (p .objective)) (unsigned m) tables ≡ wordBytes (baseWords (tightened p m)) ++ drop baseSize tables
   unfolding addedEntries
   added-table m =
-      let rest = drop tableSize tables in
-      let w = tableWords p in
+      let rest = drop baseSize tables in
+      let w = baseWords p in
       let c = clausesAt + 2 * length (p .clauses) in
       let r = rulesAt + 5 * length (rulesOf p) in
-      let n : length w ≡ tableWordCount = length-tableWords p rp in
+      let n : length w ≡ baseWordCount = length-baseWords p rp in
       let a : c + 2 ≤ length w = omega (arith, lp .clauseCount) in
       let na : length (put c (clauseWords p lp) w) ≡ length w = length-put c (clauseWords p lp) w a in
       let b : r + 5 ≤ length (put c (clauseWords p lp) w) = omega (arith, lp .ruleCount) in
       let nb : length (put r (ruleWords p lp m) (put c (clauseWords p lp) w)) ≡ length (put c (clauseWords p lp) w) = length-put r (ruleWords p lp m) _ b in
       rw (clauses-in p rp tables h, rules-in p rp tables h, terms-in p rp tables h)
-      (ap (λ s. putWords 1 (countWords p lp) (putWords r (ruleWords p lp m) (putWords c (clauseWords p lp) s))) (starts tableSize tables (wordBytes w) h)
+      (ap (λ s. putWords 1 (countWords p lp) (putWords r (ruleWords p lp m) (putWords c (clauseWords p lp) s))) (starts baseSize tables (wordBytes w) base)
       ∙ ap (λ s. putWords 1 (countWords p lp) (putWords r (ruleWords p lp m) s)) (put-table c (clauseWords p lp) w rest a)
       ∙ ap (putWords 1 (countWords p lp)) (put-table r (ruleWords p lp m) _ rest b)
       ∙ put-table 1 (countWords p lp) _ rest (omega arith)
@@ -155,9 +157,10 @@ module _ (tables terms : List ℕ) (b : Boundable tables terms) where
     objectiveHere : objectiveOf (wordAt tables) ≡ plan .objective
     objectiveHere = objective-in plan tables terms (lawful-roomy plan (b .lawful)) (b .holds)
 
-    pub bounded-table : addedEntries count bound tables ≡ wordBytes (tableWords (tightened plan m)) ++ drop tableSize tables
-    bounded-table =
-        ap₂ (λ k u. addedEntries k u tables) (c ∙ ap length objectiveHere) e ∙ added-table plan (b .lawful) tables tableHeld m
+    bounded-base : addedEntries count bound tables ≡ wordBytes (baseWords (tightened plan m)) ++ drop baseSize tables
+    bounded-base =
+        ap₂ (λ k u. addedEntries k u tables) (c ∙ ap length objectiveHere) e
+        ∙ added-table plan (b .lawful) tables tableHeld (holds-base plan (room-for plan (plan-parts plan (b .lawful))) tables terms (b .holds)) m
 
     pub bounded-terms :
         (first : ℕ) → first ≡ wordAt tables 3
@@ -166,6 +169,44 @@ module _ (tables terms : List ℕ) (b : Boundable tables terms) where
         let l = plan-parts plan (b .lawful) in
         ap₂ (λ n ts. putWords (2 * n) (termEntries ts) terms) (f ∙ terms-in plan (room-for plan l) tables tableHeld) objectiveHere
         ∙ added-terms plan (b .lawful) terms termsHeld m
+
+    -- What stands there before the order is built, and what the builder leaves.
+    module _ (within : natAbs m ≤ 1_000_000_000) (first : ℕ) (f : first ≡ wordAt tables 3) {t u : List ℕ} (g : t ≡ addedEntries count bound tables) (h : u ≡ putWords (2 * first) (termEntries (objectiveOf (wordAt tables))) terms) where
+      roomy-here : RoomyPlan (tightened plan m)
+      roomy-here = room-tightened plan (plan-parts plan (b .lawful)) (b .some) m within
+
+      base-here : t ≡ wordBytes (baseWords (tightened plan m)) ++ drop baseSize tables
+      base-here = g ∙ bounded-base
+
+      base-long : length (wordBytes (baseWords (tightened plan m))) ≡ baseSize
+      base-long = omega (arith, length-wordBytes (baseWords (tightened plan m)), length-baseWords (tightened plan m) roomy-here)
+
+      same-size : length t ≡ length tables
+      same-size = ap length base-here ∙ length-append (wordBytes (baseWords (tightened plan m))) (drop baseSize tables) ∙ omega (arith, base-long, length-drop baseSize tables, ready .room)
+
+      based : Based (tightened plan m) t u
+      based = record {
+        room = roomy-whole (tightened plan m) roomy-here;
+        base = ap (take baseSize) base-here ∙ take-at (wordBytes (baseWords (tightened plan m))) (drop baseSize tables) baseSize base-long;
+        body = ap (take termSize) (h ∙ bounded-terms first f) ∙ take-at (wordBytes (termWords (tightened plan m))) (drop termSize terms) termSize (omega (arith, length-wordBytes (termWords (tightened plan m)), length-termWords (tightened plan m) roomy-here));
+        long = rw same-size (ready .room);
+      }
+
+      pub order-ready : Based (planOfTables t u) t u
+      order-ready = rw (plan-here based) based
+
+      past : drop tableSize t ≡ drop tableSize tables
+      past =
+          let n = length (wordBytes (baseWords (tightened plan m))) in
+          let k : tableSize ≡ n + (tableSize - n) = omega (arith, base-long) in
+          let back : baseSize + (tableSize - n) ≡ tableSize = omega (arith, base-long) in
+          ap₂ (λ i s. drop i s) k base-here
+          ∙ drop-append-add (wordBytes (baseWords (tightened plan m))) (drop baseSize tables) (tableSize - n)
+          ∙ drop-drop (tableSize - n) baseSize tables
+          ∙ ap (λ i. drop i tables) back
+
+      pub order-left : {w : List ℕ} → w ≡ wordBytes (tableWords (planOfTables t u)) ++ drop tableSize t → w ≡ wordBytes (tableWords (tightened plan m)) ++ drop tableSize tables
+      order-left {w} q = q ∙ ap₂ (λ r l. wordBytes (tableWords r) ++ l) (plan-here based) past
 
 -- A lawful plan, and tables that hold it.
 module _ (p : Plan) (t : T (lawful p)) (tables terms : List ℕ) (h : Holds p tables terms) where
@@ -194,7 +235,15 @@ rebound-table p t some k within tables h m =
     let e : lastUpperAt (wordAt tables 2) ≡ ruleUpperAt (length (rulesOf p)) = omega arith in
     ap₂ (λ i s. putWords i (unsigned m ∷ []) s) e (starts tableSize tables _ h)
     ∙ put-table (ruleUpperAt (length (rulesOf p))) (unsigned m ∷ []) (tableWords (tightened p k)) (drop tableSize tables) (omega (arith, l .ruleCount))
-    ∙ ap (λ ws. wordBytes ws ++ drop tableSize tables) (other-table p l m k)
+    ∙ ap (λ ws. wordBytes ws ++ drop tableSize tables) whole
+  where
+    whole : put (ruleUpperAt (length (rulesOf p))) (unsigned m ∷ []) (tableWords (tightened p k)) ≡ tableWords (tightened p m)
+    whole =
+        let l = plan-parts p t in
+        let size = length-baseWords (tightened p k) (room-tightened p l some k within) in
+        unfold tableWords in
+        put-inside (ruleUpperAt (length (rulesOf p))) (unsigned m ∷ []) (baseWords (tightened p k)) (orderWords (tightened p k)) (omega (arith, size, l .ruleCount))
+        ∙ ap₂ _++_ (other-table p l m k) (same-order p l m k)
 
 -- Tables that hold a plan with an added clause hold it with the other bound afterwards.
 module _ (p : Plan) (t : T (lawful p)) (some : 0 < length (p .objective)) (k m : ℤ) (within : natAbs k ≤ 1_000_000_000) (within′ : natAbs m ≤ 1_000_000_000)

@@ -1,9 +1,10 @@
 -- The added last clause, as words written over the tables.
 -- Assumes nothing.
-use Prim.Native.Nat.{ℕ, _+_, _*_}
+use Prim.Native.Nat.{ℕ, _+_, _*_, _<_}
 use mathlib.Core.List.{List, [], _∷_}
 use lib.Dec.{T}
 use lib.IntN.{ℤ}
+use lib.ListN.{length}
 use Rattle.plpb.specs.Plan.{Term}
 use Rattle.words.specs.Words.{wordAt, signed, unsigned}
 use Rattle.words.specs.Writes.{putWords}
@@ -26,7 +27,8 @@ addedEntries count bound s =
 unfoldable pub rebound : ℤ → List ℕ → List ℕ
 rebound m s = putWords (lastUpperAt (wordAt s 2)) (unsigned m ∷ []) s
 
--- Tables of a lawful plan: they have room for the clause.
+-- Tables of a lawful plan, whose objective has a term, as a rule must: they have room for the clause.
 pub record Boundable (tables terms : List ℕ) : Type 0 where
   pub lawful : T (lawful (planOfTables tables terms))
   pub holds : Holds (planOfTables tables terms) tables terms
+  pub some : 0 < length (planOfTables tables terms .objective)

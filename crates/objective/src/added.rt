@@ -11,6 +11,7 @@ ghost use Rattle.format.specs.Limits.{maxBound, maxVariables};
 ghost use Rattle.format.specs.Tables.{termEntries, objectiveOf, planOfTables, tableWords, termWords, tableSize, termSize};
 ghost use Rattle.objective.specs.Added.{termsAbove, addedEntries, rebound, Boundable};
 ghost use Rattle.format.specs.Layout.{clauseFirstAt, clauseRoom, clausesByte, ruleFirstAt, ruleRoom, termRoom};
+use arrange::derive;
 use words::narrow;
 use words::write_two;
 use words::write_word;
@@ -99,7 +100,8 @@ fn add_entries(tables: &mut [u8], count: usize, bound: u32)
     write_counts(tables, clauses + 1, rules + 1, first + count);
 }
 
-// Adds the last clause O ≤ m to the tables of a lawful plan. A search adds it only where the objective has a term: without one every cost is l(O).
+// Adds the last clause O ≤ m to the tables of a lawful plan, and its terms to the order. A search adds it only where the objective has a term: without one
+// every cost is l(O).
 pub fn add_bound(tables: &mut [u8], terms: &mut [u8], m: i64)
     requires { ⌜ Boundable (now tables) (now terms) × (natAbs m ≤ maxBound) ⌝ }
     ensures { λ _. ⌜ now (tables .exit)
@@ -110,6 +112,7 @@ pub fn add_bound(tables: &mut [u8], terms: &mut [u8], m: i64)
     let first = words::index(tables, 3);
     let end = add_terms(tables, terms, first);
     add_entries(tables, end - first, bound_word(m));
+    derive(tables, terms);
 }
 
 // Another bound in the clause that was added.

@@ -8,7 +8,7 @@ use lib.ListN.{length}
 use mir.Facts.{toZ-ofZ}
 use Rattle.words.specs.Words.{wordAt, unsigned}
 use Rattle.format.specs.Tables.{objectiveOf}
-use Rattle.objective.proofs.TightenedTables.{ready, bounded-table, bounded-terms}
+use Rattle.objective.proofs.TightenedTables.{ready, bounded-terms, order-ready, order-left}
 use Rattle.objective.proofs.added.add_bound.Statement.{statement}
 use Rattle.objective.proofs.added.add_bound.Tie as tie
 
@@ -27,9 +27,22 @@ add-entries-requires c κs =
     (r .room, r .clauses, r .rules, r .count, omega (arith, r .few, c .before .before .before .before .add-terms .ensures .1))
 
 -- The places behind each call, the last one first.
+derive-requires : tie.Need-derive-requires
+derive-requires c κs =
+    let entries = c .before .before .before .before in
+    let word = entries .before in
+    let terms = word .before .before .before .before in
+    let first = terms .before .before .before in
+    let start = first .before .before .before .before in
+    let e : terms .add-terms .result - first .index .result ≡ length (objectiveOf (wordAt (start .args .tables .now))) =
+    omega (arith, terms .add-terms .ensures .1) in
+    let u = word .bound-word .ensures ∙ ap unsigned (toZ-ofZ (start .fits .m)) in
+    order-ready _ _ (start .pre .0) (start .args .m) _ _ e u (start .pre .1) (first .index .result) (first .index .ensures) (entries .add-entries .ensures) (terms .add-terms .ensures .0)
+
 returns : tie.Need-returns
 returns c =
-    let entries = c .before .before in
+    let order = c .before .before in
+    let entries = order .before .before .before .before .before in
     let word = entries .before in
     let terms = word .before .before .before .before in
     let first = terms .before .before .before in
@@ -37,7 +50,7 @@ returns c =
     let e : terms .add-terms .result - first .index .result ≡ length (objectiveOf (wordAt (start .args .tables .now))) =
     omega (arith, terms .add-terms .ensures .1) in
     let u = word .bound-word .ensures ∙ ap unsigned (toZ-ofZ (start .fits .m)) in (
-      entries .add-entries .ensures ∙ bounded-table _ _ (start .pre .0) (start .args .m) _ _ e u,
+      order-left _ _ (start .pre .0) (start .args .m) _ _ e u (start .pre .1) (first .index .result) (first .index .ensures) (entries .add-entries .ensures) (terms .add-terms .ensures .0) (order .derive .ensures),
       terms .add-terms .ensures .0 ∙ bounded-terms _ _ (start .pre .0) (start .args .m) _ _ e u (first .index .result) (first .index .ensures),
     )
 
@@ -50,6 +63,7 @@ add-bound-spec =
     (λ c. search needs)
     (λ c κs. search needs)
     add-entries-requires
+    derive-requires
     (λ c. search needs)
     (λ c. search needs)
     returns)
