@@ -1,10 +1,10 @@
 -- Laws of 'and' and of tests as types: each holds by the cases of its first argument.
 use Prim.Native.Nat.{ℕ}
 use mathlib.Core.Path.{_≡_, refl, sym, ap}
-use mathlib.Core.Bool.{Bool, true, false, cond}
+use mathlib.Core.Bool.{Bool, true, false, cond, _&&_, _||_}
 use native.Mathlib.Omega.{arith}
 use lib.Dec.{T}
-use Rattle.plpb.specs.Lists.{_and_}
+use Rattle.plpb.specs.Lists.{_and_, _or_}
 
 pub T-true : (b : Bool) → T b → b ≡ true
 T-true true t = refl
@@ -52,3 +52,14 @@ pub same-test : (a b : Bool) → (a ≡ true → b ≡ true) → (b ≡ true →
 same-test true b p q = sym (p refl)
 same-test false true p q = q refl
 same-test false false p q = refl
+
+-- The code's 'and' and 'or' are the definitions'.
+pub both : (a b : Bool) → (a && b) ≡ (a and b)
+unfolding _and_
+both true b = refl
+both false b = refl
+
+pub either : (a b : Bool) → (a || b) ≡ (a or b)
+unfolding _or_
+either true b = refl
+either false b = refl

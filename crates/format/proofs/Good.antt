@@ -2,6 +2,7 @@
 use Prim.Native.Nat.{ℕ, zero, suc, _+_, _-_, _<_, _≤_}
 use mathlib.Core.Path.{_≡_, refl, sym}
 use mathlib.Core.Bool.{Bool, true, false}
+use mathlib.Core.List.{List}
 use mathlib.Core.Logic.{⊎-elim}
 use native.Mathlib.Nat.{zero-add, add-zero, suc-add, eq-or-lt-of-le}
 use native.Mathlib.Numerals.{add-one}
@@ -9,8 +10,10 @@ use native.Mathlib.Omega.{arith}
 use lib.Dec.{eqb}
 use borrow.Author.Tests.{eqb-true, eq-eqb}
 use Rattle.plpb.specs.Lists.{_and_}
+use Rattle.words.specs.Words.{wordAt}
+use Rattle.words.specs.Tests.{Decides, ZeroWords}
 use Rattle.format.specs.Good.{everyFrom, zerosFrom, linkGood, chainFrom}
-use Rattle.format.proofs.Bools.{and-first, and-stop, and-assoc, and-left, and-right, and-join}
+use Rattle.format.proofs.Bools.{and-first, and-stop, and-assoc, and-left, and-right, and-join, same-test}
 
 -- Two forms of the same: k places and one more, as definitions recurse; up to e, as code counts.
 pub left-of : (i e : ℕ) → i < e → e - i ≡ suc (e - (i + 1))
@@ -80,3 +83,12 @@ module _ (first count : ℕ → ℕ) (e : ℕ) where
 
   pub chain-fail : (at i m : ℕ) → i < m → linkGood first count e at i ≡ false → chainFrom first count e at i (m - i) ≡ false
   chain-fail at i m h t = rw (left-of i m h, chain-stop at i (m - (i + 1)) t)
+
+-- Zero words: what the code's test of them decides.
+pub zeros-are : (s : List ℕ) (from end : ℕ) (b : Bool) → Decides b (ZeroWords s from end) → b ≡ zerosFrom (wordAt s) from (end - from)
+zeros-are s from end b d =
+    same-test b _ (λ t. zeros-all (wordAt s) from (end - from) (λ j l u. d .so t j l (omega arith))) (λ t. so b refl t)
+  where
+    so : (c : Bool) → b ≡ c → zerosFrom (wordAt s) from (end - from) ≡ true → c ≡ true
+    so true e t = refl
+    so false e t = absurd (d .not-so e (λ j l u. zeros-at (wordAt s) from (end - from) t j l (omega arith)))

@@ -15,13 +15,13 @@ use Rattle.plpb.specs.Normal.{isNegative}
 use Rattle.plpb.specs.Tallies.{rulesOf}
 use Rattle.order.specs.Order.{Place, noRule, noTerm, ruleAt, termAt, firstRule, isPlace, namesAt, spelled, hasSeveral, placeWord, wordPlace}
 use Rattle.order.specs.Mentions.{termsBefore}
-use Rattle.order.proofs.Runs.{first-next, first-within, Named, named-of, named-below}
+use Rattle.order.proofs.Runs.{first-next, first-within, Named, named-of, named-below, place-named}
 use Rattle.order.proofs.Words.{Small, place-back}
 use Rattle.words.specs.Words.{signed}
 use Rattle.format.specs.Layout.{clauseCountAt, clauseFirstAt, clausesAt, ruleCountAt, ruleFirstAt}
 use Rattle.format.specs.Tables.{clauseEntries, ruleEntries, termOf, ruleOf, clauseOf}
-use Rattle.format.specs.Good.{termHere, placeGood, entryGood}
-use Rattle.format.proofs.Bools.{true-T, and-left, and-right, and-join}
+use Rattle.format.specs.Good.{termHere, placeGood, wordGood, entryGood}
+use Rattle.format.proofs.Bools.{T-true, true-T, and-left, and-right, and-join}
 use Rattle.format.proofs.Lists.{length-spread}
 use Rattle.format.proofs.Lawful.{RoomyPlan}
 use Rattle.format.proofs.Spells.{Spells, spells-at}
@@ -107,63 +107,67 @@ module _ (p : Plan) (l : RoomyPlan p) (f g : ℕ → ℕ) (s : Sections p f g) w
 
   -- ---- a place
 
-  -- What the test of a place says,
-  pub place-names : (x v : ℕ) (q : Place) → placeGood f g x v q ≡ true → (v ≤ q .rule) × T (namesAt p x q)
-  unfolding placeGood namesAt isPlace termOf
-  place-names x v q t =
-      let a = and-left _ _ t in
-      let b = and-left _ _ a in
-      let c = and-left _ _ b in
+  -- What the test of a place says, and what makes it so.
+  pub place-there : (q : Place) → placeGood f q ≡ true → T (isPlace p q)
+  unfolding placeGood isPlace
+  place-there q t =
+      let c = and-left _ _ t in
       let d = and-left _ _ c in
       let there : q .clause < length (p .clauses) = omega (arith, ltb-true (q .clause) (f 1) (and-left _ _ d), s .clauseCount) in
       let first : firstRule (p .clauses) (q .clause) ≤ q .rule = omega (arith, leb-true (f (clauseFirstAt (q .clause))) (q .rule) (and-right _ _ d), clause-first (q .clause) there) in
       let last : q .rule < firstRule (p .clauses) (suc (q .clause)) = omega (arith, ltb-true (q .rule) (f (clauseFirstAt (q .clause)) + f (clauseCountAt (q .clause))) (and-right _ _ c), clause-end (q .clause) there) in
       let below : q .rule < length (rulesOf p) = unfold rulesOf in omega (arith, last, first-within (p .clauses) (suc (q .clause))) in
-      let size = ltb-true (q .term) (f (ruleCountAt (q .rule))) (and-right _ _ b) in (
-        leb-true v (q .rule) (and-right _ _ t),
-        true-T _
-            (and-join _ _ (and-join _ _ (and-join _ _ (and-join _ _ (lt-ltb _ _ there) (le-leb _ _ first)) (lt-ltb _ _ last)) (lt-ltb (q .term) (length (ruleAt p (q .rule) .terms)) (omega (arith, size, rule-size (q .rule) below))))
-            (eq-eqb (termAt p q .variable) x (ap (λ u. u .variable) (term-is q below size) ∙ eqb-true _ _ (and-right _ _ a)))),
-      )
+      let size = ltb-true (q .term) (f (ruleCountAt (q .rule))) (and-right _ _ t) in
+      true-T _ (and-join _ _ (and-join _ _ (and-join _ _ (lt-ltb _ _ there) (le-leb _ _ first)) (lt-ltb _ _ last)) (lt-ltb (q .term) (length (ruleAt p (q .rule) .terms)) (omega (arith, size, rule-size (q .rule) below))))
 
-  -- and what makes it so.
-  pub names-good : (x v : ℕ) (q : Place) → v ≤ q .rule → T (namesAt p x q) → placeGood f g x v q ≡ true
-  unfolding placeGood termOf
-  names-good x v q low t =
-      let n = named-of p x q t in
-      let below = named-below p x q n in
-      let size : q .term < f (ruleCountAt (q .rule)) = omega (arith, n .term-there, rule-size (q .rule) below) in
-      and-join _ _
-      (and-join _ _
-      (and-join _ _
-      (and-join _ _
-      (and-join _ _ (lt-ltb (q .clause) (f 1) (omega (arith, n .clause-there, s .clauseCount)))
-      (le-leb (f (clauseFirstAt (q .clause))) (q .rule) (omega (arith, n .first, clause-first (q .clause) (n .clause-there)))))
-      (lt-ltb (q .rule) (f (clauseFirstAt (q .clause)) + f (clauseCountAt (q .clause))) (omega (arith, n .last, clause-end (q .clause) (n .clause-there)))))
-      (lt-ltb (q .term) (f (ruleCountAt (q .rule))) size))
-      (eq-eqb (g (2 * termHere f q)) x (sym (ap (λ u. u .variable) (term-is q below size)) ∙ n .named)))
-      (le-leb v (q .rule) low)
+  module _ (x : ℕ) (q : Place) (n : Named p x q) where
+    below : q .rule < length (rulesOf p)
+    below = named-below p x q n
 
-  -- The word of a place, as the tables say it.
-  pub place-spelt : (x : ℕ) (q : Place) → Named p x q → spelled (ltb 1 (f (clauseCountAt (q .clause)))) q (isNegative (signed (g (2 * termHere f q + 1)))) ≡ placeWord p q
-  unfolding placeWord hasSeveral termOf
-  place-spelt x q n =
-      let below = named-below p x q n in
-      ap₂ (λ k u. spelled (ltb 1 k) q (isNegative (u .weight))) (clause-size (q .clause) (n .clause-there))
-      (sym (term-is q below (omega (arith, n .term-there, rule-size (q .rule) below))))
+    size : q .term < f (ruleCountAt (q .rule))
+    size = omega (arith, n .term-there, rule-size (q .rule) below)
+
+    pub there-good : placeGood f q ≡ true
+    unfolding placeGood
+    there-good =
+        and-join _ _
+        (and-join _ _
+        (and-join _ _ (lt-ltb (q .clause) (f 1) (omega (arith, n .clause-there, s .clauseCount)))
+        (le-leb (f (clauseFirstAt (q .clause))) (q .rule) (omega (arith, n .first, clause-first (q .clause) (n .clause-there)))))
+        (lt-ltb (q .rule) (f (clauseFirstAt (q .clause)) + f (clauseCountAt (q .clause))) (omega (arith, n .last, clause-end (q .clause) (n .clause-there)))))
+        (lt-ltb (q .term) (f (ruleCountAt (q .rule))) size)
+
+    -- The term there, and the word, as the tables say them.
+    pub name-spelt : g (2 * termHere f q) ≡ x
+    unfolding termOf
+    name-spelt = sym (ap (λ u. u .variable) (term-is q below size)) ∙ n .named
+
+    pub place-spelt : spelled (ltb 1 (f (clauseCountAt (q .clause)))) q (isNegative (signed (g (2 * termHere f q + 1)))) ≡ placeWord p q
+    unfolding placeWord hasSeveral termOf
+    place-spelt = ap₂ (λ k u. spelled (ltb 1 k) q (isNegative (u .weight))) (clause-size (q .clause) (n .clause-there)) (sym (term-is q below size))
 
   -- A word that passes the test is that of its place, which names x; and the words of such places pass.
   pub entry-names : (x v w : ℕ) → entryGood f g x v w ≡ true → (v ≤ wordPlace w .rule) × T (namesAt p x (wordPlace w)) × (w ≡ placeWord p (wordPlace w))
-  unfolding entryGood
+  unfolding entryGood wordGood namesAt
   entry-names x v w t =
-      let (low, names) = place-names x v (wordPlace w) (and-left _ _ t) in
-      (low, names, eqb-true _ _ (and-right _ _ t) ∙ place-spelt x (wordPlace w) (named-of p x (wordPlace w) names))
+      let q = wordPlace w in
+      let there = place-there q (and-left _ _ t) in
+      let n = place-named p q there in
+      let word = and-right _ _ t in
+      let named : termAt p q .variable ≡ x = sym (name-spelt (termAt p q .variable) q n) ∙ eqb-true (g (2 * termHere f q)) x (and-left _ _ (and-left _ _ word)) in (
+        leb-true v (q .rule) (and-right _ _ (and-left _ _ word)),
+        true-T _ (and-join _ _ (T-true _ there) (eq-eqb (termAt p q .variable) x named)),
+        eqb-true _ _ (and-right _ _ word) ∙ place-spelt (termAt p q .variable) q n,
+      )
 
   pub names-entry : (x v : ℕ) (q : Place) → Small q → v ≤ q .rule → T (namesAt p x q) → entryGood f g x v (placeWord p q) ≡ true
   names-entry x v q small low t =
-      subst (λ w. entryGood f g x v w ≡ true) (place-spelt x q (named-of p x q t)) (spelt (ltb 1 (f (clauseCountAt (q .clause)))) (isNegative (signed (g (2 * termHere f q + 1)))) refl refl)
+      subst (λ w. entryGood f g x v w ≡ true) (place-spelt x q n) (spelt (ltb 1 (f (clauseCountAt (q .clause)))) (isNegative (signed (g (2 * termHere f q + 1)))) refl refl)
     where
-      spelt : (b n : Bool) → ltb 1 (f (clauseCountAt (q .clause))) ≡ b → isNegative (signed (g (2 * termHere f q + 1))) ≡ n → entryGood f g x v (spelled b q n) ≡ true
-      spelt b n d e =
-          let back = place-back b q n small in
-          unfold entryGood in rw back (and-join _ _ (names-good x v q low t) (eq-eqb (spelled b q n) (spelled (ltb 1 (f (clauseCountAt (q .clause)))) q (isNegative (signed (g (2 * termHere f q + 1))))) (ap₂ (λ m o. spelled m q o) (sym d) (sym e))))
+      n : Named p x q
+      n = named-of p x q t
+
+      spelt : (b m : Bool) → ltb 1 (f (clauseCountAt (q .clause))) ≡ b → isNegative (signed (g (2 * termHere f q + 1))) ≡ m → entryGood f g x v (spelled b q m) ≡ true
+      spelt b m d e =
+          let back = place-back b q m small in
+          unfold entryGood wordGood in rw back (and-join _ _ (there-good x q n) (and-join _ _ (and-join _ _ (eq-eqb (g (2 * termHere f q)) x (name-spelt x q n)) (le-leb v (q .rule) low)) (eq-eqb (spelled b q m) (spelled (ltb 1 (f (clauseCountAt (q .clause)))) q (isNegative (signed (g (2 * termHere f q + 1))))) (ap₂ (λ k o. spelled k q o) (sym d) (sym e)))))

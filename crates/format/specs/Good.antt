@@ -80,27 +80,26 @@ baseGood f g =
     countsGood f and objectiveGood f and clausesGood f and rulesGood f and everyFrom (ruleGood f g) 0 (f 2)
     and zerosFrom g (2 * f 3) (termWordCount - 2 * f 3) and locksGood f
 
--- The term that a place of the order says, counted among all terms.
-abbrev pub termHere : (ℕ → ℕ) → Place → ℕ
-termHere f q = f (ruleFirstAt (q .rule)) + q .term
-
--- A place in the run of x, where rules from v on may stand: its clause is there, its rule is one of the clause's and its term one of the rule's, and the
--- term names x.
-unfoldable pub placeGood : (ℕ → ℕ) → (ℕ → ℕ) → ℕ → ℕ → Place → Bool
-placeGood f g x v q =
+-- A place that there is: its clause is one of the table's, its rule one of the clause's, its term one of the rule's.
+unfoldable pub placeGood : (ℕ → ℕ) → Place → Bool
+placeGood f q =
     ltb (q .clause) (f 1)
     and leb (f (clauseFirstAt (q .clause))) (q .rule)
     and ltb (q .rule) (f (clauseFirstAt (q .clause)) + f (clauseCountAt (q .clause)))
     and ltb (q .term) (f (ruleCountAt (q .rule)))
-    and eqb (g (2 * termHere f q)) x
-    and leb v (q .rule)
 
--- .. and its word is spelled as that place is.
-unfoldable pub entryGood : (ℕ → ℕ) → (ℕ → ℕ) → ℕ → ℕ → ℕ → Bool
-entryGood f g x v w =
-    let q = wordPlace w in
-    placeGood f g x v q
+-- The term at a place, counted among all terms.
+abbrev pub termHere : (ℕ → ℕ) → Place → ℕ
+termHere f q = f (ruleFirstAt (q .rule)) + q .term
+
+-- The word of a place in the run of x, where rules from v on may stand: the term there names x, and the word is spelled as that place is.
+unfoldable pub wordGood : (ℕ → ℕ) → (ℕ → ℕ) → ℕ → ℕ → ℕ → Place → Bool
+wordGood f g x v w q =
+    eqb (g (2 * termHere f q)) x and leb v (q .rule)
     and eqb w (spelled (ltb 1 (f (clauseCountAt (q .clause)))) q (isNegative (signed (g (2 * termHere f q + 1)))))
+
+unfoldable pub entryGood : (ℕ → ℕ) → (ℕ → ℕ) → ℕ → ℕ → ℕ → Bool
+entryGood f g x v w = placeGood f (wordPlace w) and wordGood f g x v w (wordPlace w)
 
 -- Entries j in number from entry k on, of which the rules rise strictly from v on.
 unfoldable pub entriesFrom : (ℕ → ℕ) → (ℕ → ℕ) → ℕ → ℕ → ℕ → ℕ → Bool

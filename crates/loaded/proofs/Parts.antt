@@ -7,7 +7,7 @@ use lib.Dec.{leb}
 use borrow.Author.Tests.{leb-true, not-true, not-false}
 use Rattle.plpb.specs.Lists.{_and_}
 use Rattle.format.proofs.Bools.{and-left, and-right, and-first, and-assoc}
-use Rattle.format.specs.Good.{everyFrom, zerosFrom, countsGood, objectiveGood, locksGood, clausesGood, rulesGood, ruleGood, goodBy}
+use Rattle.format.specs.Good.{everyFrom, zerosFrom, countsGood, objectiveGood, locksGood, clausesGood, rulesGood, ruleGood, baseGood}
 use Rattle.format.specs.Layout.{termWordCount}
 
 -- The chain of the rules and the test of each are one loop, with the zero words behind.
@@ -45,14 +45,14 @@ module _
         termsFit = leb-true _ _ (and-right _ _ a);
       }
 
-  pub counts-refused : not b ≡ true → false ≡ goodBy f g
-  unfolding goodBy _and_
+  pub counts-refused : not b ≡ true → false ≡ baseGood f g
+  unfolding baseGood _and_
   counts-refused n = rw (sym counts-read ∙ not-true b n)
 
   -- The parts joined, where the counts are good.
   pub parts-whole :
       not b ≡ false → {o k u z l : Bool} → o ≡ objectiveGood f → k ≡ clausesGood f → u ≡ (rulesGood f and everyFrom (ruleGood f g) 0 r)
-      → z ≡ zerosFrom g (2 * t) (termWordCount - 2 * t) → l ≡ locksGood f → (o and k and u and z and l) ≡ goodBy f g
-  unfolding goodBy
+      → z ≡ zerosFrom g (2 * t) (termWordCount - 2 * t) → l ≡ locksGood f → (o and k and u and z and l) ≡ baseGood f g
+  unfolding baseGood
   parts-whole n eo ek eu ez el =
       rw (sym counts-read ∙ not-false b n, and-first true (objectiveGood f) refl, eo, ek, eu, ez, el, p₂, p₃, ← and-assoc)

@@ -2,30 +2,16 @@
 -- Assumes nothing.
 use Prim.Native.Nat.{ℕ, suc, _+_, _*_, _-_, _<_, _≤_}
 use mathlib.Core.Path.{_≡_, refl, sym, _∙_}
-use mathlib.Core.List.{List}
-use mathlib.Core.Bool.{Bool, true, false, not, _&&_, _||_}
+use mathlib.Core.Bool.{Bool, true, false, not}
 use native.Mathlib.Numerals.{add-one}
 use native.Mathlib.Omega.{arith}
 use lib.Dec.{eqb, leb}
 use borrow.Author.Tests.{not-true, not-false}
-use Rattle.plpb.specs.Lists.{_and_, _or_}
-use Rattle.words.specs.Words.{wordAt}
-use Rattle.words.specs.Tests.{Decides, ZeroWords}
-use Rattle.format.proofs.Bools.{and-assoc, same-test}
-use Rattle.format.specs.Good.{everyFrom, zerosFrom, linkGood, chainFrom, termGood, termsFrom}
-use Rattle.format.proofs.Good.{left-of, zeros-at, zeros-all, chain-step, chain-fail, chain-end}
+use Rattle.plpb.specs.Lists.{_and_}
+use Rattle.format.proofs.Bools.{and-assoc}
+use Rattle.format.specs.Good.{everyFrom, linkGood, chainFrom, termGood, termsFrom}
+use Rattle.format.proofs.Good.{left-of, chain-step, chain-fail, chain-end}
 use Rattle.format.proofs.Chains.{link-parts}
-
--- The code's 'and' and 'or' are the definitions'.
-pub both : (a b : Bool) → (a && b) ≡ (a and b)
-unfolding _and_
-both true b = refl
-both false b = refl
-
-pub either : (a b : Bool) → (a || b) ≡ (a or b)
-unfolding _or_
-either true b = refl
-either false b = refl
 
 and-true : (b : Bool) → (b and true) ≡ b
 unfolding _and_
@@ -41,15 +27,6 @@ module _ (p : ℕ → Bool) (b : Bool) (i e : ℕ) where
   pub every-done : e ≤ i → (b and everyFrom p i (e - i)) ≡ b
   unfolding everyFrom
   every-done h = let z : e - i ≡ 0 = omega arith in rw z (and-true b)
-
--- Zero words: what the code's test of them decides.
-pub zeros-are : (s : List ℕ) (from end : ℕ) (b : Bool) → Decides b (ZeroWords s from end) → b ≡ zerosFrom (wordAt s) from (end - from)
-zeros-are s from end b d =
-    same-test b _ (λ t. zeros-all (wordAt s) from (end - from) (λ j l u. d .so t j l (omega arith))) (λ t. so b refl t)
-  where
-    so : (c : Bool) → b ≡ c → zerosFrom (wordAt s) from (end - from) ≡ true → c ≡ true
-    so true e t = refl
-    so false e t = absurd (d .not-so e (λ j l u. zeros-at (wordAt s) from (end - from) t j l (omega arith)))
 
 -- Terms.
 module _ (g : ℕ → ℕ) (n : ℕ) (b : Bool) (v i e : ℕ) where

@@ -1,5 +1,5 @@
 // The test of tables: refusal 22 is for "tables that no accepted loading leaves". One pass over both tables, each loop one piece of the
-// definition `goodBy`. Good tables are the rule and are read whole in any case, so a loop that only compares words does not stop at the
+// definition `goodBy`; the order has its own (crate ordered). Good tables are the rule and are read whole in any case, so a loop that only compares words does not stop at the
 // first fault: without a way out it takes 16 bytes at a time.
 ghost use mathlib.Core.Path.{_≡_};
 ghost use Prim.Native.Nat.{_+_, _*_, _-_, _≤_};
@@ -13,9 +13,10 @@ ghost use Rattle.format.specs.Layout.{tableSize, termSize, locksAt, clauseFirst
 ghost use Rattle.format.specs.File.{boundsLawful};
 ghost use Rattle.format.specs.Tables.{isLoaded};
 ghost use Rattle.format.specs.Good.{everyFrom, chainFrom, termsFrom, coefficientGood, objectiveGood, lockGood, locksGood};
-ghost use Rattle.format.specs.Good.{clausesGood, rulesGood, ruleGood, goodBy};
+ghost use Rattle.format.specs.Good.{clausesGood, rulesGood, ruleGood, baseGood};
 use format::CLAUSE_COUNT;
 use format::CLAUSES;
+use format::ENDS;
 use format::LOCKS;
 use format::MAX_CLAUSES;
 use format::MAX_RULES;
@@ -28,10 +29,10 @@ use format::RULE_MODE;
 use format::RULE_UPPER;
 use format::RULES;
 use format::RULES_END;
-use format::TABLE_WORDS;
 use format::TABLES;
 use format::TERM_WORDS;
 use format::TERMS;
+use ordered::order_good;
 use words::index;
 use words::magnitude;
 use words::to_signed;
@@ -239,14 +240,14 @@ fn locks_good(tables: &[u8], variables: usize) -> bool
     requires { ⌜ tableSize ≤ length (now tables) ⌝ }
     ensures { λ r. ⌜ r ≡ locksGood (wordAt (now (tables .entry))) ⌝ }
 {
-    locks(tables, variables) & zeros(tables, RULES_END + variables, TABLE_WORDS)
+    locks(tables, variables) & zeros(tables, RULES_END + variables, ENDS)
 }
 
-// Tables of full size.
-fn full_good(tables: &[u8], terms: &[u8]) -> bool
+// The base of tables of full size, and the terms.
+fn base_good(tables: &[u8], terms: &[u8]) -> bool
     requires { ⌜ tableSize ≤ length (now tables) ⌝ }
     requires { ⌜ termSize ≤ length (now terms) ⌝ }
-    ensures { λ r. ⌜ r ≡ goodBy (wordAt (now (tables .entry))) (wordAt (now (terms .entry))) ⌝ }
+    ensures { λ r. ⌜ r ≡ baseGood (wordAt (now (tables .entry))) (wordAt (now (terms .entry))) ⌝ }
 {
     let variables = index(tables, 0);
     let clauses = index(tables, 1);
@@ -272,7 +273,10 @@ pub fn good(tables: &[u8], terms: &[u8]) -> bool
     if terms.len() < TERMS {
         return false;
     }
-    full_good(tables, terms)
+    if !base_good(tables, terms) {
+        return false;
+    }
+    order_good(tables, terms)
 }
 // 1
 // 2

@@ -25,7 +25,7 @@ pub fn bit(b: bool) -> u32
 }
 
 // Writes one word of the tallies.
-fn put(tallies: &mut [u8], i: usize, v: u32)
+pub fn put(tallies: &mut [u8], i: usize, v: u32)
     requires { ⌜ (i < tallyWordCount) × (tallySize ≤ length (now tallies)) ⌝ }
     ensures { λ _. ⌜ Wrote i v (now (tallies .entry)) (now (tallies .exit)) ⌝ }
 {

@@ -4,7 +4,7 @@ use borrow.Author.Needs.{needs}
 use Rattle.loaded.proofs.bounds_good.Statement.{statement}
 use Rattle.loaded.proofs.bounds_good.Tie as tie
 use Rattle.format.specs.File.{boundsLawful}
-use Rattle.loaded.proofs.Turns.{both, either}
+use Rattle.format.proofs.Bools.{both, either}
 
 returns : tie.Need-returns
 unfolding boundsLawful

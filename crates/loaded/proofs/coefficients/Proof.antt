@@ -11,7 +11,8 @@ use Rattle.plpb.specs.Lists.{_and_}
 use Rattle.words.specs.Words.{wordAt}
 use Rattle.format.proofs.Bools.{and-first}
 use Rattle.format.specs.Good.{everyFrom, coefficientGood}
-use Rattle.loaded.proofs.Turns.{both, every-turn, every-done}
+use Rattle.format.proofs.Bools.{both}
+use Rattle.loaded.proofs.Turns.{every-turn, every-done}
 
 abbrev Inv-loop : tie.InvT-loop
 Inv-loop tables variables all₀ x₀ all x =

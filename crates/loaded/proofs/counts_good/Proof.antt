@@ -2,7 +2,7 @@
 -- Assumes nothing.
 use Rattle.loaded.proofs.counts_good.Statement.{statement}
 use Rattle.loaded.proofs.counts_good.Tie as tie
-use Rattle.loaded.proofs.Turns.{both}
+use Rattle.format.proofs.Bools.{both}
 
 returns : tie.Need-returns
 returns c = simp both

@@ -7,14 +7,15 @@ use Prim.Native.Nat.{_+_, _-_}
 use mathlib.Core.Path.{_≡_}
 use native.Mathlib.Omega.{arith}
 use Rattle.format.specs.Good.{locksGood}
-use Rattle.loaded.proofs.Turns.{zeros-are, both}
-use Rattle.format.specs.Layout.{locksAt, tableWordCount}
+use Rattle.format.proofs.Bools.{both}
+use Rattle.format.proofs.Good.{zeros-are}
+use Rattle.format.specs.Layout.{baseWordCount, locksAt}
 
 returns : tie.Need-returns
 unfolding locksGood
 returns c =
     let s = c .before .before .before in
-    let n : tableWordCount - (locksAt + s .args .variables) ≡ 512 - s .args .variables = omega arith in
+    let n : baseWordCount - (locksAt + s .args .variables) ≡ 512 - s .args .variables = omega arith in
     cc (both (c .before .locks .result) (c .zeros .result), zeros-are _ _ _ _ (c .zeros .ensures))
 
 pub locks-good-spec : {M : Type 1} → statement M

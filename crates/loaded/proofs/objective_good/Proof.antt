@@ -7,7 +7,8 @@ use Prim.Native.Nat.{_+_, _-_}
 use mathlib.Core.Path.{_≡_}
 use native.Mathlib.Omega.{arith}
 use Rattle.format.specs.Good.{objectiveGood}
-use Rattle.loaded.proofs.Turns.{zeros-are, both}
+use Rattle.format.proofs.Bools.{both}
+use Rattle.format.proofs.Good.{zeros-are}
 use Rattle.format.specs.Layout.{clausesAt}
 
 returns : tie.Need-returns

@@ -8,7 +8,7 @@ use mathlib.Core.Path.{_≡_}
 use native.Mathlib.Omega.{arith}
 use Rattle.words.specs.Words.{wordAt}
 use Rattle.format.specs.Good.{ruleGood}
-use Rattle.loaded.proofs.Turns.{both}
+use Rattle.format.proofs.Bools.{both}
 use Rattle.format.specs.Layout.{ruleCountAt}
 
 returns : tie.Need-returns

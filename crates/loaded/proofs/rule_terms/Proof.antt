@@ -11,7 +11,8 @@ use Rattle.plpb.specs.Lists.{_and_}
 use Rattle.words.specs.Words.{wordAt}
 use Rattle.format.proofs.Bools.{and-first}
 use Rattle.format.specs.Good.{termGood, termsFrom}
-use Rattle.loaded.proofs.Turns.{both, terms-turn, terms-done}
+use Rattle.format.proofs.Bools.{both}
+use Rattle.loaded.proofs.Turns.{terms-turn, terms-done}
 
 abbrev Inv-loop : tie.InvT-loop
 Inv-loop terms variables from to all₀ above₀ i₀ all above i =

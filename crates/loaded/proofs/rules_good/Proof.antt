@@ -7,7 +7,8 @@ use Prim.Native.Nat.{_*_, _-_}
 use mathlib.Core.Path.{_≡_}
 use native.Mathlib.Omega.{arith}
 use Rattle.format.specs.Good.{rulesGood}
-use Rattle.loaded.proofs.Turns.{zeros-are, both}
+use Rattle.format.proofs.Bools.{both}
+use Rattle.format.proofs.Good.{zeros-are}
 use Rattle.loaded.proofs.Parts.{rules-last}
 use Rattle.format.specs.Layout.{locksAt, ruleFirstAt, ruleWordCount}
 

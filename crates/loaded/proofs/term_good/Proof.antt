@@ -3,7 +3,7 @@
 use borrow.Author.Needs.{needs}
 use Rattle.loaded.proofs.term_good.Statement.{statement}
 use Rattle.loaded.proofs.term_good.Tie as tie
-use Rattle.loaded.proofs.Turns.{both}
+use Rattle.format.proofs.Bools.{both}
 
 returns : tie.Need-returns
 returns c = simp (both, c .weight-good .ensures)

@@ -4,7 +4,7 @@ use borrow.Author.Needs.{needs}
 use Rattle.loaded.proofs.weight_good.Statement.{statement}
 use Rattle.loaded.proofs.weight_good.Tie as tie
 use Rattle.format.specs.Limits.{weightLawful}
-use Rattle.loaded.proofs.Turns.{both}
+use Rattle.format.proofs.Bools.{both}
 
 returns : tie.Need-returns
 unfolding weightLawful

@@ -1,11 +1,12 @@
--- `loaded::full_good` meets its contract: the parts of the test, one after another. The counts come first, since they bound the loops.
+-- `loaded::base_good` meets its contract: the parts of the test, one after another. The counts come first, since they bound the loops.
 -- Assumes nothing.
 use borrow.Author.Needs.{needs}
-use Rattle.loaded.proofs.full_good.Statement.{statement}
-use Rattle.loaded.proofs.full_good.Tie as tie
+use Rattle.loaded.proofs.base_good.Statement.{statement}
+use Rattle.loaded.proofs.base_good.Tie as tie
 use native.Mathlib.Omega.{arith}
 use Rattle.words.specs.Words.{wordAt}
-use Rattle.loaded.proofs.Turns.{zeros-are, both}
+use Rattle.format.proofs.Bools.{both}
+use Rattle.format.proofs.Good.{zeros-are}
 use Rattle.loaded.proofs.Parts.{Limited, limited, counts-refused, parts-whole}
 
 returns : tie.Need-returns
@@ -72,8 +73,8 @@ returns-2 c =
     (c .before .before .before .clauses-good .ensures) (c .before .before .rules-good .ensures) (zeros-are _ _ _ _ (c .before .zeros .ensures))
     (c .locks-good .ensures))
 
-pub full-good-spec : {M : Type 1} → statement M
-full-good-spec =
+pub base-good-spec : {M : Type 1} → statement M
+base-good-spec =
     tie.close
     (tie.spec
     (λ c κs. search needs)

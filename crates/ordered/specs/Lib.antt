@@ -1,0 +1,2 @@
+-- What the test of the order needs.
+pub mod Ready
