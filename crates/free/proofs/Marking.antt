@@ -22,7 +22,8 @@ use Rattle.rules.specs.Terms.{termsAt, TermReadable, Readable}
 use Rattle.rules.proofs.Terms.{term-readable, termLegal, lawful-legal, legal-low, legal-high}
 use Rattle.rules.proofs.Tables.{rule-terms}
 use Rattle.recount.specs.Core.{Laid, Ready}
-use Rattle.recount.proofs.Laid.{getD-row, parts, tables-long, variables-word, clauses-word, clause-here, rule-ready}
+use Rattle.format.proofs.Placed.{getD-row}
+use Rattle.recount.proofs.Laid.{parts, tables-long, variables-word, clauses-word, clause-here, rule-ready}
 use Rattle.recount.proofs.Along.{along-start, along-step, along-end}
 use Rattle.free.specs.Marks.{markTerms, markRules, clauseMarks, Markable}
 use Rattle.format.specs.Layout.{clauseCountAt, clauseFirstAt, ruleCountAt, ruleFirstAt}

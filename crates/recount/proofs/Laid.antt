@@ -4,62 +4,34 @@ use Prim.Native.Nat.{ℕ, zero, suc, _+_, _*_, _≤_, _<_}
 use native.Mathlib.Nat.{zero-add, add-zero, add-suc, suc-add}
 use native.Mathlib.Omega.{arith}
 use mathlib.Core.Path.{_≡_, refl, sym, ap, _∙_}
-use mathlib.Core.Bool.{Bool}
-use mathlib.Core.List.{List, [], _∷_, _++_, map}
+use mathlib.Core.List.{List, [], _∷_}
 use lib.Dec.{T}
-use lib.ListN.{length, getD, take, length-take, length-append}
-use Rattle.plpb.specs.Lists.{all, concat, row, sumBy}
-use Rattle.plpb.specs.Plan.{Rule, Clause, Plan, rising, numbersRise}
+use lib.ListN.{length, getD, length-take}
+use Rattle.plpb.specs.Lists.{sumBy}
+use Rattle.plpb.specs.Plan.{Rule, Plan, numbersRise}
 use Rattle.plpb.specs.Tallies.{rulesOf}
-use Rattle.plpb.proofs.Lists.{and-left, and-right, and-both, all-at, all-concat}
+use Rattle.plpb.proofs.Lists.{all-at}
 use Rattle.order.specs.Order.{firstRule}
-use Rattle.order.proofs.Runs.{first-all, first-next, first-within}
+use Rattle.order.proofs.Runs.{first-all, first-within}
 use Rattle.words.specs.Words.{wordAt}
 use Rattle.words.proofs.Words.{length-wordBytes}
 use Rattle.format.specs.Limits.{ruleLawful, termCount}
-use Rattle.format.specs.Tables.{clauseEntries, ruleEntries, tableWords, termWords, Holds, ruleOf, clauseOf, planIn, planOfTables}
+use Rattle.format.specs.Tables.{ruleEntries, tableWords, termWords, Holds, ruleOf, clauseOf, planIn, planOfTables}
 use Rattle.format.proofs.Bools.{true-T}
 use Rattle.format.proofs.Lawful.{RoomyPlan, roomy-parts}
+use Rattle.format.proofs.Naming.{numbers-rise}
+use Rattle.format.proofs.Placed.{clause-is, clause-first, clause-end}
 use Rattle.format.proofs.Spells.{Spells, spells-at}
 use Rattle.format.proofs.Sections.{Sections, length-tableWords, length-termWords}
 use Rattle.format.proofs.Entries.{entry-here, entries-behind}
 use Rattle.format.proofs.ReadBack.{rules-spelt, holds-sections}
 use Rattle.rules.specs.Rules.{RuleInside, RuleReadable}
-use Rattle.rules.proofs.Tables.{rule-rises, table-rule-readable}
+use Rattle.rules.proofs.Tables.{table-rule-readable}
 use Rattle.recount.specs.Core.{Laid, Ready, RunReadable}
 use Rattle.tallies.proofs.Exact.{rules-lawful}
-use Rattle.format.specs.Layout.{clauseCountAt, clauseFirstAt, clauseRoom, clausesAt, ruleCountAt, ruleFirstAt, ruleRoom, tableSize, termSize}
-
--- ---- lists
-
-pub getD-row : {A : Type 0} (h : ℕ → A) (i k j : ℕ) (d : A) → j < k → getD (map h (row i k)) j d ≡ h (i + j)
-unfolding row
-getD-row h i zero j d l = absurd (omega arith)
-getD-row h i (suc k) zero d l = rw (add-zero i) refl
-getD-row h i (suc k) (suc j) d l = rw (add-suc i j, ← suc-add i j) (getD-row h (suc i) k j d (omega arith))
-
--- What follows of each follows of all.
-all-follow : {A : Type 0} (p q : A → Bool) → ((x : A) → T (p x) → T (q x)) → (xs : List A) → T (all p xs) → T (all q xs)
-unfolding all
-all-follow p q h [] t = tt
-all-follow p q h (x ∷ xs) t = and-both _ _ (h x (and-left _ _ t)) (all-follow p q h xs (and-right _ _ t))
+use Rattle.format.specs.Layout.{clauseCountAt, clauseFirstAt, clauseRoom, ruleCountAt, ruleFirstAt, ruleRoom, tableSize, termSize}
 
 -- ---- entries
-
--- A clause's entry says where its rules begin and how many they are.
-clause-entry :
-    (f : ℕ → ℕ) (i first : ℕ) (cs : List Clause) → Spells f (clauseFirstAt i) (clauseEntries first cs) → (c : ℕ) → c < length cs
-    → (f (clauseFirstAt (i + c)) ≡ first + firstRule cs c) × (f (clauseCountAt (i + c)) ≡ length (getD cs c []))
-unfolding Spells clauseEntries firstRule concat
-clause-entry f i first [] s c h = absurd (omega arith)
-clause-entry f i first (q ∷ cs) s zero h =
-    let a : clauseCountAt i ≡ suc (clauseFirstAt i) = omega arith in
-    (rw (add-zero i, add-zero first) (s .0), rw (add-zero i, a) (s .1 .0))
-clause-entry f i first (q ∷ cs) s (suc c) h =
-    let b : clausesAt + 2 * suc i ≡ suc (suc (clauseFirstAt i)) = omega arith in
-    let ih = clause-entry f (suc i) (first + length q) cs (rw b (s .1 .1)) c (omega arith) in
-    let sum : first + length (q ++ concat (take c cs)) ≡ first + length q + length (concat (take c cs)) = rw (length-append q (concat (take c cs))) (omega arith) in
-    (rw (add-suc i c, ← suc-add i c, sum) (ih .0), rw (add-suc i c, ← suc-add i c) (ih .1))
 
 -- A rule's terms end where all terms do or before.
 rule-end :
@@ -114,8 +86,7 @@ module _ (tables terms : List ℕ) (l : Laid tables terms) where
 
   -- The clauses and the rules as they are read.
   pub clause-here : (c : ℕ) → c < wordAt tables 1 → getD (planOfTables tables terms .clauses) c [] ≡ clauseOf (wordAt tables) (wordAt terms) c
-  unfolding planOfTables planIn
-  clause-here c h = getD-row (clauseOf (wordAt tables) (wordAt terms)) 0 (wordAt tables 1) c [] h ∙ ap (clauseOf (wordAt tables) (wordAt terms)) (zero-add c)
+  clause-here c h = clause-is here parts (wordAt tables) (wordAt terms) sections c (omega (arith, clauses-word))
 
   pub rule-here : (r : ℕ) (d : Rule) → r < wordAt tables 2 → getD (rulesOf (planOfTables tables terms)) r d ≡ ruleOf (wordAt tables) (wordAt terms) r
   rule-here r d h =
@@ -124,13 +95,10 @@ module _ (tables terms : List ℕ) (l : Laid tables terms) where
   -- The rules of a clause begin where those of the one before it end.
   module _ (c : ℕ) (h : c < wordAt tables 1) where
     pub first-rule : wordAt tables (clauseFirstAt c) ≡ firstRule (planOfTables tables terms .clauses) c
-    first-rule =
-        rw (zero-add, zero-add) at (clause-entry (wordAt tables) 0 0 (here .clauses) (sections .clauseEntry) c (omega (arith, clauses-word)) .0)
+    first-rule = clause-first here parts (wordAt tables) (wordAt terms) sections c (omega (arith, clauses-word))
 
     pub next-rule : firstRule (planOfTables tables terms .clauses) (suc c) ≡ wordAt tables (clauseFirstAt c) + wordAt tables (clauseCountAt c)
-    next-rule =
-        let n = rw zero-add at (clause-entry (wordAt tables) 0 0 (here .clauses) (sections .clauseEntry) c (omega (arith, clauses-word)) .1) in
-        omega (arith, first-next (here .clauses) c (omega (arith, clauses-word)), first-rule, n)
+    next-rule = sym (clause-end here parts (wordAt tables) (wordAt terms) sections c (omega (arith, clauses-word)))
 
     pub rules-inside : wordAt tables (clauseFirstAt c) + wordAt tables (clauseCountAt c) ≤ wordAt tables 2
     unfolding rulesOf
@@ -166,10 +134,7 @@ module _ (tables terms : List ℕ) (l : Laid tables terms) where
 
   -- Variable numbers rise in every rule.
   pub rises : T (numbersRise (planOfTables tables terms))
-  unfolding numbersRise
-  rises =
-      rw (← all-concat (λ r. rising (r .terms)) (here .clauses))
-      (all-follow (ruleLawful (here .variables)) (λ r. rising (r .terms)) (rule-rises (here .variables)) (concat (here .clauses)) (unfold rulesOf in true-T _ (rules-lawful here parts)))
+  rises = numbers-rise here parts
 
 pub rule-ready : (tables terms assignment : List ℕ) → Ready tables terms assignment → (r : ℕ) → r < wordAt tables 2 → RuleReadable tables terms assignment (ruleFirstAt r)
 rule-ready tables terms assignment y r h =

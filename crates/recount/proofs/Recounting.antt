@@ -12,7 +12,7 @@ use mathlib.Core.List.{List, _++_, map}
 use lib.Dec.{eqb}
 use lib.ListN.{length, drop, take-append-drop}
 use Rattle.plpb.specs.Lists.{count, row}
-use Rattle.plpb.specs.Plan.{Plan, Assignment, ruleHolds, clauseHolds, namedIn, names}
+use Rattle.plpb.specs.Plan.{Plan, Assignment, ruleHolds, clauseHolds}
 use Rattle.plpb.specs.Normal.{P}
 use Rattle.plpb.specs.Tallies.{rulesOf, unsatisfied, freshCount}
 use Rattle.plpb.proofs.Lists.{count-nil, count-cons, none-by-count}
@@ -32,9 +32,8 @@ use Rattle.recount.specs.Core.{Laid, Wrote, Kept, Right, RuleCounted, Cl
 use Rattle.recount.proofs.Along.{along-step, along-end}
 use Rattle.tallies.proofs.TallyBytes.{roomy-fits}
 use Rattle.tallies.proofs.Tallied.{rule-word, clause-word, total-word, unused-rule, unused-clause, words-fresh}
-use Rattle.recount.proofs.Laid.{rules-word, clauses-word, rules-few, clauses-few, rule-here, clause-here, first-rule, next-rule, last-rule, rules-inside}
+use Rattle.recount.proofs.Laid.{rules-word, clauses-word, rule-here, clause-here, first-rule, next-rule, last-rule}
 use Rattle.recount.proofs.Keeping.{kept-none, kept-more, wrote-kept}
-use Rattle.recount.proofs.Unnamed.{rule-unconcerned, clause-unconcerned, rule-of-clause}
 use Rattle.format.specs.Layout.{clauseCountAt, clauseFirstAt, holdingAt, ruleFirstAt, ruleRoom, tallyWordCount, unsatisfiedAt}
 
 -- ---- the words of rules and clauses as they are read
@@ -56,14 +55,6 @@ module _ (tables terms : List ℕ) (l : Laid tables terms) (a : Assignment) wher
 module _ (tables terms bits : List ℕ) (r y : ℕ) (h : r < wordAt tables 2) {s : State} (k : StateOf (bitsIn bits) y (ruleAt (wordAt tables) (wordAt terms) (ruleFirstAt r)) s) where
   state-here : StateOf (bitsIn bits) y (ruleOf (wordAt tables) (wordAt terms) r) s
   state-here = rw (rule-at (wordAt tables) (wordAt terms) r) at k
-
-  -- Where the rule does not name the variable the word is right already.
-  pub rule-spared : (tallies : List ℕ) (x : ℕ) (every : Bool) → Countable tables terms bits tallies x every → every ≡ false → namedIn x (ruleOf (wordAt tables) (wordAt terms) r .terms) ≡ false → wordAt tallies r ≡ s .p
-  rule-spared tallies x every n e u =
-      let l = n .ready .laid in
-      n .spare e r (omega (arith, rules-few tables terms l)) (rule-unconcerned tables terms l x r h u)
-      ∙ word-of-rule tables terms l (bitsIn bits) r h
-      ∙ sym (state-here .trues)
 
   pub rule-counted : Laid tables terms → (b : Bool) (t u : List ℕ) → b ≡ holdsIn s → Wrote r (s .p) t u → RuleCounted tables terms bits r b t u
   rule-counted l b t u e w =
@@ -144,21 +135,8 @@ module _ (tables terms bits : List ℕ) (c : ℕ) where
           kept = kept-more _ s₀ s t (d .kept) k;
         }
 
-pub still-countable : (tables terms bits s t : List ℕ) (x : ℕ) (every : Bool) → Countable tables terms bits s x every → Kept (tallyWord (planOfTables tables terms) (bitsIn bits)) s t → Countable tables terms bits t x every
-still-countable tables terms bits s t x every n k =
-    record { ready = n .ready; room = rw (k .size) (n .room); spare = λ e i h u. k .right i (n .spare e i h u) }
-
--- A clause that does not name the variable is right already.
-pub clause-spared : (tables terms bits s : List ℕ) (c x : ℕ) (every : Bool) → Countable tables terms bits s x every → c < wordAt tables 1 → every ≡ false → names (clauseOf (wordAt tables) (wordAt terms) c) x ≡ false → ClauseCounted tables terms bits c s s
-clause-spared tables terms bits s c x every n h e u =
-    let l = n .ready .laid in
-    record {
-      weights = λ i m k.
-          n .spare e i (omega (arith, rules-inside tables terms l c h, rules-few tables terms l))
-          (rule-unconcerned tables terms l x i (omega (arith, rules-inside tables terms l c h)) (rule-of-clause (wordAt tables) (wordAt terms) x c u i m k));
-      holding = n .spare e (holdingAt c) (omega (arith, clauses-few tables terms l)) (clause-unconcerned tables terms l x c h u);
-      kept = kept-none _ s;
-    }
+pub still-countable : (tables terms bits s t : List ℕ) → Countable tables terms bits s → Kept (tallyWord (planOfTables tables terms) (bitsIn bits)) s t → Countable tables terms bits t
+still-countable tables terms bits s t n k = record { ready = n .ready; room = rw (k .size) (n .room) }
 
 -- ---- the clauses
 

@@ -3,19 +3,18 @@
 use Prim.Native.Nat.{ℕ, _+_, _*_, _≤_, _<_}
 use mathlib.Core.Path.{_≡_}
 use mathlib.Core.Logic.{_≢_}
-use mathlib.Core.Bool.{Bool, false}
+use mathlib.Core.Bool.{Bool}
 use mathlib.Core.List.{List}
 use lib.Dec.{T}
 use lib.ListN.{length, take, drop}
-use Rattle.plpb.specs.Plan.{Plan, Assignment, ruleHolds}
+use Rattle.plpb.specs.Plan.{Plan, ruleHolds}
 use Rattle.plpb.specs.Tallies.{rulesOf, freshCount}
 use Rattle.words.specs.Words.{wordAt}
 use Rattle.format.specs.Limits.{roomy}
 use Rattle.format.specs.Tables.{Holds, ruleOf, planOfTables}
 use Rattle.rules.specs.Terms.{bitsIn}
 use Rattle.tallies.specs.Layout.{tallySize, bitsOf, areBits, tallyWord, tallyBytes, withTallies}
-use Rattle.tallies.specs.Narrow.{concerns}
-use Rattle.format.specs.Layout.{clauseCountAt, clauseFirstAt, clauseRoom, holdingAt, ruleRoom, tallyWordCount}
+use Rattle.format.specs.Layout.{clauseCountAt, clauseFirstAt, clauseRoom, holdingAt, ruleRoom}
 
 -- Two tables hold the plan that is read back from them, and have room for it.
 pub record Laid (tables terms : List ℕ) : Type 0 where
@@ -67,15 +66,10 @@ pub record ClauseCounted (tables terms bits : List ℕ) (c : ℕ) (s t : List �
   pub holding : wordAt t (holdingAt c) ≡ tallyWord (planOfTables tables terms) (bitsIn bits) (holdingAt c)
   pub kept : Kept (tallyWord (planOfTables tables terms) (bitsIn bits)) s t
 
--- Where not every entry is due, the words that do not concern the variable are right already.
-abbrev pub Spare : Bool → Plan → Assignment → ℕ → List ℕ → Type 0
-Spare every p a x s = every ≡ false → (i : ℕ) → i < tallyWordCount → concerns p x i ≡ false → wordAt s i ≡ tallyWord p a i
-
 -- What a recount needs.
-pub record Countable (tables terms bits tallies : List ℕ) (x : ℕ) (every : Bool) : Type 0 where
+pub record Countable (tables terms bits tallies : List ℕ) : Type 0 where
   pub ready : Ready tables terms bits
   pub room : tallySize ≤ length tallies
-  pub spare : Spare every (planOfTables tables terms) (bitsIn bits) x tallies
 
 -- Unused entries are 0.
 pub record Unused (p : Plan) (s : List ℕ) : Type 0 where

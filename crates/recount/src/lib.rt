@@ -1,5 +1,4 @@
-// Opening and flip without their checks: the tallies counted anew, or what of them concerns a variable.
+// Opening without its checks: the tallies counted anew.
 pub mod clause;
-pub mod flip;
 pub mod open;
 pub mod recount;

@@ -15,5 +15,5 @@ pub fn open_core(tables: &[u8], terms: &[u8], assignment: &[u8], tallies: &mut [
 {
     let n = index(tables, 0);
     clear(&mut tallies[..format::TALLIES]);
-    recount(tables, terms, &assignment[..n], tallies, 0, true);
+    recount(tables, terms, &assignment[..n], tallies);
 }

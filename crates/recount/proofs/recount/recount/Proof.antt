@@ -10,10 +10,10 @@ use Rattle.recount.proofs.recount.recount.Statement.{statement}
 use Rattle.recount.proofs.recount.recount.Tie as tie
 
 abbrev Inv-loop : tie.InvT-loop
-Inv-loop tables terms bits tallies₀ x every clauses unsatisfied₀ c₀ tallies unsatisfied c = ClausesDone tables terms bits tallies₀ unsatisfied c tallies
+Inv-loop tables terms bits tallies₀ clauses unsatisfied₀ c₀ tallies unsatisfied c = ClausesDone tables terms bits tallies₀ unsatisfied c tallies
 
 abbrev μ-loop : tie.MeasureT-loop
-μ-loop tables terms bits tallies₀ x every clauses unsatisfied₀ c₀ tallies unsatisfied c = clauses - c
+μ-loop tables terms bits tallies₀ clauses unsatisfied₀ c₀ tallies unsatisfied c = clauses - c
 
 index-requires : tie.Need-index-requires Inv-loop μ-loop
 index-requires c κs =
@@ -27,7 +27,7 @@ recount-clause-requires : tie.Need-recount-clause-requires Inv-loop μ-loop
 recount-clause-requires c κs =
     let b = c .before .before in
     let at = b .before .before .before .before .before .before in
-    (still-countable _ _ _ _ _ _ _ (at .pre .0) (b .loop .inv .kept), omega (arith, c .before .loop-test .taken, b .before .index .ensures))
+    (still-countable _ _ _ _ _ (at .pre .0) (b .loop .inv .kept), omega (arith, c .before .loop-test .taken, b .before .index .ensures))
 
 add-word : tie.Need-add-word Inv-loop μ-loop
 add-word c =
