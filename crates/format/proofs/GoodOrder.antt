@@ -74,11 +74,21 @@ words-cut p x low high =
     ∙ sym (map-take (placeWord p) (runEnd p x - runEnd p (x - 1)) (drop (runEnd p (x - 1)) (order p)))
     ∙ ap (map (placeWord p)) (run-cut p x low high)
 
-module _ (p : Plan) (l : RoomyPlan p) (f g : ℕ → ℕ) (s : Sections p f g) where
-  word-back : (q : Place) → Small q → wordPlace (placeWord p q) ≡ q
-  unfolding placeWord
-  word-back q small = place-back _ q _ small
+-- The words of a variable's run, where the order stands in the tables.
+pub run-words : (p : Plan) → RoomyPlan p → (f : ℕ → ℕ) → Arranged p f → (x : ℕ) → 1 ≤ x → x ≤ p .variables → Spells f (entryAt (runEnd p (x - 1))) (map (placeWord p) (occurrences p x))
+run-words p l f a x low high =
+    let size = end-next p x low in
+    let most = ends-ordered p x (p .variables) high in
+    let total = last-end p (numbers-within p l) in
+    subst (Spells f (entryAt (runEnd p (x - 1)))) (words-cut p x low high)
+    (spells-cut f orderAt (map (placeWord p) (order p)) (runEnd p (x - 1)) (runEnd p x) (omega (arith, size)) (omega (arith, most, total, length-orderEntries p l)) (a .entries))
 
+-- A place that there is, is that of its word.
+pub word-back : (p : Plan) (q : Place) → Small q → wordPlace (placeWord p q) ≡ q
+unfolding placeWord
+word-back p q small = place-back _ q _ small
+
+module _ (p : Plan) (l : RoomyPlan p) (f g : ℕ → ℕ) (s : Sections p f g) where
   abbrev placeAt : ℕ → Place
   placeAt k = wordPlace (f k)
 
@@ -209,7 +219,7 @@ module _ (p : Plan) (l : RoomyPlan p) (f g : ℕ → ℕ) (s : Sections p f g) w
         let small = place-small p l q (left-of (isPlace p q) _ names) in
         let low = leb-true v (q .rule) (T-true _ (left-of (leb v (q .rule)) _ r)) in
         let next : suc (entryAt k) ≡ entryAt (suc k) = omega arith in
-        let back : wordPlace (f (entryAt k)) ≡ q = ap wordPlace (e .0) ∙ word-back q small in
+        let back : wordPlace (f (entryAt k)) ≡ q = ap wordPlace (e .0) ∙ word-back p q small in
         and-join _ _ (rw (e .0) (names-entry p l f g s x v q small low names))
         (rw back
         (run-entries x (suc (q .rule)) (suc k) qs (subst (λ i. Spells f i (map (placeWord p) qs)) next (e .1)) (right-of (leb v (q .rule)) _ r) (right-of (namesAt p x q) (all (namesAt p x) qs) t)))
@@ -224,7 +234,7 @@ module _ (p : Plan) (l : RoomyPlan p) (f g : ℕ → ℕ) (s : Sections p f g) w
         let most = ends-ordered p x (p .variables) n in
         let total = last-end p (numbers-within p l) in
         let r = occurrences-run p x (numbers-rise p l) in
-        let here = subst (Spells f (entryAt (runEnd p (x - 1)))) (words-cut p x low n) (spells-cut f orderAt (map (placeWord p) (order p)) (runEnd p (x - 1)) (runEnd p x) (omega (arith, size)) (omega (arith, most, total, length-orderEntries p l)) (a .entries)) in
+        let here = run-words p l f a x low n in
         let long : length (occurrences p x) ≡ runEnd p x - runEnd p (x - 1) = omega (arith, size) in
         rw (first, end)
         (and-join _ _ (and-join _ _ (le-leb (runEnd p (x - 1)) (runEnd p x) (omega (arith, size))) (le-leb (runEnd p x) (f 3) (omega (arith, most, total, s .terms))))

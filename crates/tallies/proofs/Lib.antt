@@ -9,3 +9,4 @@ pub mod Steps
 pub mod Narrow
 pub mod Demand3
 pub mod Within
+pub mod Passed

@@ -1,9 +1,9 @@
 -- `turn` meets its contract: 1 less a byte is its opposite, and the byte of variable x stands at place x − 1.
 -- Assumes nothing.
 use borrow.Author.Needs.{needs}
-use Rattle.recount.proofs.Cores.{turned-byte}
-use Rattle.recount.proofs.flip.turn.Statement.{statement}
-use Rattle.recount.proofs.flip.turn.Tie as tie
+use Rattle.flips.proofs.Following.{turned-byte}
+use Rattle.flips.proofs.turn.Statement.{statement}
+use Rattle.flips.proofs.turn.Tie as tie
 
 returns : tie.Need-returns
 returns c = let at = c .before .before .before in turned-byte _ _ _ (at .pre .0) (c .opposite .ensures)
