@@ -2,7 +2,7 @@
 ghost use mathlib.Core.Path.{_≡_};
 ghost use Rattle.tallies.specs.Calls.{flipAssignment, flipRefusal, flipTallies, lent};
 use crate::tests::flip_refusal;
-use recount::flip::flip_core;
+use flips::flip_core;
 
 pub fn flip(tables: &[u8], terms: &[u8], assignment: &mut [u8], tallies: &mut [u8], x: u32) -> u32
     ensures { λ r. ⌜ r ≡ flipRefusal (lent (now (tables .entry)) (now (terms .entry)) (now (assignment .entry)) (now (tallies .entry))) x ⌝ }

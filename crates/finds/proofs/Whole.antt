@@ -34,6 +34,7 @@ use Rattle.format.proofs.ReadBack.{read-back}
 use Rattle.format.proofs.Sections.{length-tableWords, length-termWords}
 use Rattle.costs.specs.Sums.{Summable, costIn, floorIn}
 use Rattle.costs.proofs.Costs.{summable, variables-in, cost-in, floor-in, some-objective}
+use Rattle.objective.specs.Added.{Boundable}
 use Rattle.objective.proofs.TightenedTables.{copied-hold, roomy-tightened, bound-holds}
 use Rattle.tallies.specs.Layout.{assignmentSize, bitsOf, bitBytes, areBits}
 use Rattle.recount.specs.Core.{Laid}
@@ -157,17 +158,23 @@ module _ {tables terms numbers : List ℕ} {used flips : ℕ} {assignment : List
             beyond = record { assignment = refl; tallies = refl; marks = refl };
           }
 
+      -- A find above l(O) shows that the objective has a term, so that the clause can be added.
+      some-term : leZ (toZ w64 (ofZ w64 v)) (toZ w64 (ofZ w64 least)) ≡ false → 0 < length (here .objective)
+      unfolding atFloor _and_
+      some-term t =
+          let high : leZ (cost here find) (floorCost here) ≡ false = sym (ap₂ leZ costs floored) ∙ t in
+          let above : atFloor here find ≡ false = rw high in some-objective here find above
+
+      pub boundable : leZ (toZ w64 (ofZ w64 v)) (toZ w64 (ofZ w64 least)) ≡ false → Boundable tables terms
+      boundable t = record { lawful = h .lawful; holds = h .holds; some = some-term t }
+
       -- Else the clause is added, and the tightening goes on with it.
       module _ (t : leZ (toZ w64 (ofZ w64 v)) (toZ w64 (ofZ w64 least)) ≡ false) (m : ℤ) (within : natAbs m ≤ 1_000_000_000) {tables′ terms′ : List ℕ}
           (e : tables′ ≡ wordBytes (tableWords (tightened (planOfTables tables terms) m)) ++ drop tableSize tables)
           (g : terms′ ≡ wordBytes (termWords (tightened (planOfTables tables terms) m)) ++ drop termSize terms)
         where
-          above : atFloor here find ≡ false
-          unfolding atFloor _and_
-          above = let high : leZ (cost here find) (floorCost here) ≡ false = sym (ap₂ leZ costs floored) ∙ t in rw high
-
           some : 0 < length (here .objective)
-          some = some-objective here find above
+          some = some-term t
 
           bounded : Bounded here tables′ terms′
           bounded =

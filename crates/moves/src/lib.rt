@@ -9,10 +9,10 @@ ghost use Rattle.lending.specs.Work.{work};
 use choice::choose::Chosen;
 use choice::choose::choose;
 use choice::marks::mark_choosable;
+use flips::flip_core;
 use numbers::Picked;
 use numbers::nth_zero;
 use numbers::pick;
-use recount::flip::flip_core;
 use settings::Settings;
 use words::index;
 

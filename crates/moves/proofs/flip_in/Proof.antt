@@ -31,7 +31,7 @@ returns-2 c =
     let h = c .before .before .before .before .before .before .before .before .before .before .before .before in
     let m = h .before .before .before .before .before .before in
     let at = m .before .before .before .before .before .before .before .before in
-    turned-in _ _ _ (at .pre .0) (m .mark-choosable .ensures) _ (h .before .before .before .if1 .left) (h .choose .ensures .0) (c .before .before .before .before .before .before .before .before .v .given .1) (c .before .before .before .before .flip-core .ensures .0) (c .before .before .before .before .flip-core .ensures .1) (h .choose .ensures .1) (c .before .before .before .before .before .before .before .before .before .before .before .marks2 .given ∙ c .before .before .before .before .before .before .before .before .before .before .before .before .before .before .before .before .before .marks .given)
+    turned-in _ _ _ (at .pre .0) (m .mark-choosable .ensures) _ (h .before .before .before .if1 .left) (h .choose .ensures .0) (c .before .before .before .before .before .before .before .before .v .given .1) (c .before .before .before .before .flip-core .ensures .1) (c .before .before .before .before .flip-core .ensures .2) (h .choose .ensures .1) (c .before .before .before .before .before .before .before .before .before .before .before .marks2 .given ∙ c .before .before .before .before .before .before .before .before .before .before .before .before .before .before .before .before .before .marks .given)
 
 returns-3 : tie.Need-returns-3
 returns-3 c =

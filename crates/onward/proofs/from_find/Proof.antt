@@ -5,7 +5,7 @@ use native.Mathlib.Omega.{arith}
 use mathlib.Core.Path.{refl}
 use lib.IntN.{pos}
 use Rattle.settings.specs.Settings.{settingsOf}
-use Rattle.finds.proofs.Whole.{find-summable, find-keepable, from-floor, tighten-ready, from-tightened}
+use Rattle.finds.proofs.Whole.{find-summable, find-keepable, from-floor, boundable, tighten-ready, from-tightened}
 use Rattle.onward.proofs.from_find.Statement.{statement}
 use Rattle.onward.proofs.from_find.Tie as tie
 
@@ -21,6 +21,13 @@ returns c =
     let k = c .before .before .before .before .before .keep-find in
     let f = c .before .floor-cost in
     (from-floor (at .pre) (k .ensures) (f .ensures) (record { sfits = k .ok }) (record { sfits = f .ok }) (settingsOf (at .args .s)) (c .if1 .taken), refl, refl)
+
+add-bound-requires : tie.Need-add-bound-requires
+add-bound-requires c κs =
+    let f = c .before .before .before in
+    let k = f .before .before .before .before in
+    let at = k .before .before .before .before .before .before .before .before .before .before .before in
+    (boundable (at .pre) (k .keep-find .ensures) (f .floor-cost .ensures) (record { sfits = k .keep-find .ok }) (record { sfits = f .floor-cost .ok }) (c .before .before .if1 .left), omega arith)
 
 tighten-requires : tie.Need-tighten-requires
 tighten-requires c κs =
@@ -49,7 +56,7 @@ from-find-spec =
     (λ c. search needs)
     (λ c. search needs)
     returns
-    (λ c κs. search needs)
+    add-bound-requires
     tighten-requires
     (λ c. search needs)
     (λ c. search needs)

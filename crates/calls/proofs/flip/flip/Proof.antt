@@ -34,7 +34,7 @@ returns-2 c =
     let z = sym (c .before .before .before .before .before .before .before .before .flip-refusal .ensures) ∙ c .before .before .before .before .before .before .before .if1 .left in
     let k = flip-accepted _ _ z in
     let f = c .before .before .before .before .flip-core .ensures in
-    (sym z, (f .0 ∙ k .0, f .1 ∙ k .1))
+    (sym z, (f .1 ∙ k .0, f .2 ∙ k .1))
 
 pub flip-spec : {M : Type 1} → statement M
 flip-spec =
