@@ -5,6 +5,7 @@ use native.Mathlib.Omega.{arith}
 use mathlib.Core.Path.{_≡_, refl}
 use mathlib.Core.Bool.{Bool, true, false}
 use Rattle.plpb.specs.Plan.{Plan, Assignment, isVariable, isLocked}
+use Rattle.plpb.specs.Tallies.{rulesNamed}
 use Rattle.plpb.specs.Book.{Call, flipCall, countsCall, refused, accepted, refusal, entry}
 
 pub counts-keep : (p : Plan) (a : Assignment) (x : ℕ) → entry p a (countsCall x) .bits ≡ a
@@ -23,7 +24,7 @@ refused-keeps p a (flipCall x) n h = at (isVariable p x) refl
     locked : (b : Bool) → isVariable p x ≡ true → isLocked p x ≡ b → entry p a (flipCall x) .bits ≡ a
     locked true e k = rw (e, k)
     locked false e k =
-        let taken : accepted ≡ refused n = rw (e, k) at h in
+        let taken : accepted (rulesNamed p x) ≡ refused n = rw (e, k) at h in
         let z : _≡_ {A = ℕ} 0 1 = cc in
         let never : ⊥ = omega arith in
         absurd never

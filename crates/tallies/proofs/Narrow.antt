@@ -24,7 +24,7 @@ use Rattle.words.proofs.Words.{length-bytesOf}
 use Rattle.format.specs.Layout.{clauseRoom, holdingAt, ruleRoom, tallyWordCount, unsatisfiedAt}
 use Rattle.format.proofs.Bools.{and-left, and-right}
 use Rattle.tallies.specs.Layout.{tallySize, tallyWords, tallyBytes, tallyWord}
-use Rattle.tallies.specs.Calls.{Lent, plan, bits, told, flipRefusal, turned, flipAssignment, answer, leftBy}
+use Rattle.tallies.specs.Calls.{Lent, plan, bits, told, flipRefusal, turned, flipAssignment, flipRules, answer, leftBy}
 use Rattle.tallies.specs.Narrow.{rulesNaming, clausesNaming, concerns, isRefused, isFlipOf, Narrow, Step, EveryCall}
 use Rattle.tallies.specs.Demand.{EachStep}
 use Rattle.tallies.proofs.Order.{order-rule, order-clause, order-whole}
@@ -225,14 +225,14 @@ module _ (l : Lent) (x : ℕ) (e : flipRefusal l x ≡ 0) where
       }
 
 -- A call is an accepted flip of a variable where it is a flip of it that is not refused.
-accepted-only : (k : ℕ) → not (isRefused (cond (eqb k 0) accepted (refused k))) ≡ eqb k 0
+accepted-only : (k n : ℕ) → not (isRefused (cond (eqb k 0) (accepted n) (refused k))) ≡ eqb k 0
 unfolding isRefused
-accepted-only zero = refl
-accepted-only (suc k) = rw (eqb·suc-zero k)
+accepted-only zero n = refl
+accepted-only (suc k) n = rw (eqb·suc-zero k)
 
 is-flip : (l : Lent) (x y : ℕ) → isFlipOf x (flipCall y) (answer l (flipCall y)) ≡ (eqb y x and eqb (flipRefusal l y) 0)
 unfolding isFlipOf answer
-is-flip l x y = ap (λ b. eqb y x and b) (accepted-only (flipRefusal l y))
+is-flip l x y = ap (λ b. eqb y x and b) (accepted-only (flipRefusal l y) (flipRules l y))
 
 flip-step : (l : Lent) (x y : ℕ) → isFlipOf x (flipCall y) (answer l (flipCall y)) ≡ true → Narrow (plan l) x l (leftBy l (flipCall y))
 flip-step l x y h =

@@ -14,7 +14,7 @@ use Rattle.plpb.proofs.Flip.{length-flip}
 use Rattle.plpb.proofs.Locks.{variable-range}
 use Rattle.format.specs.Tables.{tableSize, termSize}
 use Rattle.tallies.specs.Layout.{assignmentSize, tallySize, bitsOf, bitBytes, tallyBytes}
-use Rattle.tallies.specs.Calls.{Lent, lent, plan, bits, told, tooSmall, freshBytes, openTallies, callRefusal, flipRefusal, turned, flipAssignment, flipTallies, countsBreak, countsMake, answer, leftBy}
+use Rattle.tallies.specs.Calls.{Lent, lent, plan, bits, told, tooSmall, freshBytes, openTallies, callRefusal, flipRefusal, turned, flipAssignment, flipTallies, flipRules, countsBreak, countsMake, answer, leftBy}
 use Rattle.tallies.specs.Demand.{answers, after, opened}
 use Rattle.tallies.proofs.Bits.{length-bitBytes, bitsOf-bytes, areBits-bytes, turned-bytes, whole-bytes}
 use Rattle.tallies.proofs.TallyBytes.{length-fresh, take-fresh, drop-fresh}
@@ -101,9 +101,9 @@ module _ (l : Lent) (o : Opens l) (b : Assignment) (size : length b ≡ plan l .
       either (isVariable (plan l) x) (λ e. rw e (counts-left (told (plan l) l b) x)) (λ e. rw e (counts-left (told (plan l) l b) x))
 
   pub told-answer : (c : Call) → answer (told (plan l) l b) c ≡ entry (plan l) b c .answer
-  unfolding answer entry refusal countsBreak countsMake
+  unfolding answer entry refusal flipRules countsBreak countsMake
   told-answer (flipCall x) =
-      one-of (plan l) x (λ v k. rw (told-flip-refusal x, v, k)) (λ v k. rw (told-flip-refusal x, v, k)) (λ v. rw (told-flip-refusal x, v))
+      one-of (plan l) x (λ v k. rw (told-flip-refusal x, v, k, told-plan l b)) (λ v k. rw (told-flip-refusal x, v, k)) (λ v. rw (told-flip-refusal x, v))
   told-answer (countsCall x) =
       either (isVariable (plan l) x) (λ e. rw (told-refusal x, e, told-plan l b, told-bits l b size)) (λ e. rw (told-refusal x, e))
 

@@ -12,7 +12,7 @@ use Rattle.plpb.specs.Lists.{_or_, all}
 use Rattle.plpb.specs.Plan.{Assignment, isVariable, isLocked}
 use Rattle.plpb.specs.Expansion.{breakCount, makeCount}
 use Rattle.plpb.specs.Count.{given}
-use Rattle.plpb.specs.Tallies.{freshCount}
+use Rattle.plpb.specs.Tallies.{rulesNamed, freshCount}
 use Rattle.plpb.specs.Book.{flipCall, countsCall, Answer, refused, accepted, counted}
 use Rattle.plpb.proofs.Locks.{variable-range}
 use Rattle.words.specs.Writes.{SameWithin}
@@ -24,7 +24,7 @@ use Rattle.format.proofs.Lawful.{plan-parts}
 use Rattle.format.proofs.Within.{short-within, loaded-within, plan-within}
 use Rattle.format.specs.Assignment.{bitsIn}
 use Rattle.tallies.specs.Layout.{assignmentSize, tallySize, bitsOf, areBits, tallyBytes, withTallies}
-use Rattle.tallies.specs.Calls.{Lent, plan, bits, tooSmall, freshBytes, openRefusal, openTallies, callRefusal, flipRefusal, turned, flipAssignment, flipTallies, countsBreak, countsMake, answer, leftBy}
+use Rattle.tallies.specs.Calls.{Lent, plan, bits, tooSmall, freshBytes, openRefusal, openTallies, callRefusal, flipRefusal, turned, flipAssignment, flipTallies, flipRules, countsBreak, countsMake, answer, leftBy}
 use Rattle.tallies.specs.Demand.{opened}
 use Rattle.tallies.specs.Within.{SameLent, OpensWithin, CallsWithin}
 use Rattle.tallies.proofs.TallyBytes.{take-fresh}
@@ -170,6 +170,15 @@ flips-within l m s x = go (flipRefusal l x) refl
     go zero z = flip-within l m s x z
     go (suc k) z = rw (refused-left l x z, refused-left m x (sym (flip-both l m s x) ∙ z)) s
 
+-- The rules that an accepted flip passed are those of the one plan.
+rules-within : (l m : Lent) → SameLent l m → (x : ℕ) → flipRules l x ≡ flipRules m x
+unfolding flipRules
+rules-within l m s x = go (flipRefusal l x) refl
+  where
+    go : (k : ℕ) → flipRefusal l x ≡ k → flipRules l x ≡ flipRules m x
+    go zero z = rw (z, sym (flip-both l m s x) ∙ z) (ap (λ p. rulesNamed p x) (plan-both l m s (takes l x (flips l x z .0) .opening .loaded)))
+    go (suc k) z = rw (z, sym (flip-both l m s x) ∙ z, eqb·suc-zero k) refl
+
 -- The counts of an accepted call are those of the one plan and the same bits.
 counts-within : (l m : Lent) → SameLent l m → (x : ℕ) → (countsBreak l x ≡ countsBreak m x) × (countsMake l x ≡ countsMake m x)
 unfolding countsBreak countsMake
@@ -185,7 +194,11 @@ counts-within l m s x = go (callRefusal l x) refl
 
 pub calls-within : CallsWithin
 unfolding answer
-calls-within l m (flipCall x) s = (ap (λ k. cond (eqb k 0) accepted (refused k)) (flip-both l m s x), flips-within l m s x)
+calls-within l m (flipCall x) s =
+    (
+      ap₂ (λ (k n : ℕ). cond (eqb k 0) (accepted n) (refused k)) (flip-both l m s x) (rules-within l m s x),
+      flips-within l m s x,
+    )
 calls-within l m (countsCall x) s =
     let n = counts-within l m s x in
     (ap₂ (λ (k : ℕ) (c : Answer). cond (eqb k 0) c (refused k)) (call-both l m s x) (ap₂ counted (n .0) (n .1)), unfold leftBy in s)

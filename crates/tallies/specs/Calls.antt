@@ -10,7 +10,7 @@ use Rattle.plpb.specs.Lists.{_or_}
 use Rattle.plpb.specs.Plan.{Plan, Assignment, isVariable, isLocked}
 use Rattle.plpb.specs.Expansion.{breakCount, makeCount}
 use Rattle.plpb.specs.Count.{Count, given}
-use Rattle.plpb.specs.Tallies.{freshCount}
+use Rattle.plpb.specs.Tallies.{rulesNamed, freshCount}
 use Rattle.plpb.specs.Book.{Call, flipCall, countsCall, Answer, refused, accepted, counted}
 use Rattle.format.specs.File.{refuse}
 use Rattle.format.specs.Tables.{tableSize, termSize, planOfTables, isLoaded, sameBytes}
@@ -82,6 +82,10 @@ flipTallies l x =
     (withTallies (plan l) (bitsOf (plan l .variables) (turned (l .assignment) x)) (l .tallies))
     (l .tallies)
 
+-- "A flip's answer gives the count of rule tallies it rewrote, which equals the number of rules naming the variable" (T-05); 0 with a refusal.
+unfoldable pub flipRules : Lent → ℕ → ℕ
+flipRules l x = cond (eqb (flipRefusal l x) 0) (rulesNamed (plan l) x) 0
+
 -- The counts of expansion clauses that the variable's flip would spoil and mend; 0, uncut, with a refusal.
 unfoldable pub countsBreak : Lent → ℕ → Count
 countsBreak l x = given (cond (eqb (callRefusal l x) 0) (breakCount (plan l) (bits l) x) 0)
@@ -91,7 +95,7 @@ countsMake l x = given (cond (eqb (callRefusal l x) 0) (makeCount (plan l) (bits
 
 -- One call of a list, on what is lent: what it answers.
 unfoldable pub answer : Lent → Call → Answer
-answer l (flipCall x) = cond (eqb (flipRefusal l x) 0) accepted (refused (flipRefusal l x))
+answer l (flipCall x) = cond (eqb (flipRefusal l x) 0) (accepted (flipRules l x)) (refused (flipRefusal l x))
 answer l (countsCall x) = cond (eqb (callRefusal l x) 0) (counted (countsBreak l x) (countsMake l x)) (refused (callRefusal l x))
 
 -- .. and what it leaves: "each handed what the last one left".

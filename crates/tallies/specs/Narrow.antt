@@ -29,7 +29,7 @@ concerns p x word = getD (tallyOrder false (rulesNaming p x) (clausesNaming p x)
 -- "A call not refused is accepted."
 unfoldable pub isRefused : Answer → Bool
 isRefused (refused n) = true
-isRefused accepted = false
+isRefused (accepted n) = false
 isRefused (counted b m) = false
 
 -- Whether a call was an accepted flip of a variable, by its answer.
