@@ -50,7 +50,7 @@ extern "C" {
 
 /* The buffers in bytes (docs/FORMAT.md). None is larger than 64 KiB. Larger ones may be lent: places past these sizes
  * are neither read nor written. */
-#define PLANNER_TABLES_SIZE 28716
+#define PLANNER_TABLES_SIZE 56816
 #define PLANNER_TERMS_SIZE 52096
 #define PLANNER_ASSIGNMENT_SIZE 512
 #define PLANNER_TALLIES_SIZE 6156
@@ -164,6 +164,7 @@ typedef struct {
 
 typedef struct {
     uint32_t refusal;
+    uint32_t rules; /* how many rules name the variable: so many rule tallies were rewritten; 0 with a refusal */
 } planner_flipped;
 
 /* A count that is cut is greater than any that is not, whatever the two numbers; two that are cut count as equal. */
@@ -232,12 +233,12 @@ uint32_t planner_open(const uint8_t *tables, size_t tables_length, const uint8_t
                       const uint8_t *assignment, size_t assignment_length, uint8_t *tallies, size_t tallies_length);
 
 /* Turns one variable over: its assignment byte, and the tallies that concern it. The same flip twice restores every
- * byte.
+ * byte. The answer says how many rules name the variable, at most 1,024: so many rule tallies were rewritten.
  * PLANNER_BUFFER_TOO_SMALL, PLANNER_NOT_LOADED, PLANNER_NOT_BITS, PLANNER_STALE_TALLIES, PLANNER_WRONG_VARIABLE,
  * PLANNER_LOCKED. */
-uint32_t planner_flip(const uint8_t *tables, size_t tables_length, const uint8_t *terms, size_t terms_length,
-                      uint8_t *assignment, size_t assignment_length, uint8_t *tallies, size_t tallies_length,
-                      uint32_t variable);
+planner_flipped planner_flip(const uint8_t *tables, size_t tables_length, const uint8_t *terms, size_t terms_length,
+                             uint8_t *assignment, size_t assignment_length, uint8_t *tallies, size_t tallies_length,
+                             uint32_t variable);
 
 /* The break count and the make count of a variable: how many clauses of the plan's full propositional expansion its
  * flip would spoil and mend. A number greater than 4,294,967,295 is given out as that one, with the mark that it is
@@ -284,7 +285,7 @@ planner_squeezed planner_squeeze(uint8_t *file, size_t file_length, uint8_t *old
 
 /* ---- plan, state and work */
 
-/* A plan as loading leaves it: two buffers, each below 64 KiB; 80,812 bytes in all. To be written by
+/* A plan as loading leaves it: two buffers, each below 64 KiB; 108,912 bytes in all. To be written by
  * planner_plan_load alone. */
 typedef struct {
     uint8_t tables[PLANNER_TABLES_SIZE];
@@ -298,7 +299,7 @@ typedef struct {
     uint8_t tallies[PLANNER_TALLIES_SIZE];
 } planner_state;
 
-/* What a search works in: five buffers, each below 64 KiB; 87,992 bytes in all. Nothing of it is of use after. */
+/* What a search works in: five buffers, each below 64 KiB; 116,092 bytes in all. Nothing of it is of use after. */
 typedef struct {
     uint8_t tables[PLANNER_TABLES_SIZE];
     uint8_t terms[PLANNER_TERMS_SIZE];
@@ -356,9 +357,8 @@ static inline planner_opened planner_state_open(planner_state *state, const plan
 
 /* planner_flip: one variable of an opened state turned over. */
 static inline planner_flipped planner_state_flip(planner_state *state, const planner_plan *plan, uint32_t variable) {
-    planner_flipped flipped = {planner_flip(PLANNER_LEND(plan->tables), PLANNER_LEND(plan->terms),
-                                            PLANNER_LEND(state->assignment), PLANNER_LEND(state->tallies), variable)};
-    return flipped;
+    return planner_flip(PLANNER_LEND(plan->tables), PLANNER_LEND(plan->terms), PLANNER_LEND(state->assignment),
+                        PLANNER_LEND(state->tallies), variable);
 }
 
 /* planner_counts: what that flip would spoil and mend. */
@@ -442,6 +442,7 @@ static inline int planner_state_meets(const planner_state *state, uint32_t claus
 
 PLANNER_GUARD(sizeof(void *) == 8 && sizeof(size_t) == 8);
 PLANNER_GUARD(sizeof(planner_loaded) == 16 && offsetof(planner_loaded, offset) == 8);
+PLANNER_GUARD(sizeof(planner_flipped) == 8 && offsetof(planner_flipped, rules) == 4);
 PLANNER_GUARD(sizeof(planner_counted) == 20 && offsetof(planner_counted, break_cut) == 8);
 PLANNER_GUARD(offsetof(planner_counted, make_count) == 12 && offsetof(planner_counted, make_cut) == 16);
 PLANNER_GUARD(sizeof(planner_searched) == 40 && offsetof(planner_searched, cost) == 8);
@@ -454,7 +455,8 @@ PLANNER_GUARD(sizeof(planner_state) == PLANNER_ASSIGNMENT_SIZE + PLANNER_TALLIES
 PLANNER_GUARD(sizeof(planner_work) == sizeof(planner_plan) + sizeof(planner_state) + PLANNER_MARKS_SIZE);
 PLANNER_GUARD(PLANNER_LOCKS_PLACE ==
               4 * (4 + PLANNER_MOST_VARIABLES + 2 * (PLANNER_MOST_CLAUSES + 1) + 5 * (PLANNER_MOST_RULES + 1)));
-PLANNER_GUARD(PLANNER_TABLES_SIZE == PLANNER_LOCKS_PLACE + 4 * PLANNER_MOST_VARIABLES);
+PLANNER_GUARD(PLANNER_TABLES_SIZE ==
+              PLANNER_LOCKS_PLACE + 4 * (3 * PLANNER_MOST_VARIABLES + 1 + PLANNER_MOST_TERMS));
 PLANNER_GUARD(PLANNER_TERMS_SIZE == 8 * (PLANNER_MOST_TERMS + PLANNER_MOST_VARIABLES));
 PLANNER_GUARD(PLANNER_TALLIES_SIZE == 4 * (PLANNER_MOST_RULES + 1 + PLANNER_MOST_CLAUSES + 1 + 1));
 PLANNER_GUARD(PLANNER_TABLES_SIZE <= 65536 && PLANNER_TERMS_SIZE <= 65536 && PLANNER_TALLIES_SIZE <= 65536);

@@ -10,18 +10,19 @@ use borrow.Author.Tests.{lt-ltb, le-ltb}
 use Rattle.plpb.specs.Lists.{_and_}
 use Rattle.plpb.specs.Plan.{isVariable, isLocked}
 use Rattle.plpb.specs.Expansion.{breakCount, makeCount}
+use Rattle.plpb.specs.Tallies.{rulesNamed}
 use Rattle.plpb.specs.Count.{given, cappedBreak, cappedMake}
 use Rattle.plpb.proofs.Capped.{given-capped}
 use Rattle.counting.specs.Count.{countWords}
 use Rattle.counting.proofs.Marks.{words-uncut}
 use Rattle.words.specs.Words.{wordAt}
 use Rattle.format.specs.File.{refuse}
-use Rattle.format.specs.Tables.{sameBytes}
+use Rattle.format.specs.Tables.{planOfTables, sameBytes}
 use Rattle.format.proofs.IsLoaded.{isLoaded-tables, same-equal}
 use Rattle.format.proofs.Lawful.{plan-parts}
 use Rattle.format.proofs.LockWords.{lock-word, word-locked}
 use Rattle.tallies.specs.Layout.{tallySize, bitsOf}
-use Rattle.tallies.specs.Calls.{Lent, plan, freshBytes, openRefusal, openTallies, callRefusal, flipRefusal, turned, flipAssignment, flipTallies, countsBreak, countsMake}
+use Rattle.tallies.specs.Calls.{Lent, plan, freshBytes, openRefusal, openTallies, callRefusal, flipRefusal, turned, flipAssignment, flipTallies, flipRules, countsBreak, countsMake}
 use Rattle.recount.specs.Core.{Flippable, recounted}
 use Rattle.calls.proofs.Opening.{first-words}
 use Rattle.tallies.proofs.Refusals.{Opens, opens, takes, flips, only-variable, plan-lawful}
@@ -109,16 +110,18 @@ module _ (l : Lent) (x : ℕ) where
   unfolding flipRefusal refuse
   flip-free e h = rw (e, sym (lock-tested e) ∙ le-ltb 0 (wordAt (l .tables) (lockAt x)) h)
 
-  pub flip-refused : (k : ℕ) → k ≡ flipRefusal l x → (k ≡ 0 → ⊥) → (l .assignment ≡ flipAssignment l x) × (l .tallies ≡ flipTallies l x)
-  unfolding flipAssignment flipTallies
+  pub flip-refused : (k : ℕ) → k ≡ flipRefusal l x → (k ≡ 0 → ⊥)
+      → (0 ≡ flipRules l x) × (l .assignment ≡ flipAssignment l x) × (l .tallies ≡ flipTallies l x)
+  unfolding flipRules flipAssignment flipTallies
   flip-refused zero e n = absurd (n refl)
-  flip-refused (suc k) e n = (rw (sym e, eqb·suc-zero k), rw (sym e, eqb·suc-zero k))
+  flip-refused (suc k) e n = (rw (sym e, eqb·suc-zero k), rw (sym e, eqb·suc-zero k), rw (sym e, eqb·suc-zero k))
 
   pub flip-accepted : flipRefusal l x ≡ 0
-      → (turned (l .assignment) x ≡ flipAssignment l x)
+      → (rulesNamed (planOfTables (l .tables) (l .terms)) x ≡ flipRules l x)
+      × (turned (l .assignment) x ≡ flipAssignment l x)
       × (recounted (l .tables) (l .terms) (turned (l .assignment) x) (l .tallies) ≡ flipTallies l x)
-  unfolding flipAssignment flipTallies freshBytes plan
-  flip-accepted e = (rw e, rw e)
+  unfolding flipRules flipAssignment flipTallies freshBytes plan
+  flip-accepted e = (rw e, rw e, rw e)
 
   pub flip-tested : flipRefusal l x ≡ 0 → Flippable (l .tables) (l .terms) (l .assignment) (l .tallies) x
   flip-tested e = flippable (flips l x e .0)

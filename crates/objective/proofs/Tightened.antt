@@ -6,7 +6,7 @@ use native.Mathlib.Nat.{add-zero, zero-add}
 use native.Mathlib.Omega.{arith}
 use mathlib.Core.Path.{_≡_, refl, sym, ap, ap₂, _∙_}
 use mathlib.Core.Bool.{true}
-use mathlib.Core.List.{List, [], _∷_, _++_, map, append-assoc, append-nil}
+use mathlib.Core.List.{List, [], _∷_, _++_, map}
 use lib.IntN.{ℤ, natAbs}
 use lib.ListN.{length, replicate, length-append, length-map}
 use borrow.Author.Tests.{le-leb}
@@ -14,6 +14,7 @@ use Rattle.plpb.specs.Lists.{_and_, _or_, all, concat, sumBy, row}
 use Rattle.plpb.specs.Plan.{absent, present, Rule, Clause, Plan, isVariable, lockOf, rising}
 use Rattle.plpb.specs.Search.{tightened}
 use Rattle.plpb.specs.Tallies.{rulesOf}
+use Rattle.plpb.proofs.Lists.{concat-last}
 use Rattle.order.proofs.Terms.{termsOf}
 use Rattle.words.specs.Words.{unsigned}
 use Rattle.words.specs.Writes.{front, put}
@@ -36,11 +37,6 @@ abbrev pub boundRule : Plan → ℤ → Rule
 boundRule p m = record { lower = absent; upper = present m; terms = p .objective }
 
 -- ---- one more rule, clause and terms
-
-concat-last : {A : Type 0} (xss : List (List A)) (ys : List A) → concat (xss ++ (ys ∷ [])) ≡ concat xss ++ ys
-unfolding concat
-concat-last [] ys = append-nil ys
-concat-last (xs ∷ xss) ys = ap (λ zs. xs ++ zs) (concat-last xss ys) ∙ sym (append-assoc xs (concat xss) ys)
 
 map-last : {A B : Type 0} (f : A → B) (xs : List A) (y : A) → map f (xs ++ (y ∷ [])) ≡ map f xs ++ (f y ∷ [])
 map-last f [] y = refl

@@ -2,7 +2,7 @@
 // Each function promises what the function that it calls promises.
 ghost use mathlib.Core.Path.{_≡_};
 ghost use Rattle.counting.specs.Count.{countWords, markedWords};
-ghost use Rattle.tallies.specs.Calls.{openRefusal, openTallies, callRefusal, flipRefusal, flipAssignment, flipTallies, countsBreak, countsMake, lent};
+ghost use Rattle.tallies.specs.Calls.{openRefusal, openTallies, callRefusal, flipRefusal, flipRules, flipAssignment, flipTallies, countsBreak, countsMake, lent};
 ghost use Rattle.search.specs.Calls.{Searches, HandsOut};
 ghost use Rattle.lending.specs.Lent.{lentAll};
 ghost use Rattle.squeeze.specs.Calls.{Answers, outcome};
@@ -10,6 +10,7 @@ ghost use Rattle.tables.specs.Load.{refusalOf, offsetOf, loading, tablesAfter, 
 use answers::Answer as Searched;
 use calls::counts::Counted;
 use calls::counts::counts;
+use calls::flip::Flipped;
 use calls::flip::flip;
 use calls::open::open;
 use search::search;
@@ -51,8 +52,10 @@ pub extern "C" fn planner_flip(
     assignment: &mut [u8],
     tallies: &mut [u8],
     variable: u32,
-) -> u32
-    ensures { λ r. ⌜ r ≡ flipRefusal (lent (now (tables .entry)) (now (terms .entry)) (now (assignment .entry)) (now (tallies .entry))) variable ⌝ }
+) -> Flipped
+    ensures { λ r. ⌜ r .refusal
+        ≡ flipRefusal (lent (now (tables .entry)) (now (terms .entry)) (now (assignment .entry)) (now (tallies .entry))) variable ⌝ }
+    ensures { λ r. ⌜ r .rules ≡ flipRules (lent (now (tables .entry)) (now (terms .entry)) (now (assignment .entry)) (now (tallies .entry))) variable ⌝ }
     ensures { λ _. ⌜ now (assignment .exit)
         ≡ flipAssignment (lent (now (tables .entry)) (now (terms .entry)) (now (assignment .entry)) (now (tallies .entry))) variable ⌝ }
     ensures { λ _. ⌜ now (tallies .exit)

@@ -5,7 +5,7 @@ use native.Mathlib.Numerals.{one-add}
 use native.Mathlib.Omega.{arith}
 use mathlib.Core.Path.{_≡_, refl, sym, ap, ap₂, _∙_, fun-ext}
 use mathlib.Core.Bool.{Bool, true, false, not, cond}
-use mathlib.Core.List.{List, [], _∷_, _++_, map, reverseAux}
+use mathlib.Core.List.{List, [], _∷_, _++_, map, reverseAux, append-nil, append-assoc}
 use lib.Dec.{T, eqb, eqb·suc-zero, lit≤}
 use lib.ListN.{length, getD, replicate}
 use Rattle.plpb.specs.Lists.{_and_, _or_, keep, count, any, all, sumBy, concat, isEmpty, row}
@@ -256,6 +256,11 @@ module _ {A : Type 0} where
   unfolding all
   all-append p [] ys = sym (true-and (all p ys))
   all-append p (x ∷ xs) ys = ap (λ b. p x and b) (all-append p xs ys) ∙ sym (and-assoc (p x) (all p xs) (all p ys))
+
+  pub concat-last : (xss : List (List A)) (ys : List A) → concat (xss ++ (ys ∷ [])) ≡ concat xss ++ ys
+  unfolding concat
+  concat-last [] ys = append-nil ys
+  concat-last (xs ∷ xss) ys = ap (λ zs. xs ++ zs) (concat-last xss ys) ∙ sym (append-assoc xs (concat xss) ys)
 
   pub all-concat : (p : A → Bool) (xss : List (List A)) → all p (concat xss) ≡ all (all p) xss
   unfolding all concat

@@ -15,7 +15,7 @@ use Rattle.words.specs.Words.{numAt, bytesOf, wordBytes}
 use Rattle.words.specs.Writes.{front, put}
 use Rattle.words.proofs.Words.{length-wordBytes}
 use Rattle.words.proofs.Writes.{put-put, front-none, wordBytes-append}
-use Rattle.tallies.specs.Calls.{Lent, lent, callRefusal, flipRefusal, flipAssignment, flipTallies, countsBreak, countsMake, answer, leftBy}
+use Rattle.tallies.specs.Calls.{Lent, lent, callRefusal, flipRefusal, flipAssignment, flipTallies, flipRules, countsBreak, countsMake, answer, leftBy}
 use Rattle.tallies.specs.Demand.{answers, after}
 use Rattle.replay.specs.Replay.{callOf, callsFrom, callsOf, answerSize, answerWords, answerBytes}
 
@@ -33,26 +33,26 @@ is-counts kind x n = ap (λ (b : Bool). cond b (flipCall x) (countsCall x)) (ne-
 nothing : 0 ∷ 0 ∷ [] ≡ countWords (given 0)
 nothing = words-uncut 0 (omega arith)
 
-flip-words : (l : Lent) (x k : ℕ) → k ≡ flipRefusal l x → k ∷ 0 ∷ 0 ∷ 0 ∷ 0 ∷ [] ≡ answerWords (answer l (flipCall x))
-unfolding answer answerWords
-flip-words l x zero e = rw (sym e, ← nothing)
-flip-words l x (suc k) e = rw (sym e, eqb·suc-zero k, ← nothing)
+flip-words : (l : Lent) (x k n : ℕ) → k ≡ flipRefusal l x → n ≡ flipRules l x → k ∷ n ∷ 0 ∷ 0 ∷ 0 ∷ 0 ∷ [] ≡ answerWords (answer l (flipCall x))
+unfolding answer answerWords flipRules
+flip-words l x zero n e f = rw (f, sym e, ← nothing)
+flip-words l x (suc k) n e f = rw (f, sym e, eqb·suc-zero k, ← nothing)
 
-counts-words : (l : Lent) (x k : ℕ) → k ≡ callRefusal l x → k ∷ (countWords (countsBreak l x) ++ countWords (countsMake l x)) ≡ answerWords (answer l (countsCall x))
+counts-words : (l : Lent) (x k : ℕ) → k ≡ callRefusal l x → k ∷ 0 ∷ (countWords (countsBreak l x) ++ countWords (countsMake l x)) ≡ answerWords (answer l (countsCall x))
 unfolding answer answerWords countsBreak countsMake
 counts-words l x zero e = rw (sym e)
 counts-words l x (suc k) e = rw (sym e, eqb·suc-zero k)
 
 module _ (l : Lent) (kind x k : ℕ) where
-  pub flip-made : k ≡ flipRefusal l x → kind ≡ 0
-      → (k ∷ 0 ∷ 0 ∷ 0 ∷ 0 ∷ [] ≡ answerWords (answer l (callOf kind x)))
+  pub flip-made : (n : ℕ) → k ≡ flipRefusal l x → n ≡ flipRules l x → kind ≡ 0
+      → (k ∷ n ∷ 0 ∷ 0 ∷ 0 ∷ 0 ∷ [] ≡ answerWords (answer l (callOf kind x)))
       × (flipAssignment l x ≡ leftBy l (callOf kind x) .assignment)
       × (flipTallies l x ≡ leftBy l (callOf kind x) .tallies)
   unfolding leftBy
-  flip-made e z = rw (is-flip kind x z) (flip-words l x k e, refl, refl)
+  flip-made n e f z = rw (is-flip kind x z) (flip-words l x k n e f, refl, refl)
 
   pub counts-made : k ≡ callRefusal l x → (bs ms : List ℕ) → (kind ≡ 0 → ⊥) → bs ≡ countWords (countsBreak l x) → ms ≡ countWords (countsMake l x)
-      → (k ∷ (bs ++ ms) ≡ answerWords (answer l (callOf kind x)))
+      → (k ∷ 0 ∷ (bs ++ ms) ≡ answerWords (answer l (callOf kind x)))
       × (l .assignment ≡ leftBy l (callOf kind x) .assignment)
       × (l .tallies ≡ leftBy l (callOf kind x) .tallies)
   unfolding leftBy
@@ -76,7 +76,7 @@ one-word w = sym (append-nil (bytesOf 4 w))
 pub answer-size : (a : Answer) → length (wordBytes (answerWords a)) ≡ answerSize
 unfolding answerWords countWords
 answer-size (refused n) = length-wordBytes _
-answer-size accepted = length-wordBytes _
+answer-size (accepted n) = length-wordBytes _
 answer-size (counted b m) = length-wordBytes _
 
 -- ---- a list of calls

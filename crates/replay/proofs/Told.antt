@@ -17,11 +17,11 @@ use Rattle.replay.specs.Replay.{answerSize, callsOf, answerBytes, replay
 -- ---- the refusal
 
 module _ (l : Lent) (list out : List ℕ) where
-  pub no-room : length out / 20 < length list / 5 → 21 ≡ replayRefusal l list out
+  pub no-room : length out / answerSize < length list / 5 → 21 ≡ replayRefusal l list out
   unfolding replayRefusal refuse
   no-room h = rw (lt-ltb (length out) (answerSize * (length list / 5)) (omega arith))
 
-  pub with-room : length list / 5 ≤ length out / 20 → openRefusal l ≡ replayRefusal l list out
+  pub with-room : length list / 5 ≤ length out / answerSize → openRefusal l ≡ replayRefusal l list out
   unfolding replayRefusal refuse
   with-room h = rw (le-ltb (length out) (answerSize * (length list / 5)) (omega arith))
 

@@ -13,7 +13,7 @@ use Rattle.words.specs.Writes.{front}
 use Rattle.format.specs.File.{refuse}
 use Rattle.tallies.specs.Calls.{Lent, plan, told, openRefusal}
 use Rattle.tallies.specs.Demand.{account}
-use Rattle.calls.specs.declared.counts.Counted.{Counted}
+use Rattle.replay.specs.declared.Answered.{Answered}
 
 -- A call in 5 bytes: its kind, 0 for flip and any other for counts, and its variable.
 unfoldable pub callOf : ℕ → ℕ → Call
@@ -28,18 +28,18 @@ callsFrom (suc k) s at = callOf (getD s at 0) (numAt 4 s (at + 1)) ∷ callsFrom
 unfoldable pub callsOf : List ℕ → List Call
 callsOf s = callsFrom (length s / 5) s 0
 
--- An answer in five words: the refusal, 0 for none; the break count and its mark; the make count and its mark.
+-- An answer in six words: the refusal, 0 for none; how many rule tallies a flip rewrote; the break count and its mark; the make count and its mark.
 unfoldable pub answerWords : Answer → List ℕ
-answerWords (refused n) = n ∷ (countWords (given 0) ++ countWords (given 0))
-answerWords accepted = 0 ∷ (countWords (given 0) ++ countWords (given 0))
-answerWords (counted b m) = 0 ∷ (countWords b ++ countWords m)
+answerWords (refused n) = n ∷ 0 ∷ (countWords (given 0) ++ countWords (given 0))
+answerWords (accepted rules) = 0 ∷ rules ∷ (countWords (given 0) ++ countWords (given 0))
+answerWords (counted b m) = 0 ∷ 0 ∷ (countWords b ++ countWords m)
 
 -- .. so many bytes, and as the code has it.
 abbrev pub answerSize : ℕ
-answerSize = 20
+answerSize = 24
 
-abbrev pub countedWords : Counted → List ℕ
-countedWords a = a .refusal ∷ (markedWords (a .breaks) ++ markedWords (a .makes))
+abbrev pub answeredWords : Answered → List ℕ
+answeredWords a = a .refusal ∷ a .rules ∷ (markedWords (a .breaks) ++ markedWords (a .makes))
 
 unfoldable pub answerBytes : List Answer → List ℕ
 answerBytes [] = []

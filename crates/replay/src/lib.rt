@@ -6,10 +6,9 @@ ghost use lib.ListN.{length};
 ghost use Rattle.words.specs.Words.{wordBytes};
 ghost use Rattle.words.specs.Writes.{put, front};
 ghost use Rattle.tallies.specs.Demand.{answers, after};
-ghost use Rattle.replay.specs.Replay.{callOf, callsOf, answerSize, countedWords, answerWords, answerBytes};
+ghost use Rattle.replay.specs.Replay.{callOf, callsOf, answerSize, answeredWords, answerWords, answerBytes};
 ghost use Rattle.replay.specs.Replay.{replayRefusal, replayOut, replayAssignment, replayTallies};
 ghost use Rattle.tallies.specs.Calls.{lent, answer, leftBy};
-use calls::counts::Counted;
 use calls::counts::counts;
 use calls::flip::flip;
 use calls::open::open;
@@ -18,7 +17,15 @@ use words::read_u32;
 use words::write_u32;
 
 // How many bytes an answer has.
-const ANSWER: usize = 20;
+const ANSWER: usize = 24;
+
+// What a call answers; what calls of its kind do not give is 0.
+struct Answered {
+    refusal: u32,
+    rules: u32,
+    breaks: Marked,
+    makes: Marked,
+}
 
 // Makes one call: a flip where its kind is 0, else counts.
 fn make_call(
@@ -28,8 +35,8 @@ fn make_call(
     tallies: &mut [u8],
     kind: u8,
     x: u32,
-) -> Counted
-    ensures { λ r. ⌜ countedWords r
+) -> Answered
+    ensures { λ r. ⌜ answeredWords r
         ≡ answerWords (answer (lent (now (tables .entry)) (now (terms .entry)) (now (assignment .entry)) (now (tallies .entry))) (callOf kind x)) ⌝ }
     ensures { λ _. ⌜ now (assignment .exit)
         ≡ leftBy (lent (now (tables .entry)) (now (terms .entry)) (now (assignment .entry)) (now (tallies .entry))) (callOf kind x) .assignment ⌝ }
@@ -37,14 +44,23 @@ fn make_call(
         ≡ leftBy (lent (now (tables .entry)) (now (terms .entry)) (now (assignment .entry)) (now (tallies .entry))) (callOf kind x) .tallies ⌝ }
 {
     if kind == 0 {
-        let refusal = flip(tables, terms, assignment, tallies, x);
-        return Counted {
-            refusal,
+        let f = flip(tables, terms, assignment, tallies, x);
+        return Answered {
+            refusal: f.refusal,
+            rules: f.rules,
             breaks: Marked::ZERO,
             makes: Marked::ZERO,
         };
     }
-    counts(tables, terms, assignment, tallies, x)
+    let c = counts(tables, terms, assignment, tallies, x);
+    let breaks = c.breaks;
+    let makes = c.makes;
+    Answered {
+        refusal: c.refusal,
+        rules: 0,
+        breaks,
+        makes,
+    }
 }
 
 // Writes a count's two words at a place.
@@ -56,14 +72,15 @@ fn write_count(out: &mut [u8], to: usize, count: Marked)
     write_u32(out, to + 4, count.cut);
 }
 
-// Writes an answer's five words at a place.
-fn write_answer(out: &mut [u8], to: usize, answer: Counted)
+// Writes an answer's six words at a place.
+fn write_answer(out: &mut [u8], to: usize, answer: Answered)
     requires { ⌜ to + answerSize ≤ length (now out) ⌝ }
-    ensures { λ _. ⌜ now (out .exit) ≡ put to (wordBytes (countedWords answer)) (now (out .entry)) ⌝ }
+    ensures { λ _. ⌜ now (out .exit) ≡ put to (wordBytes (answeredWords answer)) (now (out .entry)) ⌝ }
 {
     write_u32(out, to, answer.refusal);
-    write_count(out, to + 4, answer.breaks);
-    write_count(out, to + 12, answer.makes);
+    write_u32(out, to + 4, answer.rules);
+    write_count(out, to + 8, answer.breaks);
+    write_count(out, to + 16, answer.makes);
 }
 
 // Makes the calls of a list, each on what the one before it left.

@@ -194,11 +194,10 @@ counts-within l m s x = go (callRefusal l x) refl
 
 pub calls-within : CallsWithin
 unfolding answer
-calls-within l m (flipCall x) s =
-    (
-      ap₂ (λ (k n : ℕ). cond (eqb k 0) (accepted n) (refused k)) (flip-both l m s x) (rules-within l m s x),
-      flips-within l m s x,
-    )
+calls-within l m (flipCall x) s = (
+  ap₂ (λ (k n : ℕ). cond (eqb k 0) (accepted n) (refused k)) (flip-both l m s x) (rules-within l m s x),
+  flips-within l m s x,
+)
 calls-within l m (countsCall x) s =
     let n = counts-within l m s x in
     (ap₂ (λ (k : ℕ) (c : Answer). cond (eqb k 0) c (refused k)) (call-both l m s x) (ap₂ counted (n .0) (n .1)), unfold leftBy in s)

@@ -263,7 +263,7 @@ impl Screen<'_> {
                 make_count,
             } => (break_count, make_count),
             Answer::Refused(number) => return self.refuse("This", number),
-            Answer::Flipped => unreachable!(),
+            Answer::Flipped { .. } => unreachable!(),
         };
         if let Answer::Refused(number) = book.call(Call::Flip(variable)) {
             return self.refuse("The flip", number);

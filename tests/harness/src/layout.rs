@@ -15,9 +15,18 @@ const CLAUSE_WORDS: usize = 4 + MOST_VARIABLES;
 const RULE_WORDS: usize = CLAUSE_WORDS + 2 * CLAUSES;
 const LOCK_WORDS: usize = RULE_WORDS + 5 * RULES;
 
-/// Where the words of clauses, rules and locks begin, in bytes.
-pub const SECTIONS: [usize; 3] = [4 * CLAUSE_WORDS, 4 * RULE_WORDS, 4 * LOCK_WORDS];
-pub const TABLES: usize = 4 * (LOCK_WORDS + MOST_VARIABLES);
+const END_WORDS: usize = LOCK_WORDS + MOST_VARIABLES;
+const ORDER_WORDS: usize = END_WORDS + MOST_VARIABLES + 1;
+
+/// Where the words of clauses, rules, locks, ends of runs and the order begin, in bytes.
+pub const SECTIONS: [usize; 5] = [
+    4 * CLAUSE_WORDS,
+    4 * RULE_WORDS,
+    4 * LOCK_WORDS,
+    4 * END_WORDS,
+    4 * ORDER_WORDS,
+];
+pub const TABLES: usize = 4 * (ORDER_WORDS + TERMS);
 pub const TERM_TABLE: usize = 4 * (2 * TERMS);
 pub const ASSIGNMENT: usize = MOST_VARIABLES;
 pub const TALLIES: usize = 4 * (RULES + CLAUSES + 1);
@@ -45,6 +54,28 @@ impl Words {
 
 fn mode(rule: &Rule) -> i64 {
     rule.lower.is_some() as i64 + 2 * rule.upper.is_some() as i64
+}
+
+/// The terms of the rules by variable, then by rule: of each the variable and its word.
+fn order(plan: &Plan) -> Vec<(usize, u32)> {
+    let mut places = Vec::new();
+    let mut rules = 0;
+    for (c, clause) in plan.clauses.iter().enumerate() {
+        for rule in &clause.rules {
+            for (t, term) in rule.terms.iter().enumerate() {
+                let word = ((clause.rules.len() > 1) as u32) << 31
+                    | (t as u32) << 22
+                    | (c as u32) << 12
+                    | rules << 1
+                    | (term.weight < 0) as u32;
+                places.push((term.variable, rules, word));
+            }
+            rules += 1;
+        }
+    }
+    places.sort_by_key(|&(variable, rule, _)| (variable, rule));
+    let words = places.into_iter();
+    words.map(|(variable, _, word)| (variable, word)).collect()
 }
 
 /// The two tables that loading this plan leaves.
@@ -88,6 +119,16 @@ pub fn tables(plan: &Plan) -> (Vec<u8>, Vec<u8>) {
     for variable in 1..=MOST_VARIABLES {
         words.push(plan.lock(variable).map_or(0, |value| 1 + value as i64));
     }
+    let order = order(plan);
+    for variable in 0..=plan.variables {
+        let below = order.iter().filter(|&&(named, _)| named <= variable);
+        words.push(below.count() as i64);
+    }
+    words.fill(ORDER_WORDS);
+    for &(_, word) in &order {
+        words.push(word as i64);
+    }
+    words.fill(TABLES / 4);
     terms.fill(TERM_TABLE / 4);
     (words.0, terms.0)
 }
@@ -188,37 +229,52 @@ pub fn loaded(tables: &[u8], terms: &[u8]) -> Option<Plan> {
     (tables == tables_now && terms == terms_now).then_some(plan)
 }
 
-/// Turns over one bit of a plan's tables, most often among the words in use. It gives whether that
-/// was a bit of the locks.
-pub fn turn_a_bit(random: &mut Random, plan: &Plan, tables: &mut [u8], terms: &mut [u8]) -> bool {
-    let [_, _, locks] = SECTIONS;
-    let place = match random.below(6) {
+/// What a word of the two tables belongs to: the locks, the order with the ends of its runs, or all
+/// else, of which the order follows.
+#[derive(Clone, Copy, Debug, PartialEq, Eq)]
+pub enum Part {
+    Locks,
+    Order,
+    Rest,
+}
+
+/// Turns over one bit of a plan's tables, most often among the words in use. It gives where.
+pub fn turn_a_bit(random: &mut Random, plan: &Plan, tables: &mut [u8], terms: &mut [u8]) -> Part {
+    let [_, _, locks, ends, order] = SECTIONS;
+    let place = match random.below(8) {
         0 => random.below(16 + 4 * plan.variables),
         1 => TABLES + random.below(8 * plan.clauses.len()),
         2 => locks + random.below(4 * plan.variables),
         // The lowest two bits of a lock.
         3 => locks + 4 * random.below(plan.variables),
+        4 => ends + random.below(4 * (plan.variables + 1)),
+        5 => order + random.below(4 * self::order(plan).len().max(1)),
         _ => random.below(TABLES + TERM_TABLE),
     };
-    let in_locks = (locks..TABLES).contains(&place);
-    let change = 1 << random.below(if in_locks && place % 4 == 0 { 2 } else { 8 });
+    let part = match place {
+        _ if (locks..ends).contains(&place) => Part::Locks,
+        _ if (ends..TABLES).contains(&place) => Part::Order,
+        _ => Part::Rest,
+    };
+    let low_lock = part == Part::Locks && place % 4 == 0;
+    let change = 1 << random.below(if low_lock { 2 } else { 8 });
     match place.checked_sub(TABLES) {
         None => tables[place] ^= change,
         Some(place) => terms[place] ^= change,
     }
-    in_locks
+    part
 }
 
 #[cfg(test)]
 mod tests {
     use super::*;
-    use reference::making::{locking, plan};
+    use reference::making::{at_least, at_most, locking, plan};
 
     /// The sizes that docs/FORMAT.md names.
     #[test]
     fn sizes() {
-        assert_eq!((TABLES, TERM_TABLE, TALLIES), (28_716, 52_096, 6_156));
-        assert_eq!(SECTIONS, [2_064, 6_168, 26_668]);
+        assert_eq!((TABLES, TERM_TABLE, TALLIES), (56_816, 52_096, 6_156));
+        assert_eq!(SECTIONS, [2_064, 6_168, 26_668, 28_716, 30_768]);
         assert!(TABLES.max(TERM_TABLE) <= 65_536);
     }
 
@@ -234,6 +290,38 @@ mod tests {
         for (place, word) in [(26_672, 3), (26_671, 1), (26_680, 1), (28_712, 2)] {
             let mut tables = tables.clone();
             tables[place] = word;
+            assert_eq!(loaded(&tables, &terms), None, "byte {place}");
+        }
+    }
+
+    /// "By variable, then rule": x1 stands in rules 0 and 2, x2 in both rules of the first clause, x3
+    /// in none and x4 in rule 2.
+    #[test]
+    fn words_of_the_order() {
+        let first = [at_least(1, &[(1, 2), (2, -3)]), at_most(4, &[(2, 5)])];
+        let second = [at_least(0, &[(1, -1), (4, 1)])];
+        let plan = plan(4, &[], &[&first, &second]);
+        let (tables, terms) = tables(&plan);
+        let ends = [0, 2, 4, 4, 5];
+        let words: [u32; 5] = [
+            1 << 31,
+            1 << 12 | 2 << 1 | 1,
+            1 << 31 | 1 << 22 | 1,
+            1 << 31 | 1 << 1,
+            1 << 22 | 1 << 12 | 2 << 1,
+        ];
+        let bytes = |words: &[u32]| -> Vec<u8> {
+            words.iter().flat_map(|word| word.to_le_bytes()).collect()
+        };
+        assert_eq!(tables[28_716..28_736], bytes(&ends));
+        assert!(tables[28_736..30_768].iter().all(|&byte| byte == 0));
+        assert_eq!(tables[30_768..30_788], bytes(&words));
+        assert!(tables[30_788..].iter().all(|&byte| byte == 0));
+        assert_eq!(loaded(&tables, &terms), Some(plan));
+        // Any bit of it, used or not.
+        for place in (28_716..30_800).chain([56_815]) {
+            let mut tables = tables.clone();
+            tables[place] ^= 1 << (place % 8);
             assert_eq!(loaded(&tables, &terms), None, "byte {place}");
         }
     }

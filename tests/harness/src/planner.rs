@@ -12,6 +12,32 @@ pub struct Loaded {
     pub offset: usize,
 }
 
+/// What a flip answers; with a refusal the number of rules is 0.
+#[repr(C)]
+#[derive(Clone, Copy, Debug, PartialEq, Eq)]
+pub struct Flipped {
+    pub refusal: u32,
+    pub rules: u32,
+}
+
+impl Flipped {
+    /// The answer with this refusal.
+    pub fn refused(refusal: u32) -> Flipped {
+        Flipped { refusal, rules: 0 }
+    }
+}
+
+/// What a flip answers where the book does so.
+impl From<Answer> for Flipped {
+    fn from(answer: Answer) -> Flipped {
+        match answer {
+            Answer::Flipped { rules } => Flipped { refusal: 0, rules },
+            Answer::Refused(refusal) => Flipped::refused(refusal),
+            Answer::Counts { .. } => panic!("{answer:?} is no answer to a flip"),
+        }
+    }
+}
+
 /// What counts answers; a mark is 1 where its count is cut, else 0.
 #[repr(C)]
 #[derive(Clone, Copy, Debug, PartialEq, Eq)]
@@ -53,7 +79,7 @@ impl From<Answer> for Counted {
                 make_count,
             } => Counted::of(break_count, make_count),
             Answer::Refused(refusal) => Counted::refused(refusal),
-            Answer::Flipped => Counted::refused(0),
+            Answer::Flipped { .. } => panic!("{answer:?} is no answer to counts"),
         }
     }
 }
@@ -82,7 +108,7 @@ pub struct Squeezed {
 
 /// The functions as they are exported.
 pub mod raw {
-    use super::{Counted, Loaded, Searched, Squeezed};
+    use super::{Counted, Flipped, Loaded, Searched, Squeezed};
 
     extern "C" {
         pub fn planner_load(
@@ -113,7 +139,7 @@ pub mod raw {
             tallies: *mut u8,
             tallies_length: usize,
             variable: u32,
-        ) -> u32;
+        ) -> Flipped;
         pub fn planner_counts(
             tables: *const u8,
             tables_length: usize,
@@ -192,7 +218,7 @@ pub fn flip(
     assignment: &mut [u8],
     tallies: &mut [u8],
     variable: u32,
-) -> u32 {
+) -> Flipped {
     unsafe {
         raw::planner_flip(
             tables.as_ptr(),

@@ -1,6 +1,6 @@
 //! A list of calls made one after another by the proved `replay_calls`.
 
-use crate::planner::Counted;
+use crate::planner::{Counted, Flipped};
 use reference::book::{Answer, Call};
 
 mod raw {
@@ -60,18 +60,22 @@ pub fn call_bytes(call: Call, other: u8) -> Vec<u8> {
 }
 
 /// How many bytes an answer has.
-pub const ANSWER: usize = 20;
+pub const ANSWER: usize = 24;
 
-/// An answer in five words: refusal, break count and its mark, make count and its mark; all but the
-/// first are 0 for a flip.
+/// An answer in six words: refusal, rules, break count and its mark, make count and its mark. A flip
+/// has 0 for the last four, counts for the rules, a refusal for all but the first.
 pub fn answer_bytes(answer: Answer) -> Vec<u8> {
-    let Counted {
-        refusal,
-        break_count,
-        break_cut,
-        make_count,
-        make_cut,
-    } = answer.into();
-    let words: [u32; ANSWER / 4] = [refusal, break_count, break_cut, make_count, make_cut];
+    let (flipped, counted) = match answer {
+        Answer::Flipped { .. } => (Flipped::from(answer), Counted::refused(0)),
+        _ => (Flipped::refused(0), Counted::from(answer)),
+    };
+    let words: [u32; ANSWER / 4] = [
+        counted.refusal,
+        flipped.rules,
+        counted.break_count,
+        counted.break_cut,
+        counted.make_count,
+        counted.make_cut,
+    ];
     words.iter().flat_map(|word| word.to_le_bytes()).collect()
 }

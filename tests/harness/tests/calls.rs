@@ -2,8 +2,8 @@
 //! order.
 
 use harness::guarded::Guarded;
-use harness::layout::{self, ASSIGNMENT, TABLES, TALLIES, TERM_TABLE};
-use harness::planner::{counts, flip, open, Counted};
+use harness::layout::{self, Part, ASSIGNMENT, TABLES, TALLIES, TERM_TABLE};
+use harness::planner::{counts, flip, open, Counted, Flipped};
 use reference::book::{Answer, Book, Call};
 use reference::counts::Count;
 use reference::expansion;
@@ -58,7 +58,7 @@ impl Lent {
         )
     }
 
-    fn flip(&mut self, variable: u32) -> u32 {
+    fn flip(&mut self, variable: u32) -> Flipped {
         flip(
             self.tables.bytes(),
             self.terms.bytes(),
@@ -80,10 +80,9 @@ impl Lent {
 
     /// Makes one call, and compares its answer with the book's.
     fn check(&mut self, call: Call, wanted: Answer) {
-        let wanted = Counted::from(wanted);
         match call {
-            Call::Flip(variable) => assert_eq!(self.flip(variable), wanted.refusal, "{call:?}"),
-            Call::Counts(variable) => assert_eq!(self.counts(variable), wanted, "{call:?}"),
+            Call::Flip(variable) => assert_eq!(self.flip(variable), wanted.into(), "{call:?}"),
+            Call::Counts(variable) => assert_eq!(self.counts(variable), wanted.into(), "{call:?}"),
         }
     }
 
@@ -101,6 +100,8 @@ impl Lent {
 #[derive(Default, Debug)]
 struct Met {
     flips: u32,
+    /// Flips of variables that no rule names, that one names, and that more do.
+    named: [u32; 3],
     counts: u32,
     /// Counts that are cut, that are the cap itself, and that are neither.
     cut: u32,
@@ -118,7 +119,10 @@ struct Met {
 impl Met {
     fn count(&mut self, answer: Answer) {
         match answer {
-            Answer::Flipped => self.flips += 1,
+            Answer::Flipped { rules } => {
+                self.flips += 1;
+                self.named[rules.min(2) as usize] += 1;
+            }
             Answer::Refused(26) => self.locked += 1,
             Answer::Refused(_) => self.refused += 1,
             Answer::Counts {
@@ -172,7 +176,9 @@ fn lists_of_calls_on_small_plans() {
     }
     let least = met.flips.min(met.counts).min(met.refused);
     let locks = met.locked.min(met.counts_of_locked);
-    assert!(least.min(locks) > 500 && met.disagreeing > 200, "{met:?}");
+    let named = met.named.into_iter().min().unwrap();
+    assert!(least.min(locks).min(named) > 500, "{met:?}");
+    assert!(met.disagreeing > 200, "{met:?}");
 }
 
 #[test]
@@ -227,7 +233,11 @@ fn differences_at_the_cap() {
             let mut lent = Lent::new(&mut random, &plan, &bits);
             assert_eq!(lent.open(), 0);
             assert_eq!(lent.counts(1), Counted::of(spoiled, Count::ZERO));
-            assert_eq!(lent.flip(1), 0);
+            let flipped = Flipped {
+                refusal: 0,
+                rules: 1,
+            };
+            assert_eq!(lent.flip(1), flipped);
             assert_eq!(lent.counts(1), Counted::of(Count::ZERO, spoiled));
             bits[0] = true;
             assert_eq!(lent.assignment.bytes()[..bits.len()], layout::bits(&bits));
@@ -266,7 +276,7 @@ fn shorten(buffer: &mut Guarded, length: usize) {
 
 /// Ways to spoil tables so that no accepted loading leaves them.
 fn spoil_tables(lent: &mut Lent, n: usize, way: usize) {
-    let [clauses, rules, locks] = layout::SECTIONS;
+    let [clauses, rules, locks, ends, order] = layout::SECTIONS;
     match way {
         // The counts of variables, clauses, rules and terms.
         0 => lent.tables.lend()[3] ^= 0x80,
@@ -280,11 +290,19 @@ fn spoil_tables(lent: &mut Lent, n: usize, way: usize) {
         // The last entry of each section, which no plan uses.
         7 => lent.tables.lend()[rules - 1] ^= 1,
         8 => lent.tables.lend()[locks - 1] ^= 1,
-        9 => lent.tables.lend()[TABLES - 1] ^= 1,
+        9 => lent.tables.lend()[ends - 1] ^= 1,
         // A lock above 2 of the first and of the last variable, and one beyond the last.
         10 => lent.tables.lend()[locks] = 3,
         11 => lent.tables.lend()[locks + 4 * n - 1] = 1,
         12 => lent.tables.lend()[locks + 4 * n] = 1,
+        // The first run's begin, the last run's end, an end beyond the last; the first word of the
+        // order: its sign, its mark of several rules; the last word, which no plan uses.
+        13 => lent.tables.lend()[ends] ^= 1,
+        14 => lent.tables.lend()[ends + 4 * n] ^= 1,
+        15 => lent.tables.lend()[order - 1] ^= 1,
+        16 => lent.tables.lend()[order] ^= 1,
+        17 => lent.tables.lend()[order + 3] ^= 0x80,
+        18 => lent.tables.lend()[TABLES - 1] ^= 1,
         _ => lent.terms.lend()[TERM_TABLE - 1] ^= 1,
     }
     let spoiled = layout::loaded(lent.tables.bytes(), lent.terms.bytes());
@@ -294,7 +312,7 @@ fn spoil_tables(lent: &mut Lent, n: usize, way: usize) {
 const CONDITIONS: [u32; 6] = [21, 22, 24, 25, 23, 26];
 
 /// How many ways there are to meet each condition.
-const WAYS: [usize; 6] = [8, 14, 3, 3, 3, 3];
+const WAYS: [usize; 6] = [8, 20, 3, 3, 3, 3];
 
 /// Brings one condition about, in one of its ways; the first in their order is to be the last of
 /// several.
@@ -353,7 +371,7 @@ fn refusals_in_their_order() {
     let mut random = Random::new(24);
     let mut decided = [0; CONDITIONS.len()];
     // In each set the ways are gone through side by side.
-    for (set, round) in (0..64_u32).flat_map(|set| (0..14).map(move |round| (set, round))) {
+    for (set, round) in (0..64_u32).flat_map(|set| (0..20).map(move |round| (set, round))) {
         let (plan, mut variable) = partly_locked(&mut random);
         let bits = random.assignment(plan.variables);
         let mut lent = Lent::new(&mut random, &plan, &bits);
@@ -378,18 +396,20 @@ fn refusals_in_their_order() {
             assert_eq!(counted, Counted::refused(counted.refusal));
         }
         let flipped = lent.flip(variable);
-        assert_eq!(flipped, first(&CONDITIONS), "{met:?}, round {round}");
-        if flipped == 0 {
+        let refusal = first(&CONDITIONS);
+        assert_eq!(flipped.refusal, refusal, "{met:?}, round {round}");
+        if refusal == 0 {
             continue;
         }
-        assert!(lent == before, "a refused call ({flipped}) changed a byte");
+        assert_eq!(flipped, Flipped::refused(refusal));
+        assert!(lent == before, "a refused call ({refusal}) changed a byte");
         let opened = lent.open();
         assert_eq!(opened, first(&[21, 22, 24]), "{met:?}, round {round}");
         assert!(opened == 0 || lent == before, "opening, {met:?}");
         decided[met[0]] += 1;
     }
     // Each condition decided half of the sets that the ones before it left.
-    assert_eq!(decided, [448, 224, 112, 56, 28, 14]);
+    assert_eq!(decided, [640, 320, 160, 80, 40, 20]);
 }
 
 /// Each buffer alone one byte short, or empty: 21 from each call, whatever else is wrong, and no
@@ -419,7 +439,8 @@ fn each_buffer_one_byte_short() {
             let before = lent.clone();
             for variable in [1, plan.variables as u32, 0] {
                 assert_eq!(lent.open(), 21, "buffer {place}");
-                assert_eq!(lent.flip(variable), 21, "buffer {place}");
+                let flipped = lent.flip(variable);
+                assert_eq!(flipped, Flipped::refused(21), "buffer {place}");
                 let counted = lent.counts(variable);
                 assert_eq!(counted, Counted::refused(21), "buffer {place}");
                 assert!(lent == before, "buffer {place}: a byte changed");
@@ -432,18 +453,20 @@ fn each_buffer_one_byte_short() {
 #[test]
 fn changed_tables() {
     let mut random = Random::new(25);
-    let (mut met, mut locks) = ([0; 2], [0; 2]);
+    let (mut met, mut locks, mut order) = ([0; 2], [0; 2], [0; 2]);
     for _ in 0..3_000 {
         let plan = random::race_plan(&mut random);
         let bits = vec![false; ASSIGNMENT];
         let (mut tables, mut terms) = layout::tables(&plan);
-        let in_locks = layout::turn_a_bit(&mut random, &plan, &mut tables, &mut terms);
+        let part = layout::turn_a_bit(&mut random, &plan, &mut tables, &mut terms);
         let loaded = layout::loaded(&tables, &terms).is_some();
         let refusal = open(&tables, &terms, &layout::bits(&bits), &mut vec![0; TALLIES]);
         assert_eq!(refusal, if loaded { 0 } else { 22 });
         met[(refusal == 22) as usize] += 1;
-        locks[(refusal == 22) as usize] += in_locks as u32;
+        locks[(refusal == 22) as usize] += (part == Part::Locks) as u32;
+        order[(refusal == 22) as usize] += (part == Part::Order) as u32;
     }
     assert!(met.iter().all(|&count| count > 300), "{met:?}");
     assert!(locks.iter().all(|&count| count > 100), "{locks:?}");
+    assert!(order[0] == 0 && order[1] > 500, "{order:?}");
 }

@@ -2,7 +2,7 @@
 //! and ending, and the six prototypes, word for word.
 
 use harness::layout::{self, ASSIGNMENT, MARKS, SECTIONS, TABLES, TALLIES, TERM_TABLE};
-use harness::planner::{Counted, Loaded, Searched, Squeezed};
+use harness::planner::{Counted, Flipped, Loaded, Searched, Squeezed};
 use harness::program::{printed_by_c, root};
 use harness::searching::{ending, ENDINGS};
 use reference::file::{MOST_CLAUSES, MOST_RULES, MOST_TERMS, MOST_VARIABLES};
@@ -39,7 +39,15 @@ fn sizes_offsets_and_numbers() {
             offset_of!(Loaded, offset),
         ),
         ("sizeof(planner_opened)", size_of::<u32>()),
-        ("sizeof(planner_flipped)", size_of::<u32>()),
+        ("sizeof(planner_flipped)", size_of::<Flipped>()),
+        (
+            "offsetof(planner_flipped, refusal)",
+            offset_of!(Flipped, refusal),
+        ),
+        (
+            "offsetof(planner_flipped, rules)",
+            offset_of!(Flipped, rules),
+        ),
         ("sizeof(planner_counted)", size_of::<Counted>()),
         (
             "offsetof(planner_counted, refusal)",
@@ -213,6 +221,7 @@ fn c_type(words: &str) -> &'static str {
         "size_t" => "usize",
         "uint32_t" => "u32",
         "planner_loaded" => "Loaded",
+        "planner_flipped" => "Flipped",
         "planner_counted" => "Counted",
         "planner_searched" => "Searched",
         "planner_squeezed" => "Squeezed",

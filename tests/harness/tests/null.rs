@@ -2,7 +2,7 @@
 //! elsewhere.
 
 use harness::layout::{self, ASSIGNMENT, MARKS, TABLES, TALLIES, TERM_TABLE};
-use harness::planner::{raw, squeeze, Counted, Loaded, Searched, Squeezed};
+use harness::planner::{raw, squeeze, Counted, Flipped, Loaded, Searched, Squeezed};
 use harness::searching::refused;
 use reference::making::example_plan;
 use reference::squeeze::LIST;
@@ -45,7 +45,7 @@ impl Buffers {
         unsafe { raw::planner_open(tables, a, terms, b, bits, c, tallies, d) }
     }
 
-    fn flip(&mut self) -> u32 {
+    fn flip(&mut self) -> Flipped {
         let [(tables, a), (terms, b), (bits, c), (tallies, d)] =
             [0, 1, 2, 3].map(|place| self.lend(place));
         unsafe { raw::planner_flip(tables, a, terms, b, bits, c, tallies, d, 1) }
@@ -111,7 +111,9 @@ fn no_buffer_is_one_too_small() {
         let four = refusal(&[0, 1, 2, 3]);
         assert_eq!(buffers.open(), four, "buffer {absent}");
         assert_eq!(buffers.counts().refusal, four, "buffer {absent}");
-        assert_eq!(buffers.flip(), four, "buffer {absent}");
+        let flipped = buffers.flip();
+        assert_eq!(flipped.refusal, four, "buffer {absent}");
+        assert_eq!(flipped.rules, (four == 0) as u32, "buffer {absent}");
         let loaded = buffers.load(&file);
         assert_eq!(loaded.refusal, refusal(&[0, 1]), "buffer {absent}");
         assert_eq!(loaded.offset, 0);

@@ -1,6 +1,6 @@
 //! The search against the reference: answers, every byte of every buffer, refusals in their order.
 
-use harness::layout;
+use harness::layout::{self, Part};
 use harness::planner::Searched;
 use harness::searching::{refused, Lent, ENDINGS, SIZES};
 use reference::file::{parse, parse_settings, write_numbers};
@@ -305,20 +305,22 @@ fn each_buffer_one_byte_short() {
 #[test]
 fn single_bits_of_tables() {
     let mut random = Random::new(49);
-    let (mut met, mut locks) = ([0; 2], [0; 2]);
+    let (mut met, mut locks, mut order) = ([0; 2], [0; 2], [0; 2]);
     for _ in 0..3_000 {
         let plan = random::race_plan(&mut random);
         let (mut tables, mut terms) = layout::tables(&plan);
-        let in_locks = layout::turn_a_bit(&mut random, &plan, &mut tables, &mut terms);
+        let part = layout::turn_a_bit(&mut random, &plan, &mut tables, &mut terms);
         let settings = short_settings(&mut random);
         let numbers = list(&mut random, 20);
         let lent = Lent::sized(&mut random, &tables, &terms, &numbers, SIZES);
         let refusal = lent.check(&settings).refusal;
         met[(refusal == 22) as usize] += 1;
-        locks[(refusal == 22) as usize] += in_locks as u32;
+        locks[(refusal == 22) as usize] += (part == Part::Locks) as u32;
+        order[(refusal == 22) as usize] += (part == Part::Order) as u32;
     }
     assert!(met.iter().all(|&count| count > 300), "{met:?}");
     assert!(locks.iter().all(|&count| count > 100), "{locks:?}");
+    assert!(order[0] == 0 && order[1] > 500, "{order:?}");
 }
 
 #[test]

@@ -1,4 +1,4 @@
-//! The plain book of demand 3 (document 01, "Tallies"; document 02, T-01 and T-08).
+//! The plain book of demand 3 (document 01, "Tallies"; document 02, T-01, T-05 and T-08).
 
 use crate::counts::{Count, Counter};
 use crate::plan::{flipped, Plan};
@@ -14,7 +14,10 @@ pub enum Call {
 /// What the book answers to a call.
 #[derive(Clone, Copy, Debug, PartialEq, Eq)]
 pub enum Answer {
-    Flipped,
+    /// With "the number of rules naming the variable".
+    Flipped {
+        rules: u32,
+    },
     Counts {
         break_count: Count,
         make_count: Count,
@@ -44,6 +47,8 @@ impl<'a> Book<'a> {
     /// spoil and mend; no bit changes." "A binomial now also says whether it was cut, and so do [..]
     /// both counts above it." "A flip of a locked variable is one of the refused calls:
     /// the book answers 26, and no bit changes", "26 for a flip of a locked variable, after 23".
+    /// "The book's answer to a flip gives that number too": "the number of rules naming the
+    /// variable".
     pub fn call(&mut self, call: Call) -> Answer {
         let (Call::Flip(variable) | Call::Counts(variable)) = call;
         let variable = variable as usize;
@@ -54,7 +59,9 @@ impl<'a> Book<'a> {
             Call::Flip(_) if self.plan.lock(variable).is_some() => Answer::Refused(26),
             Call::Flip(_) => {
                 self.bits = flipped(&self.bits, variable);
-                Answer::Flipped
+                Answer::Flipped {
+                    rules: self.plan.rules_naming(variable) as u32,
+                }
             }
             Call::Counts(_) => {
                 let counts = self.counter.counts(&self.tallies(), &self.bits, variable);

@@ -103,6 +103,13 @@ impl Plan {
         lock.map(|lock| lock.value)
     }
 
+    /// "The number of rules naming the variable".
+    pub fn rules_naming(&self, variable: usize) -> usize {
+        let rules = self.clauses.iter().flat_map(|clause| &clause.rules);
+        let names = |rule: &&Rule| rule.terms.iter().any(|term| term.variable == variable);
+        rules.filter(names).count()
+    }
+
     /// "Then locked variables take their value."
     pub fn locked(&self, assignment: &[bool]) -> Vec<bool> {
         (1..=self.variables)

@@ -33,6 +33,11 @@ fn fresh_tallies_by_hand() {
     assert_eq!(tallies.unsatisfied_clauses(), [1]);
 }
 
+/// A flip of a variable that so many rules name.
+fn flipped(rules: u32) -> Answer {
+    Answer::Flipped { rules }
+}
+
 /// Counts that are not cut.
 fn counted(break_count: u32, make_count: u32) -> Answer {
     Answer::Counts {
@@ -47,7 +52,7 @@ fn calls_by_hand() {
     let mut book = Book::open(&plan, &bits("000"));
     for (call, answer, after) in [
         (Call::Counts(1), counted(0, 1), "000"),
-        (Call::Flip(1), Answer::Flipped, "100"),
+        (Call::Flip(1), flipped(1), "100"),
         (Call::Counts(2), counted(1, 0), "100"),
         (Call::Flip(0), Answer::Refused(23), "100"),
         (Call::Flip(4), Answer::Refused(23), "100"),
@@ -55,9 +60,9 @@ fn calls_by_hand() {
         (Call::Counts(4), Answer::Refused(23), "100"),
         (Call::Flip(u32::MAX), Answer::Refused(23), "100"),
         (Call::Flip(65_537), Answer::Refused(23), "100"),
-        (Call::Flip(3), Answer::Flipped, "101"),
-        (Call::Flip(1), Answer::Flipped, "001"),
-        (Call::Flip(3), Answer::Flipped, "000"),
+        (Call::Flip(3), flipped(1), "101"),
+        (Call::Flip(1), flipped(1), "001"),
+        (Call::Flip(3), flipped(1), "000"),
     ] {
         assert_eq!(book.call(call), answer, "{call:?}");
         assert_eq!(book.bits(), bits(after), "{call:?}");
@@ -80,10 +85,10 @@ fn calls_with_locks_by_hand() {
         (Call::Flip(4), Answer::Refused(23), "001"),
         (Call::Flip(0), Answer::Refused(23), "001"),
         (Call::Counts(4), Answer::Refused(23), "001"),
-        (Call::Flip(2), Answer::Flipped, "011"),
+        (Call::Flip(2), flipped(1), "011"),
         (Call::Counts(1), counted(2, 0), "011"),
         (Call::Flip(3), Answer::Refused(26), "011"),
-        (Call::Flip(2), Answer::Flipped, "001"),
+        (Call::Flip(2), flipped(1), "001"),
     ] {
         assert_eq!(book.call(call), answer, "{call:?}");
         assert_eq!(book.bits(), bits(after), "{call:?}");
@@ -110,14 +115,37 @@ fn counts_at_the_cap_and_above_it_by_hand() {
     for (call, wanted) in [
         (Call::Counts(1), answer(Count::CAP, zero)),
         (Call::Counts(2), answer(Count::CUT, zero)),
-        (Call::Flip(1), Answer::Flipped),
-        (Call::Flip(2), Answer::Flipped),
+        (Call::Flip(1), flipped(2)),
+        (Call::Flip(2), flipped(2)),
         (Call::Counts(1), answer(zero, Count::CAP)),
         (Call::Counts(2), answer(zero, Count::CUT)),
         (Call::Counts(3), Answer::Refused(23)),
     ] {
         assert_eq!(book.call(call), wanted, "{call:?}");
     }
+}
+
+/// How many rule tallies differ. No coefficient is 0, so a flip changes that of each rule that names
+/// its variable.
+fn rewritten(before: &Tallies, after: &Tallies) -> usize {
+    let weights = before.true_weights.iter().zip(&after.true_weights);
+    weights.filter(|(before, after)| before != after).count()
+}
+
+/// "A flip's answer gives the count of rule tallies it rewrote, which equals the number of rules
+/// naming the variable": two rules of one clause, a rule of another, and none.
+#[test]
+fn rules_naming_a_variable_by_hand() {
+    let first = [at_least(1, &[(1, 1), (2, -1)]), at_most(0, &[(1, 3)])];
+    let plan = plan(3, &[(3, 7)], &[&first, &[at_least(0, &[(1, 1)])]]);
+    let mut book = Book::open(&plan, &bits("000"));
+    for (variable, rules, after) in [(1, 3, "100"), (2, 1, "110"), (3, 0, "111"), (1, 3, "011")] {
+        assert_eq!(book.call(Call::Flip(variable)), flipped(rules));
+        assert_eq!(book.bits(), bits(after));
+    }
+    // With the objective as a last clause, a rule more names its variables.
+    assert_eq!(plan.tightened(0).rules_naming(3), 1);
+    assert_eq!(plan.tightened(0).rules_naming(1), 3);
 }
 
 #[test]
@@ -132,18 +160,19 @@ fn any_list_of_calls() {
         let opened = random.assignment(plan.variables);
         let mut book = Book::open(&plan, &opened);
         // How often each variable was named by an accepted flip.
-        let mut flipped = vec![0; plan.variables];
+        let mut turned = vec![0; plan.variables];
         for _ in 0..random.below(30) {
-            let before = book.bits().to_vec();
+            let (before, tallies) = (book.bits().to_vec(), book.tallies());
             let next = call(&mut random, plan.variables);
             let answer = book.call(next);
             let (Call::Flip(variable) | Call::Counts(variable)) = next;
             let variable = variable as usize;
             let named = variable >= 1 && variable <= plan.variables;
             match (next, answer) {
-                (Call::Flip(_), Answer::Flipped) => {
+                (Call::Flip(_), Answer::Flipped { rules }) => {
                     assert!(named);
-                    flipped[variable - 1] += 1;
+                    assert_eq!(rules as usize, rewritten(&tallies, &book.tallies()));
+                    turned[variable - 1] += 1;
                     flips += 1;
                 }
                 (Call::Counts(_), Answer::Counts { .. }) => {
@@ -166,7 +195,7 @@ fn any_list_of_calls() {
         }
         for variable in 1..=plan.variables {
             let differs = book.bits()[variable - 1] != opened[variable - 1];
-            assert_eq!(differs, flipped[variable - 1] % 2 == 1);
+            assert_eq!(differs, turned[variable - 1] % 2 == 1);
         }
     }
     assert!(flips > 500 && counts > 500 && refused > 200 && locked > 200);

@@ -18,8 +18,8 @@ returns : tie.Need-returns
 returns c =
     let b4 = c .before .before .before .before in
     let f = b4 .flip .ensures in
-    let m = flip-made _ _ _ _ (f .0) (b4 .before .before .before .if1 .taken) in
-    (m .0, (f .1 .0 ∙ m .1, f .1 .1 ∙ m .2))
+    let m = flip-made _ _ _ _ _ (f .0) (f .1 .0) (b4 .before .before .before .if1 .taken) in
+    (m .0, (f .1 .1 .0 ∙ m .1, f .1 .1 .1 ∙ m .2))
 
 counts-requires : tie.Need-counts-requires
 counts-requires c κs = search needs
@@ -32,8 +32,8 @@ same-length-4 c = search needs
 
 returns-2 : tie.Need-returns-2
 returns-2 c =
-    let e = c .counts .ensures in
-    let m = counts-made _ _ _ _ (e .0) _ _ (c .before .before .before .if1 .left) (e .1 .0) (e .1 .1) in
+    let e = c .before .before .counts .ensures in
+    let m = counts-made _ _ _ _ (e .0) _ _ (c .before .before .before .before .before .if1 .left) (e .1 .0) (e .1 .1) in
     (m .0, (m .1, m .2))
 
 pub make-call-spec : {M : Type 1} → statement M

@@ -18,7 +18,7 @@ returns : tie.Need-returns
 returns c =
     let e = c .before .flip-refusal .ensures in
     let k = flip-refused _ _ _ e (c .if1 .taken) in
-    (e, (k .0, k .1))
+    (e, (k .0, (k .1, k .2)))
 
 flip-core-requires : tie.Need-flip-core-requires
 flip-core-requires c κs = flip-tested _ _ (sym (c .before .before .before .flip-refusal .ensures) ∙ c .before .before .if1 .left)
@@ -34,7 +34,7 @@ returns-2 c =
     let z = sym (c .before .before .before .before .before .before .before .before .flip-refusal .ensures) ∙ c .before .before .before .before .before .before .before .if1 .left in
     let k = flip-accepted _ _ z in
     let f = c .before .before .before .before .flip-core .ensures in
-    (sym z, (f .1 ∙ k .0, f .2 ∙ k .1))
+    (sym z, (f .0 ∙ k .0, (f .1 ∙ k .1, f .2 ∙ k .2)))
 
 pub flip-spec : {M : Type 1} → statement M
 flip-spec =
