@@ -31,10 +31,14 @@ static double now(void) {
     return (double)t.tv_sec + (double)t.tv_nsec / 1e9;
 }
 
+// A flip's answer in one number: no refusal is as large as a number of rules shifted.
+static uint32_t flipped(planner_flipped f) { return f.refusal | f.rules << 8; }
+static uint32_t plainly_flipped(plain_flipped f) { return f.refusal | f.rules << 8; }
+
 static void run_proved(int call, uint32_t variable) {
     switch (call) {
     case OPEN: sink = planner_state_open(&state, &plan).refusal; break;
-    case FLIP: sink = planner_state_flip(&state, &plan, variable).refusal; break;
+    case FLIP: sink = flipped(planner_state_flip(&state, &plan, variable)); break;
     case COUNTS: sink = planner_state_counts(&state, &plan, variable).break_count; break;
     default: sink = planner_plan_load(&plan, file, length).refusal;
     }
@@ -43,7 +47,7 @@ static void run_proved(int call, uint32_t variable) {
 static void run_plain(int call, uint32_t variable) {
     switch (call) {
     case OPEN: sink = plain_open(&tables, &terms, assignment, &tallies); break;
-    case FLIP: sink = plain_flip(&tables, &terms, assignment, &tallies, variable); break;
+    case FLIP: sink = plainly_flipped(plain_flip(&tables, &terms, assignment, &tallies, variable)); break;
     case COUNTS: sink = plain_counts(&tables, &terms, assignment, &tallies, variable).breaks; break;
     default: sink = plain_load(file, length, &tables, &terms).refusal;
     }
@@ -96,9 +100,9 @@ static int same_answers(void) {
         planner_counted p = planner_state_counts(&state, &plan, variable);
         plain_counted q = plain_counts(&tables, &terms, assignment, &tallies, variable);
         run_proved(FLIP, variable);
-        uint32_t refusal = sink;
+        uint32_t answer = sink;
         run_plain(FLIP, variable);
-        if (refusal != sink || !same_counts(p, q) || !same_state()) return 0;
+        if (answer != sink || !same_counts(p, q) || !same_state()) return 0;
     }
     return 1;
 }

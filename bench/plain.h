@@ -17,6 +17,9 @@ typedef struct {
         int32_t lower, upper;
     } rule[1025];
     uint32_t lock[512]; // 0 free, 1 locked at 0, 2 locked at 1
+    struct {
+        uint32_t end[513], word[6512]; // the terms by variable: where each run ends, and a word for each place
+    } order;
 } plain_tables;
 
 typedef struct {
@@ -35,6 +38,9 @@ typedef struct {
     size_t offset;
 } plain_loaded;
 typedef struct {
+    uint32_t refusal, rules;
+} plain_flipped;
+typedef struct {
     uint32_t refusal, breaks, break_cut, makes, make_cut;
 } plain_counted;
 typedef struct {
@@ -45,7 +51,7 @@ typedef struct {
 
 plain_loaded plain_load(const uint8_t *file, size_t length, plain_tables *tables, plain_terms *terms);
 uint32_t plain_open(const plain_tables *t, const plain_terms *s, const uint8_t *a, plain_tallies *y);
-uint32_t plain_flip(const plain_tables *t, const plain_terms *s, uint8_t *a, plain_tallies *y, uint32_t x);
+plain_flipped plain_flip(const plain_tables *t, const plain_terms *s, uint8_t *a, plain_tallies *y, uint32_t x);
 plain_counted plain_counts(const plain_tables *t, const plain_terms *s, const uint8_t *a, const plain_tallies *y,
                            uint32_t x);
 plain_searched plain_search(const plain_tables *t, const plain_terms *s, uint32_t noise, uint32_t tries, uint32_t flips,

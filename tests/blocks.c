@@ -62,7 +62,10 @@ static void run(uint32_t load, uint32_t call, uint32_t search, const size_t *siz
     for (uint32_t x = 1; x <= variables; x++) {
         expect("counts",
                planner_counts(lent[0], size[0], lent[1], size[1], lent[2], size[2], lent[3], size[3], x).refusal, call);
-        expect("flip", planner_flip(lent[0], size[0], lent[1], size[1], lent[2], size[2], lent[3], size[3], x), call);
+        planner_flipped flipped =
+            planner_flip(lent[0], size[0], lent[1], size[1], lent[2], size[2], lent[3], size[3], x);
+        expect("flip", flipped.refusal, call);
+        if (call) expect("rules of a refused flip", flipped.rules, 0);
     }
     for (int i = 0; i < BUFFERS; i++) {
         free(lent[i]);

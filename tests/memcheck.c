@@ -35,11 +35,12 @@ static void expect(const char *what, uint32_t refusal) {
 
 /* Turns a variable over; one that is locked may not be. */
 static void flip(planner_state *state, const planner_plan *plan, uint32_t variable) {
-    uint32_t refusal = planner_state_flip(state, plan, variable).refusal;
+    planner_flipped flipped = planner_state_flip(state, plan, variable);
     if (planner_plan_lock(plan, variable) == PLANNER_FREE) {
-        expect("flip", refusal);
-    } else if (refusal != PLANNER_LOCKED) {
-        printf("a flip of locked variable %u gave %u\n", (unsigned)variable, (unsigned)refusal);
+        expect("flip", flipped.refusal);
+        if (flipped.rules > PLANNER_MOST_RULES) exit(1);
+    } else if (flipped.refusal != PLANNER_LOCKED || flipped.rules != 0) {
+        printf("a flip of locked variable %u gave %u\n", (unsigned)variable, (unsigned)flipped.refusal);
         exit(1);
     }
 }

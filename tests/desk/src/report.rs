@@ -15,10 +15,13 @@ pub const MOST_PLAN: usize = 54_446;
 
 /// The buffers of the box, in words of 4 bytes (docs/FORMAT.md). There is room for one clause, one
 /// rule and the terms of one rule more than a plan may have.
-pub const TABLES: usize =
-    4 * (4 + MOST_VARIABLES + 2 * (MOST_CLAUSES + 1) + 5 * (MOST_RULES + 1) + MOST_VARIABLES);
+pub const TABLES: usize = 4
+    * (4 + MOST_VARIABLES + 2 * (MOST_CLAUSES + 1) + 5 * (MOST_RULES + 1) + MOST_VARIABLES + ORDER);
 pub const TERMS: usize = 4 * 2 * (MOST_TERMS + MOST_VARIABLES);
 pub const TALLIES: usize = 4 * ((MOST_RULES + 1) + (MOST_CLAUSES + 1) + 1);
+
+/// The terms by variable: where each run ends, and a word for each term.
+const ORDER: usize = (MOST_VARIABLES + 1) + (MOST_TERMS + MOST_VARIABLES);
 
 /// A number as the papers print it: 16,384.
 pub fn grouped(number: i64) -> String {

@@ -92,7 +92,7 @@ fn a_plan_is_shown() {
     let about = "\n# plan.bin: 83 bytes of at most 54,446\n\
         # 3 variables of at most 512, 2 clauses of at most 512, \
         2 rules of at most 1,024, 4 terms of at most 6,000\n\
-        # on the box: tables 28,716 bytes, terms 52,096 bytes, tallies 6,156 bytes, \
+        # on the box: tables 56,816 bytes, terms 52,096 bytes, tallies 6,156 bytes, \
         whatever the plan\n";
     // With names, from the folder: the text itself.
     let out = format!("{TEXT}{about}# numbers.bin: 100 numbers\n");

@@ -4,7 +4,7 @@ use crate::figures::Figures;
 use crate::making;
 use harness::guarded::Guarded;
 use harness::layout::{self, ASSIGNMENT, TABLES, TALLIES, TERM_TABLE};
-use harness::planner::{counts, flip, open, Counted};
+use harness::planner::{counts, flip, open, Counted, Flipped};
 use reference::book::{Answer, Book, Call};
 use reference::counts::Count;
 use reference::plan::Plan;
@@ -64,6 +64,50 @@ fn note_counts(figures: &mut Figures, answer: Answer) {
     figures.note("count below the cap", both.iter().any(below));
 }
 
+/// By how many rules the variable of a flip is named.
+fn note_flip(figures: &mut Figures, answer: Answer) {
+    let Answer::Flipped { rules } = answer else {
+        return;
+    };
+    figures.note("flip of an unnamed variable", rules == 0);
+    figures.note("flip that one rule names", rules == 1);
+    figures.note("flip that several rules name", rules > 1);
+}
+
+/// What a call gives out: its refusal, how many rule tallies a flip rewrote, and the counts.
+#[derive(Clone, Copy, Debug, PartialEq, Eq)]
+struct Given {
+    rules: u32,
+    counted: Counted,
+}
+
+impl Given {
+    fn refused(refusal: u32) -> Given {
+        Given {
+            rules: 0,
+            counted: Counted::refused(refusal),
+        }
+    }
+
+    fn flipped(answer: Flipped) -> Given {
+        Given {
+            rules: answer.rules,
+            counted: Counted::refused(answer.refusal),
+        }
+    }
+
+    fn counted(counted: Counted) -> Given {
+        Given { rules: 0, counted }
+    }
+
+    fn booked(answer: Answer) -> Given {
+        match answer {
+            Answer::Flipped { .. } => Given::flipped(answer.into()),
+            _ => Given::counted(answer.into()),
+        }
+    }
+}
+
 /// Writes an assignment and its tallies into what is lent.
 fn write(lent: &mut [Guarded; 4], plan: &Plan, bits: &[bool]) {
     lent[2].lend()[..bits.len()].copy_from_slice(&layout::bits(bits));
@@ -102,19 +146,21 @@ pub fn case(random: &mut Random, name: &str, figures: &mut Figures) -> u32 {
     let mut lent = lent(random, &plan);
     let tables = layout::tables(&plan).0;
     let same = |bytes: &[u8], end: usize| bytes.get(..end) == Some(&tables[..end]);
-    let only_locks = same(lent[0].bytes(), layout::SECTIONS[2]) && !same(lent[0].bytes(), TABLES);
+    let [_, _, locks, ends, _] = layout::SECTIONS;
+    let from_locks = same(lent[0].bytes(), locks) && !same(lent[0].bytes(), TABLES);
+    let order_alone = from_locks && same(lent[0].bytes(), ends);
     let variable = match random::call(random, plan.variables) {
         Call::Flip(variable) | Call::Counts(variable) => variable,
     };
     let mut wanted = lent.clone();
-    let mut answer = Counted::refused(0);
+    let mut answer = Given::refused(0);
     if name == "open" {
         match opened(&lent) {
             Ok((plan, bits)) => {
                 figures.note("opened against locks", !plan.obeyed(&bits));
                 write(&mut wanted, &plan, &bits);
             }
-            Err(refusal) => answer = Counted::refused(refusal),
+            Err(refusal) => answer = Given::refused(refusal),
         }
     } else {
         let call = match name {
@@ -126,28 +172,37 @@ pub fn case(random: &mut Random, name: &str, figures: &mut Figures) -> u32 {
                 let locked = plan.lock(variable as usize).is_some();
                 figures.note("counts of a locked variable", locked);
                 note_counts(figures, booked);
+                note_flip(figures, booked);
                 write(&mut wanted, &plan, &bits);
-                answer = booked.into();
+                answer = Given::booked(booked);
             }
-            Err(refusal) => answer = Counted::refused(refusal),
+            Err(refusal) => answer = Given::refused(refusal),
         }
     }
     let [tables, terms, assignment, tallies] = &mut lent;
     let (tables, terms) = (tables.bytes(), terms.bytes());
     let given = match name {
-        "open" => Counted::refused(open(tables, terms, assignment.bytes(), tallies.lend())),
+        "open" => Given::refused(open(tables, terms, assignment.bytes(), tallies.lend())),
         "flip" => {
-            let refusal = flip(tables, terms, assignment.lend(), tallies.lend(), variable);
-            Counted::refused(refusal)
+            let answer = flip(tables, terms, assignment.lend(), tallies.lend(), variable);
+            Given::flipped(answer)
         }
-        _ => counts(tables, terms, assignment.bytes(), tallies.bytes(), variable),
+        _ => {
+            let answer = counts(tables, terms, assignment.bytes(), tallies.bytes(), variable);
+            Given::counted(answer)
+        }
     };
     assert_eq!(given, answer, "{name} of {variable}");
-    let refusal = answer.refusal;
+    let refusal = answer.counted.refusal;
     assert!(
         lent == wanted,
         "{name} of {variable} left other bytes: {refusal}"
     );
-    figures.note("changed locks refused", refusal == 22 && only_locks);
+    let refused = refusal == 22;
+    figures.note(
+        "changed locks refused",
+        refused && from_locks && !order_alone,
+    );
+    figures.note("changed order refused", refused && order_alone);
     refusal
 }

@@ -10,13 +10,18 @@ pub struct Figures {
     cases: [u64; CASES.len()],
 }
 
-/// What a fuzz run is to come upon: cases of locks, of picks, of counts and of the least among them.
-pub const CASES: [&str; 20] = [
+/// What a fuzz run is to come upon: cases of locks, of the order, of flips, of picks, of counts and
+/// of the least among them.
+pub const CASES: [&str; 24] = [
     "stuck",
     "found with locks",
     "opened against locks",
     "counts of a locked variable",
     "changed locks refused",
+    "changed order refused",
+    "flip of an unnamed variable",
+    "flip that one rule names",
+    "flip that several rules name",
     "discarded",
     "noise discarded",
     "ended among discards",
@@ -109,7 +114,7 @@ impl fmt::Display for Figures {
         for (name, count) in ENDINGS.iter().zip(self.endings) {
             write!(f, " {name}: {count}")?;
         }
-        write!(f, "\nlocks, picks and counts:")?;
+        write!(f, "\nlocks, order, flips, picks and counts:")?;
         for (name, count) in CASES.iter().zip(self.cases) {
             write!(f, " {name}: {count}")?;
         }

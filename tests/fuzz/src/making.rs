@@ -79,8 +79,9 @@ pub fn spoil(random: &mut Random, bytes: &mut [u8], sections: &[usize]) {
     }
 }
 
-/// Where the sections of the tables begin: counts, clauses, rules, locks (docs/FORMAT.md).
-const TABLE_SECTIONS: [usize; 4] = [0, 2_064, 6_168, 26_668];
+/// Where the sections of the tables begin: counts, clauses, rules, locks, ends of runs, the order
+/// (docs/FORMAT.md).
+const TABLE_SECTIONS: [usize; 6] = [0, 2_064, 6_168, 26_668, 28_716, 30_768];
 
 /// Two tables: those of a plan, most often; else spoiled in a place or some, or the two of
 /// different plans.
@@ -89,7 +90,7 @@ pub fn tables(random: &mut Random, plan: &Plan) -> (Vec<u8>, Vec<u8>) {
     match random.below(10) {
         0..=1 => {
             for _ in 0..1 + random.below(3) {
-                match random.percent(60) {
+                match random.percent(70) {
                     true => spoil(random, &mut tables, &TABLE_SECTIONS),
                     false => spoil(random, &mut terms, &[0]),
                 }
