@@ -1,7 +1,10 @@
 // walk.bin and numbers.bin judged, and the sizes of the three files.
 ghost use mathlib.Core.Path.{_≡_};
+ghost use Prim.Native.Nat.{_+_, _≤_};
+ghost use lib.ListN.{length};
 ghost use Rattle.plpb.specs.Lists.{_or_};
-ghost use Rattle.folder.specs.Files.{walkFault, judged, readWalk, walked, numbersRefusal, tooLong};
+ghost use Rattle.words.specs.Words.{numAt};
+ghost use Rattle.folder.specs.Files.{mayMeasure, ifLong, walkFault, judged, readWalk, walked, numbersRefusal, tooLong};
 use settings::Settings;
 use settings::settings_refusal;
 
@@ -9,6 +12,16 @@ use settings::settings_refusal;
 pub enum Walked {
     Settings(Settings),
     Refused(u32, usize),
+}
+
+// The lengths that the field may have.
+fn may_measure(size: usize) -> bool
+    ensures { λ r. ⌜ r ≡ mayMeasure size ⌝ }
+{
+    if size == 9 {
+        return true;
+    }
+    size == 12
 }
 
 // "In a field: 1 for the head, 2, 3, 1 for the body"
@@ -21,10 +34,11 @@ fn head_fault(file: &[u8]) -> u32
     if file[0] != 16 {
         return 2;
     }
-    if words::read_size(file, 1) != 9 {
+    let size = words::read_size(file, 1);
+    if !may_measure(size) {
         return 3;
     }
-    if file.len() < 12 {
+    if file.len() < 3 + size {
         return 1;
     }
     0
@@ -40,6 +54,27 @@ fn judge_settings(s: Settings) -> Walked
     Walked::Settings(s)
 }
 
+// "length 9 means SKC"
+fn heuristic_in(file: &[u8], size: usize) -> u32
+    requires { ⌜ 3 + size ≤ length (now file) ⌝ }
+    ensures { λ r. ⌜ r ≡ ifLong size (numAt 1 (now (file .entry)) 12) ⌝ }
+{
+    if size == 12 {
+        return words::byte_word(file[12]);
+    }
+    0
+}
+
+fn chance_in(file: &[u8], size: usize) -> u32
+    requires { ⌜ 3 + size ≤ length (now file) ⌝ }
+    ensures { λ r. ⌜ r ≡ ifLong size (numAt 2 (now (file .entry)) 13) ⌝ }
+{
+    if size == 12 {
+        return words::read_u16(file, 13);
+    }
+    0
+}
+
 // What walk.bin comes to.
 pub fn judge_walk(file: &[u8]) -> Walked
     ensures { λ r. ⌜ r ≡ walked (readWalk (now (file .entry))) ⌝ }
@@ -48,14 +83,17 @@ pub fn judge_walk(file: &[u8]) -> Walked
     if head != 0 {
         return Walked::Refused(head, 0);
     }
-    if 12 < file.len() {
-        return Walked::Refused(7, 12);
+    let size = words::read_size(file, 1);
+    if 3 + size < file.len() {
+        return Walked::Refused(7, 3 + size);
     }
     judge_settings(Settings {
         noise: words::read_u16(file, 3),
         tries: words::read_u16(file, 5),
         flips: words::read_u32(file, 7),
         mode: words::byte_word(file[11]),
+        heuristic: heuristic_in(file, size),
+        chance: chance_in(file, size),
     })
 }
 

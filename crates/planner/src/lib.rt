@@ -92,6 +92,8 @@ pub extern "C" fn planner_search(
     tries: u32,
     flips: u32,
     mode: u32,
+    heuristic: u32,
+    chance: u32,
     assignment: &mut [u8],
     work_tables: &mut [u8],
     work_terms: &mut [u8],
@@ -102,7 +104,7 @@ pub extern "C" fn planner_search(
     ensures { λ r. ⌜ Searches
         (lentAll (now (tables .entry)) (now (terms .entry)) (now (numbers .entry)) (now (assignment .entry)) (now («work_tables» .entry))
         (now («work_terms» .entry)) (now («work_assignment» .entry)) (now («work_tallies» .entry)) (now («work_marks» .entry)))
-        (record { noise = noise; tries = tries; flips = flips; mode = mode }) r
+        (record { noise = noise; tries = tries; flips = flips; mode = mode; heuristic = heuristic; chance = chance }) r
         (lentAll (now (tables .entry)) (now (terms .entry)) (now (numbers .entry)) (now (assignment .exit)) (now («work_tables» .exit))
         (now («work_terms» .exit)) (now («work_assignment» .exit)) (now («work_tallies» .exit)) (now («work_marks» .exit))) ⌝ }
     ensures { λ r. ⌜ HandsOut
@@ -119,6 +121,8 @@ pub extern "C" fn planner_search(
             tries,
             flips,
             mode,
+            heuristic,
+            chance,
         },
         assignment,
         work_tables,

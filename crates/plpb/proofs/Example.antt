@@ -12,9 +12,9 @@ use Rattle.plpb.specs.Count.{cap, capped, cappedBreak}
 use Rattle.plpb.specs.Tallies.{unsatisfied}
 use Rattle.plpb.specs.Numbers.{takeWords, fair, pickAmong, takePick, startWords, bit, startOf}
 use Rattle.plpb.specs.Walk.{_>>=_, run}
-use Rattle.plpb.specs.Settings.{lbs, Settings}
+use Rattle.plpb.specs.Settings.{lbs, skc, Settings}
 use Rattle.plpb.specs.Try.{begun, turnOver}
-use Rattle.plpb.specs.Choice.{choosable, pickFrom, leastBreak, withBreak, noisyChoice, choice}
+use Rattle.plpb.specs.Choice.{choosable, pickFrom, leastBreak, withBreak, noisyChoice, skcChoice, choiceBy, choice}
 use Rattle.plpb.specs.Search.{reached, turning, move, goOn, flipping, try, orElse, trying, call, tightened, third, lbsBound, linearBound, boundIn, ended, atFloor, gap, after, descending, linearSearch, lbsSearch, tighten, searchWalk, Answer, lastFind, costOf, answerOf, conclude, begin, search}
 
 unfoldable pub term : ℕ → ℕ → Term
@@ -31,7 +31,7 @@ plan = record {
 
 -- "noise 500, tries 1, flips 1, mode 1"
 unfoldable pub settings : Settings
-settings = record { noise = 500; tries = 1; flips = 1; mode = lbs }
+settings = record { noise = 500; tries = 1; flips = 1; mode = lbs; heuristic = skc; chance = 0 }
 
 -- "numbers 2 1 0 5 900 3 0 5 100 0"
 unfoldable pub numbers : List ℕ
@@ -47,7 +47,7 @@ unfolding term plan settings numbers answer
     opposite literalTrue isNegative literal size rise K raised sizeA sizeB copies
     choose choices parts joined expandClause expansion isTrue spoils breakCount
     cap capped cappedBreak unsatisfied takeWords fair pickAmong takePick startWords bit startOf _>>=_ run
-    choosable pickFrom leastBreak withBreak noisyChoice choice
+    choosable pickFrom leastBreak withBreak noisyChoice skcChoice choiceBy choice
     begun turnOver turning move goOn flipping try orElse trying call tightened third lbsBound linearBound boundIn atFloor gap after descending linearSearch lbsSearch tighten searchWalk
     lastFind costOf answerOf conclude begin search
 example = refl

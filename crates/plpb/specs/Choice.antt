@@ -1,4 +1,4 @@
--- The choice of a variable (document 01, "The walk": "Choice (Algorithm 2, SKC)"; paper 004, Algorithm 2).
+-- The choice of a variable: SKC (document 01, "The walk": "Choice (Algorithm 2, SKC)"; paper 004, Algorithm 2) or Novelty+ (document 02, T-09).
 -- Assumes nothing.
 use Prim.Native.Nat.{ℕ, suc, min}
 use mathlib.Core.Bool.{not, cond}
@@ -9,8 +9,9 @@ use Rattle.plpb.specs.Lists.{_and_, keep, isEmpty, row}
 use Rattle.plpb.specs.Plan.{Clause, Plan, Assignment, isLocked, names}
 use Rattle.plpb.specs.Count.{cap, cappedBreak}
 use Rattle.plpb.specs.Walk.{Walk, done, pick, _>>=_}
-use Rattle.plpb.specs.Settings.{Settings}
+use Rattle.plpb.specs.Settings.{Heuristic, skc, novelty, Settings}
 use Rattle.plpb.specs.Try.{Try}
+use Rattle.plpb.specs.Novelty.{ranked, isNewest}
 
 -- "the clause's variables, each once", in ascending order; "Only unlocked variables of a clause may be chosen"
 unfoldable pub choosable : Plan → Clause → List ℕ
@@ -37,7 +38,31 @@ noisyChoice s p t xs = do
   pickFrom 0 (cond (ltb r (s .noise)) (withBreak p (t .bits) (leastBreak p (t .bits) xs) xs) xs)
 
 -- "Choice (Algorithm 2, SKC) among the clause's variables, each once: if any has break count 0, pick among those."
-unfoldable pub choice : Settings → Plan → Try → List ℕ → Walk ℕ
-choice s p t xs =
+unfoldable pub skcChoice : Settings → Plan → Try → List ℕ → Walk ℕ
+skcChoice s p t xs =
     let free = withBreak p (t .bits) 0 xs in
     cond (isEmpty free) (noisyChoice s p t xs) (pickFrom 0 free)
+
+-- "If the first is not the one most recently flipped in this try among them, or it is alone, flip it. Otherwise a number under noise takes the second,
+-- else the first." The variables are xs, ranked as in the list behind them.
+unfoldable pub rankedChoice : Settings → Try → List ℕ → List ℕ → Walk ℕ
+rankedChoice s t xs [] = done 0
+rankedChoice s t xs (x ∷ []) = done x
+rankedChoice s t xs (x ∷ y ∷ ys) =
+    let noisy = pick 1_000 (λ r. done (cond (ltb r (s .noise)) y x)) in
+    cond (isNewest t xs x) noisy (done x)
+
+-- "One number under the walk chance, per 1,000, leads to a pick among the clause's unlocked variables. Otherwise rank them"; "Numbers are judged as in
+-- T-06."
+unfoldable pub noveltyChoice : Settings → Plan → Try → List ℕ → Walk ℕ
+noveltyChoice s p t xs = do
+  r ← pick 1_000 done
+  cond (ltb r (s .chance)) (pickFrom 0 xs) (rankedChoice s t xs (ranked p t xs))
+
+unfoldable pub choiceBy : Heuristic → Settings → Plan → Try → List ℕ → Walk ℕ
+choiceBy skc s p t xs = skcChoice s p t xs
+choiceBy novelty s p t xs = noveltyChoice s p t xs
+
+-- "Offer Novelty+ (Hoos, 1999) beside it."
+unfoldable pub choice : Settings → Plan → Try → List ℕ → Walk ℕ
+choice s p t xs = choiceBy (s .heuristic) s p t xs

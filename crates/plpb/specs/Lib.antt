@@ -12,6 +12,7 @@ pub mod Numbers
 pub mod Walk
 pub mod Settings
 pub mod Try
+pub mod Novelty
 pub mod Choice
 pub mod Search
 pub mod Sound

@@ -77,7 +77,7 @@ drop-more {n} {m} s t h e =
     ap (λ i. drop i s) (sym k) ∙ sym (drop-drop (m - n) n s) ∙ ap (drop (m - n)) e ∙ drop-drop (m - n) n t ∙ ap (λ i. drop i t) k
 
 module _ (l : Lent) (k : Asked) (z : searchRefusal l k ≡ 0) {r : Searched} {exit : List ℕ} {v : Work}
-    (h : Whole (record { noise = k .noise; tries = k .tries; flips = k .flips; mode = modeOf (k .mode) }) (planOfTables (l .tables) (l .terms)) (l .numbers) r (l .assignment) exit
+    (h : Whole (settingsOf k) (planOfTables (l .tables) (l .terms)) (l .numbers) r (l .assignment) exit
     (record { assignment = l .workAssignment; tallies = l .workTallies; marks = l .workMarks }) v)
     {n : ℕ} (e : n ≡ endingNumber (endingOf (r .ending))) (f : SFits w64 (r .progress .cost))
   where

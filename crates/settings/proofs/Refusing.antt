@@ -7,9 +7,21 @@ use borrow.Author.Tests.{lt-ltb, le-ltb, lt-leb, le-leb}
 use Rattle.plpb.specs.Lists.{_and_}
 use Rattle.format.specs.File.{refuse}
 use Rattle.settings.specs.declared.Settings.{Settings as Asked}
-use Rattle.settings.specs.Settings.{settingsRefusal}
+use Rattle.settings.specs.Settings.{choiceRefusal, settingsRefusal}
 
 module _ (k : Asked) where
+  pub heuristic-15 : 1 < k .heuristic → 15 ≡ choiceRefusal k
+  unfolding choiceRefusal refuse
+  heuristic-15 h = rw (lt-ltb 1 (k .heuristic) h)
+
+  pub chance-16 : k .heuristic ≤ 1 → 1_000 < k .chance → 16 ≡ choiceRefusal k
+  unfolding choiceRefusal refuse
+  chance-16 a h = rw (le-ltb 1 (k .heuristic) a, lt-ltb 1_000 (k .chance) h)
+
+  pub choice-0 : k .heuristic ≤ 1 → k .chance ≤ 1_000 → 0 ≡ choiceRefusal k
+  unfolding choiceRefusal refuse
+  choice-0 a h = rw (le-ltb 1 (k .heuristic) a, le-ltb 1_000 (k .chance) h)
+
   pub noise-11 : 1_000 < k .noise → 11 ≡ settingsRefusal k
   unfolding settingsRefusal refuse
   noise-11 h = rw (lt-ltb 1_000 (k .noise) h)
@@ -42,8 +54,8 @@ module _ (k : Asked) where
                 rw
                 (le-ltb 1_000 (k .noise) a, le-leb 1 (k .tries) b, le-leb (k .tries) 1_000 d, le-leb 1 (k .flips) e, le-leb (k .flips) 1_000_000 f, lt-ltb 1 (k .mode) h)
 
-            pub settings-0 : k .mode ≤ 1 → 0 ≡ settingsRefusal k
+            pub by-choice : k .mode ≤ 1 → choiceRefusal k ≡ settingsRefusal k
             unfolding settingsRefusal refuse _and_
-            settings-0 h =
+            by-choice h =
                 rw
                 (le-ltb 1_000 (k .noise) a, le-leb 1 (k .tries) b, le-leb (k .tries) 1_000 d, le-leb 1 (k .flips) e, le-leb (k .flips) 1_000_000 f, le-ltb 1 (k .mode) h)

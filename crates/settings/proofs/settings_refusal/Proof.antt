@@ -1,7 +1,9 @@
 -- `settings_refusal` meets its contract: each test answers what the definition asks next.
 -- Assumes nothing.
+use borrow.Author.Needs.{needs}
 use native.Mathlib.Omega.{arith}
-use Rattle.settings.proofs.Refusing.{noise-11, few-12, many-12, few-13, many-13, mode-14, settings-0}
+use mathlib.Core.Path.{_∙_}
+use Rattle.settings.proofs.Refusing.{noise-11, few-12, many-12, few-13, many-13, mode-14, by-choice}
 use Rattle.settings.proofs.settings_refusal.Statement.{statement}
 use Rattle.settings.proofs.settings_refusal.Tie as tie
 
@@ -24,8 +26,8 @@ returns-6 : tie.Need-returns-6
 returns-6 c = mode-14 _ (omega arith) (omega arith) (omega arith) (omega arith) (omega arith) (omega arith)
 
 returns-7 : tie.Need-returns-7
-returns-7 c = settings-0 _ (omega arith) (omega arith) (omega arith) (omega arith) (omega arith) (omega arith)
+returns-7 c = c .choice-refusal .ensures ∙ by-choice _ (omega arith) (omega arith) (omega arith) (omega arith) (omega arith) (omega arith)
 
 pub settings-refusal-spec : {M : Type 1} → statement M
 settings-refusal-spec =
-    tie.close (tie.spec returns returns-2 returns-3 returns-4 returns-5 returns-6 returns-7)
+    tie.close (tie.spec returns returns-2 returns-3 returns-4 returns-5 returns-6 (λ c κs. search needs) returns-7)
