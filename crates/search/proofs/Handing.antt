@@ -25,7 +25,7 @@ use Rattle.tallies.specs.Layout.{assignmentSize, tallySize, bitsOf}
 use Rattle.numbers.specs.Numbers.{numbersOf}
 use Rattle.progress.specs.declared.Searched.{Searched}
 use Rattle.settings.specs.declared.Settings.{Settings as Asked}
-use Rattle.settings.specs.Settings.{modeOf}
+use Rattle.settings.specs.Settings.{settingsOf}
 use Rattle.lending.specs.Work.{Work}
 use Rattle.lending.specs.Lent.{Lent, searchRefusal}
 use Rattle.search.specs.Calls.{answer, searchAssignment, cleared, endingNumber, unless, Searches, HandsOut}
