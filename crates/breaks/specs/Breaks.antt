@@ -2,7 +2,7 @@
 -- Assumes nothing.
 use Prim.Native.Nat.{ℕ}
 use mathlib.Core.Path.{_≡_}
-use mathlib.Core.List.{List}
+use mathlib.Core.List.{List, []}
 use Rattle.plpb.specs.Plan.{Rule, Assignment}
 use Rattle.plpb.specs.Try.{Try}
 use Rattle.order.specs.Breaks.{spoilsPart, falseAfter}
@@ -14,9 +14,9 @@ use Rattle.breaks.specs.declared.Effect.{Effect}
 abbrev pub lentBits : List ℕ → List ℕ → List ℕ → Assignment
 lentBits tables terms assignment = bitsOf (planOfTables tables terms .variables) assignment
 
--- .. which a try holds.
+-- .. which a try holds, at its start: SKC asks for nothing but the assignment.
 abbrev pub lentTry : List ℕ → List ℕ → List ℕ → Try
-lentTry tables terms assignment = record { bits = lentBits tables terms assignment }
+lentTry tables terms assignment = record { bits = lentBits tables terms assignment; flips = [] }
 
 pub record EffectOf (a : Assignment) (x : ℕ) (q : Rule) (e : Effect) : Type 0 where
   pub fails : e .fails ≡ falseAfter a x q

@@ -18,7 +18,7 @@ use Rattle.plpb.specs.Numbers.{takePick}
 use Rattle.plpb.specs.Walk.{Walk, at, ends, run}
 use Rattle.plpb.specs.Settings.{Settings}
 use Rattle.plpb.specs.Try.{Try}
-use Rattle.plpb.specs.Choice.{choosable, pickFrom, leastBreak, withBreak, noisyChoice, choice}
+use Rattle.plpb.specs.Choice.{choosable, pickFrom, leastBreak, withBreak, noisyChoice, skcChoice}
 use Rattle.words.specs.Words.{wordAt}
 use Rattle.format.specs.Tables.{lockWord, planOfTables}
 use Rattle.format.proofs.LockWords.{lock-word}
@@ -32,7 +32,7 @@ use Rattle.numbers.specs.Finding.{marked}
 use Rattle.numbers.proofs.Keep.{kept-low, kept-high}
 use Rattle.numbers.proofs.Taking.{length-numbersOf, picked-at, picked-short, place-below, pick-uses, pick-gone}
 use Rattle.numbers.proofs.Finding.{marked-by}
-use Rattle.numbers.proofs.Runs.{pickFrom-taken, pickFrom-short, empty-by-length, noisy-least, noisy-any, noisy-short, choice-free, choice-noisy}
+use Rattle.numbers.proofs.Runs.{pickFrom-taken, pickFrom-short, empty-by-length, noisy-least, noisy-any, noisy-short, skc-free, skc-noisy}
 use Rattle.choice.specs.declared.choose.Chosen.{Chosen}
 use Rattle.choice.specs.declared.choose.Chosen.the-variants as chosen
 use Rattle.free.specs.Marks.{markBy, clauseMarks, hasBreak, Parted}
@@ -89,7 +89,7 @@ module _ {numbers marks : List ℕ} {used n value m : ℕ} (h : PickMarked numbe
 -- ---- the noisy choice
 
 -- A walk that comes to another from a later place in the list.
-later : {w v : Walk ℕ} {ns : List ℕ} {used after n : ℕ} {q : Chosen} → ((f : ℕ) (fs : List Assignment) → run w ns (at used f fs) ≡ run v ns (at after f fs)) → used ≤ after → Chooses v ns after n q → Chooses w ns used n q
+pub later : {w v : Walk ℕ} {ns : List ℕ} {used after n : ℕ} {q : Chosen} → ((f : ℕ) (fs : List Assignment) → run w ns (at used f fs) ≡ run v ns (at after f fs)) → used ≤ after → Chooses v ns after n q → Chooses w ns used n q
 later e h c =
     record { outcome = λ f fs. e f fs ∙ c .outcome f fs; among = c .among; uses = omega (arith, c .uses); within = c .within }
 
@@ -250,15 +250,15 @@ module _ {tables terms : List ℕ} (y : Laid tables terms) (a : Try) {n : ℕ} (
         record { few = omega (arith, size, h .few); bytes = omega (arith, size, h .bytes, r .size); some = rw (size, candidates-stay none) (h .some); listed = h .listed }
 
     pub noisy-chosen : (k : Settings) → free ≤ 0 → {q : Chosen} → Chooses (noisyChoice k (planOfTables tables terms) a (marked u n 1)) (numbersOf numbers) used n q
-        → Chooses (choice k (planOfTables tables terms) a (marked t (planOfTables tables terms .variables) 1)) (numbersOf numbers) used (planOfTables tables terms .variables) q
+        → Chooses (skcChoice k (planOfTables tables terms) a (marked t (planOfTables tables terms .variables) 1)) (numbersOf numbers) used (planOfTables tables terms .variables) q
     noisy-chosen k none g =
         let xs = withBreak plan (a .bits) 0 candidates in
         let z : isEmpty xs ≡ true = empty-by-length xs ∙ eq-eqb (length xs) 0 (omega (arith, count)) in
-        later (λ f fs. choice-noisy k plan a candidates (numbersOf numbers) (at used f fs) z) (omega arith) (rw (size, candidates-stay none) at g)
+        later (λ f fs. skc-noisy k plan a candidates (numbersOf numbers) (at used f fs) z) (omega arith) (rw (size, candidates-stay none) at g)
 
   pub free-chosen : (k : Settings) → 0 < free → {ns : List ℕ} {used : ℕ} {q : Chosen} → Chooses (pickFrom 0 (marked u n 2)) ns used n q
-      → Chooses (choice k (planOfTables tables terms) a (marked t (planOfTables tables terms .variables) 1)) ns used (planOfTables tables terms .variables) q
+      → Chooses (skcChoice k (planOfTables tables terms) a (marked t (planOfTables tables terms .variables) 1)) ns used (planOfTables tables terms .variables) q
   free-chosen k some {ns} {used} g =
       let xs = withBreak plan (a .bits) 0 candidates in
       let z : isEmpty xs ≡ false = empty-by-length xs ∙ ne-eqb (length xs) 0 (λ o. omega (arith, count)) in
-      later (λ f fs. choice-free k plan a candidates ns (at used f fs) z) (omega arith) (rw (size, freely) at g)
+      later (λ f fs. skc-free k plan a candidates ns (at used f fs) z) (omega arith) (rw (size, freely) at g)

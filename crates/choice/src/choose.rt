@@ -3,7 +3,7 @@ ghost use mathlib.Core.Path.{_≡_};
 ghost use Prim.Native.Nat.{_≤_, _<_};
 ghost use lib.Dec.{ltb};
 ghost use lib.ListN.{length, getD, drop};
-ghost use Rattle.plpb.specs.Choice.{pickFrom, leastBreak, withBreak, noisyChoice, choice};
+ghost use Rattle.plpb.specs.Choice.{pickFrom, leastBreak, withBreak, noisyChoice, skcChoice};
 ghost use Rattle.format.specs.Tables.{planOfTables};
 ghost use Rattle.recount.specs.Core.{Ready};
 ghost use Rattle.numbers.specs.Numbers.{numbersOf};
@@ -47,7 +47,7 @@ fn pick_marked(numbers: &[u8], used: usize, marks: &[u8], n: usize, value: u8, m
 }
 
 // "else to a pick among all"
-fn choose_any(numbers: &[u8], used: usize, n: usize, marks: &[u8]) -> Chosen
+pub fn choose_any(numbers: &[u8], used: usize, n: usize, marks: &[u8]) -> Chosen
     requires { ⌜ ToChoose (now numbers) used n (now marks) ⌝ }
     ensures { λ r. ⌜ Chooses (pickFrom 0 (marked (now (marks .entry)) n 1)) (numbersOf (now (numbers .entry))) used n r ⌝ }
 {
@@ -80,7 +80,7 @@ fn choose_least(
     pick_marked(numbers, used, marks, n, 2, few)
 }
 
-fn is_below(r: usize, noise: u32) -> bool
+pub fn is_below(r: usize, noise: u32) -> bool
     ensures { λ t. ⌜ t ≡ ltb r noise ⌝ }
 {
     r < noise as usize
@@ -131,7 +131,7 @@ pub fn choose(
     requires { ⌜ Ready (now tables) (now terms) (now assignment)
         × ToChoose (now numbers) used (planOfTables (now tables) (now terms) .variables) (now marks) ⌝ }
     ensures { λ r. ⌜ Chooses
-        (choice (settingsOf s) (planOfTables (now (tables .entry)) (now (terms .entry)))
+        (skcChoice (settingsOf s) (planOfTables (now (tables .entry)) (now (terms .entry)))
         (lentTry (now (tables .entry)) (now (terms .entry)) (now (assignment .entry)))
         (marked (now (marks .entry)) (planOfTables (now (tables .entry)) (now (terms .entry)) .variables) 1)) (numbersOf (now (numbers .entry))) used
         (planOfTables (now (tables .entry)) (now (terms .entry)) .variables) r

@@ -147,6 +147,16 @@ holdingAt c = 1_025 + c
 abbrev pub unsatisfiedAt : ℕ
 unsatisfiedAt = 1_538
 
--- The marks of a search: a byte for each variable.
+-- The marks of a search: a byte for each variable, then a word for each, the number of its last flip in a try.
 abbrev pub markSize : ℕ
-markSize = 512
+markSize = 2_560
+
+-- Where those words begin and how many they are, in bytes; the word of a variable.
+abbrev pub stampByte : ℕ
+stampByte = 512
+
+abbrev pub stampSize : ℕ
+stampSize = 2_048
+
+abbrev pub stampAt : ℕ → ℕ
+stampAt x = 127 + x

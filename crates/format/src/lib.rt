@@ -72,4 +72,9 @@ pub const TALLIES: usize = 4 * (UNSATISFIED + 1);
 // A byte for each variable: an assignment, and the marks of a search.
 pub const ASSIGNMENT: usize = MAX_VARIABLES;
 
-pub const MARKS: usize = MAX_VARIABLES;
+// Behind the marks a word for each variable, the number of its last flip in a try: where these words begin in bytes, and that of a variable, at its number more.
+pub const STAMP_BYTE: usize = MAX_VARIABLES;
+
+pub const STAMPS: usize = MAX_VARIABLES / 4 - 1;
+
+pub const MARKS: usize = STAMP_BYTE + 4 * MAX_VARIABLES;

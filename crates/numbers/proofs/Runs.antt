@@ -13,7 +13,7 @@ use Rattle.plpb.specs.Numbers.{Taken, taken, tooFew, takeWords, takePick, start
 use Rattle.plpb.specs.Walk.{Walk, done, words, pick, flipped, _>>=_, Mark, drawn, oneFlip, oneFind, ends, short, run}
 use Rattle.plpb.specs.Settings.{Mode, Settings}
 use Rattle.plpb.specs.Try.{Try, begun, turnOver}
-use Rattle.plpb.specs.Choice.{pickFrom, leastBreak, withBreak, noisyChoice, choice}
+use Rattle.plpb.specs.Choice.{pickFrom, leastBreak, withBreak, noisyChoice, skcChoice, choice}
 use Rattle.plpb.specs.Search.{Reached, failed, reached, Turn, stuck, turned, turning, move, goOn, flipping, try, orElse, trying, call, tightened, boundIn, Ending, floor, none, atFloor, gap, after, descending, tighten, searchWalk}
 use Rattle.plpb.proofs.Walks.{resume, run-words, run-pick, onward, run-bind}
 
@@ -102,13 +102,13 @@ module _ (s : Settings) (p : Plan) (t : Try) (xs : List ℕ) (ns : List ℕ) (m 
   unfolding noisyChoice
   noisy-short e = bind-short (pick 1_000 done) (λ r. pickFrom 0 (cond (ltb r (s .noise)) leasts xs)) ns m (run-pick-short 1_000 done ns m e)
 
-  pub choice-free : isEmpty (withBreak p (t .bits) 0 xs) ≡ false → run (choice s p t xs) ns m ≡ run (pickFrom 0 (withBreak p (t .bits) 0 xs)) ns m
-  unfolding choice
-  choice-free e = run-false (noisyChoice s p t xs) (pickFrom 0 frees) ns m e
+  pub skc-free : isEmpty (withBreak p (t .bits) 0 xs) ≡ false → run (skcChoice s p t xs) ns m ≡ run (pickFrom 0 (withBreak p (t .bits) 0 xs)) ns m
+  unfolding skcChoice
+  skc-free e = run-false (noisyChoice s p t xs) (pickFrom 0 frees) ns m e
 
-  pub choice-noisy : isEmpty (withBreak p (t .bits) 0 xs) ≡ true → run (choice s p t xs) ns m ≡ run (noisyChoice s p t xs) ns m
-  unfolding choice
-  choice-noisy e = run-true (noisyChoice s p t xs) (pickFrom 0 frees) ns m e
+  pub skc-noisy : isEmpty (withBreak p (t .bits) 0 xs) ≡ true → run (skcChoice s p t xs) ns m ≡ run (noisyChoice s p t xs) ns m
+  unfolding skcChoice
+  skc-noisy e = run-true (noisyChoice s p t xs) (pickFrom 0 frees) ns m e
 
   -- ---- a turn: a variable is chosen, if there is one, and flipped
 

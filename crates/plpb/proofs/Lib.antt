@@ -7,6 +7,7 @@ pub mod Factors
 pub mod Capped
 pub mod Flip
 pub mod Locks
+pub mod Novelty
 pub mod Normal
 pub mod Choices
 pub mod Theorem2

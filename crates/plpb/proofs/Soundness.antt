@@ -16,7 +16,7 @@ use Rattle.plpb.specs.Plan.{Clause, Plan, Assignment, isLocked, hold, ob
 use Rattle.plpb.specs.Walk.{Walk, done, pick, flipped, _>>=_, Mark, at, oneFind, Outcome, ends, short, run, looks}
 use Rattle.plpb.specs.Settings.{Mode, linear, lbs, Heuristic, skc, novelty, Settings}
 use Rattle.plpb.specs.Try.{Try, begun, turnOver}
-use Rattle.plpb.specs.Novelty.{ranksBefore, placed, ranked, isNewest}
+use Rattle.plpb.specs.Novelty.{lastFlip, ranksBefore, placed, ranked, isNewest}
 use Rattle.plpb.specs.Choice.{choosable, pickFrom, leastBreak, withBreak, noisyChoice, skcChoice, rankedChoice, noveltyChoice, choiceBy, choice}
 use Rattle.plpb.specs.Tallies.{unsatisfied}
 use Rattle.plpb.specs.Search.{Reached, failed, reached, Turn, stuck, turned, turning, move, goOn, flipping, try, orElse, trying, call, tightened, boundIn, Ending, floor, ended, none, short-found, short-none, atFloor, gap, after, descending, linearSearch, lbsSearch, tighten, searchWalk, lastFind, costOf, answerOf, conclude, begin, search}
@@ -48,20 +48,20 @@ module _ (P : ℕ → Type 0) (q : ℕ → Bool) (z : P 0) where
       either true e k = behind x (keep q xs) (h 0 (T-true e)) k
 
 -- .. and of those ranked.
-module _ (P : ℕ → Type 0) (z : P 0) (p : Plan) (t : Try) where
-  placed-at : (x : ℕ) (ys : List ℕ) → P x → ((i : ℕ) → P (getD ys i 0)) → (i : ℕ) → P (getD (placed p t x ys) i 0)
+module _ (P : ℕ → Type 0) (z : P 0) (p : Plan) (a : Assignment) (last : ℕ → ℕ) where
+  placed-at : (x : ℕ) (ys : List ℕ) → P x → ((i : ℕ) → P (getD ys i 0)) → (i : ℕ) → P (getD (placed p a last x ys) i 0)
   unfolding placed
   placed-at x [] h k = behind P (λ y. true) z x [] h k
-  placed-at x (y ∷ ys) h k = either (ranksBefore p t y x) (placed-at x ys h (λ i. k (suc i)))
+  placed-at x (y ∷ ys) h k = either (ranksBefore p a last y x) (placed-at x ys h (λ i. k (suc i)))
     where
-      either : (b : Bool) → ((i : ℕ) → P (getD (placed p t x ys) i 0)) → (i : ℕ) → P (getD (cond b (y ∷ placed p t x ys) (x ∷ y ∷ ys)) i 0)
-      either true j = behind P (λ y. true) z y (placed p t x ys) (k 0) j
+      either : (b : Bool) → ((i : ℕ) → P (getD (placed p a last x ys) i 0)) → (i : ℕ) → P (getD (cond b (y ∷ placed p a last x ys) (x ∷ y ∷ ys)) i 0)
+      either true j = behind P (λ y. true) z y (placed p a last x ys) (k 0) j
       either false j = behind P (λ y. true) z x (y ∷ ys) h k
 
-  ranked-at : (xs : List ℕ) → ((i : ℕ) → P (getD xs i 0)) → (i : ℕ) → P (getD (ranked p t xs) i 0)
+  ranked-at : (xs : List ℕ) → ((i : ℕ) → P (getD xs i 0)) → (i : ℕ) → P (getD (ranked p a last xs) i 0)
   unfolding ranked
   ranked-at [] h = h
-  ranked-at (x ∷ xs) h = placed-at x (ranked p t xs) (h 0) (ranked-at xs (λ i. h (suc i)))
+  ranked-at (x ∷ xs) h = placed-at x (ranked p a last xs) (h 0) (ranked-at xs (λ i. h (suc i)))
 
 module _ (s : Settings) (p : Plan) (t : Try) (xs : List ℕ) (P : ℕ → Type 0) (z : P 0) (each : (i : ℕ) → P (getD xs i 0)) where
   noisy-draws : Draws P (noisyChoice s p t xs)
@@ -80,11 +80,11 @@ module _ (s : Settings) (p : Plan) (t : Try) (xs : List ℕ) (P : ℕ → Type 0
       either true = noisy-draws
       either false = pick-draws P 0 (withBreak p (t .bits) 0 xs) (unfold withBreak in kept-at P _ z xs (λ i h. each i))
 
-  ranked-draws : (ys : List ℕ) → ((i : ℕ) → P (getD ys i 0)) → Draws P (rankedChoice s t xs ys)
+  ranked-draws : (last : ℕ → ℕ) (ys : List ℕ) → ((i : ℕ) → P (getD ys i 0)) → Draws P (rankedChoice s last xs ys)
   unfolding rankedChoice Draws
-  ranked-draws [] h = z
-  ranked-draws (x ∷ []) h = h 0
-  ranked-draws (x ∷ y ∷ ys) h = either (isNewest t xs x)
+  ranked-draws last [] h = z
+  ranked-draws last (x ∷ []) h = h 0
+  ranked-draws last (x ∷ y ∷ ys) h = either (isNewest last xs x)
     where
       one : (b : Bool) → P (cond b y x)
       one true = h 1
@@ -94,21 +94,21 @@ module _ (s : Settings) (p : Plan) (t : Try) (xs : List ℕ) (P : ℕ → Type 0
       either true = λ r. one (ltb r (s .noise))
       either false = h 0
 
-  novelty-draws : Draws P (noveltyChoice s p t xs)
+  novelty-draws : (a : Assignment) (last : ℕ → ℕ) → Draws P (noveltyChoice s p a last xs)
   unfolding noveltyChoice Draws _>>=_
-  novelty-draws r = either (ltb r (s .chance))
+  novelty-draws a last r = either (ltb r (s .chance))
     where
-      either : (b : Bool) → Draws P (cond b (pickFrom 0 xs) (rankedChoice s t xs (ranked p t xs)))
+      either : (b : Bool) → Draws P (cond b (pickFrom 0 xs) (rankedChoice s last xs (ranked p a last xs)))
       either true = pick-draws P 0 xs each
-      either false = ranked-draws (ranked p t xs) (ranked-at P z p t xs each)
+      either false = ranked-draws last (ranked p a last xs) (ranked-at P z p a last xs each)
 
   pub choice-draws : Draws P (choice s p t xs)
   unfolding choice
   choice-draws = by (s .heuristic)
     where
-      by : (h : Heuristic) → Draws P (choiceBy h s p t xs)
+      by : (h : Heuristic) → Draws P (choiceBy h s p t (lastFlip (t .flips)) xs)
       by skc = unfold choiceBy in skc-draws
-      by novelty = unfold choiceBy in novelty-draws
+      by novelty = unfold choiceBy in novelty-draws (t .bits) (lastFlip (t .flips))
 
 -- "Only unlocked variables of a clause may be chosen"
 abbrev Free : Plan → ℕ → Type 0

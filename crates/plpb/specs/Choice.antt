@@ -11,7 +11,7 @@ use Rattle.plpb.specs.Count.{cap, cappedBreak}
 use Rattle.plpb.specs.Walk.{Walk, done, pick, _>>=_}
 use Rattle.plpb.specs.Settings.{Heuristic, skc, novelty, Settings}
 use Rattle.plpb.specs.Try.{Try}
-use Rattle.plpb.specs.Novelty.{ranked, isNewest}
+use Rattle.plpb.specs.Novelty.{lastFlip, ranked, isNewest}
 
 -- "the clause's variables, each once", in ascending order; "Only unlocked variables of a clause may be chosen"
 unfoldable pub choosable : Plan → Clause → List ℕ
@@ -44,25 +44,26 @@ skcChoice s p t xs =
     cond (isEmpty free) (noisyChoice s p t xs) (pickFrom 0 free)
 
 -- "If the first is not the one most recently flipped in this try among them, or it is alone, flip it. Otherwise a number under noise takes the second,
--- else the first." The variables are xs, ranked as in the list behind them.
-unfoldable pub rankedChoice : Settings → Try → List ℕ → List ℕ → Walk ℕ
-rankedChoice s t xs [] = done 0
-rankedChoice s t xs (x ∷ []) = done x
-rankedChoice s t xs (x ∷ y ∷ ys) =
+-- else the first." The variables are xs, and ranked in the list behind them.
+unfoldable pub rankedChoice : Settings → (ℕ → ℕ) → List ℕ → List ℕ → Walk ℕ
+rankedChoice s last xs [] = done 0
+rankedChoice s last xs (x ∷ []) = done x
+rankedChoice s last xs (x ∷ y ∷ ys) =
     let noisy = pick 1_000 (λ r. done (cond (ltb r (s .noise)) y x)) in
-    cond (isNewest t xs x) noisy (done x)
+    cond (isNewest last xs x) noisy (done x)
 
 -- "One number under the walk chance, per 1,000, leads to a pick among the clause's unlocked variables. Otherwise rank them"; "Numbers are judged as in
 -- T-06."
-unfoldable pub noveltyChoice : Settings → Plan → Try → List ℕ → Walk ℕ
-noveltyChoice s p t xs = do
+unfoldable pub noveltyChoice : Settings → Plan → Assignment → (ℕ → ℕ) → List ℕ → Walk ℕ
+noveltyChoice s p a last xs = do
   r ← pick 1_000 done
-  cond (ltb r (s .chance)) (pickFrom 0 xs) (rankedChoice s t xs (ranked p t xs))
+  cond (ltb r (s .chance)) (pickFrom 0 xs) (rankedChoice s last xs (ranked p a last xs))
 
-unfoldable pub choiceBy : Heuristic → Settings → Plan → Try → List ℕ → Walk ℕ
-choiceBy skc s p t xs = skcChoice s p t xs
-choiceBy novelty s p t xs = noveltyChoice s p t xs
+-- The choice of each heuristic; `last` says of each variable the number of its last flip in this try.
+unfoldable pub choiceBy : Heuristic → Settings → Plan → Try → (ℕ → ℕ) → List ℕ → Walk ℕ
+choiceBy skc s p t last xs = skcChoice s p t xs
+choiceBy novelty s p t last xs = noveltyChoice s p (t .bits) last xs
 
 -- "Offer Novelty+ (Hoos, 1999) beside it."
 unfoldable pub choice : Settings → Plan → Try → List ℕ → Walk ℕ
-choice s p t xs = choiceBy (s .heuristic) s p t xs
+choice s p t xs = choiceBy (s .heuristic) s p t (lastFlip (t .flips)) xs

@@ -11,7 +11,6 @@ use Rattle.plpb.specs.Lists.{_and_, _or_}
 use Rattle.plpb.specs.Plan.{Plan, Assignment}
 use Rattle.plpb.specs.Expansion.{breakCount, makeCount}
 use Rattle.plpb.specs.Count.{given}
-use Rattle.plpb.specs.Try.{Try}
 
 -- "make minus break, where a cut count stands as 4,294,967,295"
 unfoldable pub score : Plan → Assignment → ℕ → ℤ
@@ -22,34 +21,33 @@ unfoldable pub lastFlip : List ℕ → ℕ → ℕ
 lastFlip [] x = 0
 lastFlip (y ∷ earlier) x = cond (eqb y x) (suc (length earlier)) (lastFlip earlier x)
 
--- "equals by longest unflipped in this try (never flipped first), then by number": whether x comes before y.
-unfoldable pub isOlder : Try → ℕ → ℕ → Bool
-isOlder t x y =
-    let a = lastFlip (t .flips) x in
-    let b = lastFlip (t .flips) y in
-    ltb a b or (eqb a b and ltb x y)
+-- "equals by longest unflipped in this try (never flipped first), then by number": whether x comes before y, by the numbers of their last flips.
+unfoldable pub isOlder : (ℕ → ℕ) → ℕ → ℕ → Bool
+isOlder last x y = ltb (last x) (last y) or (eqb (last x) (last y) and ltb x y)
 
--- "rank them by make minus break [..], highest first", equals as above: whether x comes before y.
-unfoldable pub ranksBefore : Plan → Try → ℕ → ℕ → Bool
-ranksBefore p t x y =
-    let higher = ltZ (score p (t .bits) y) (score p (t .bits) x) in
-    let lower = ltZ (score p (t .bits) x) (score p (t .bits) y) in
-    higher or (not lower and isOlder t x y)
+-- The variables are ranked under an assignment, and `last` says of each the number of its last flip in this try.
+module _ (p : Plan) (a : Assignment) (last : ℕ → ℕ) where
+  -- "rank them by make minus break [..], highest first", equals as above: whether x comes before y.
+  unfoldable pub ranksBefore : ℕ → ℕ → Bool
+  ranksBefore x y =
+      let higher = ltZ (score p a y) (score p a x) in
+      let lower = ltZ (score p a x) (score p a y) in
+      higher or (not lower and isOlder last x y)
 
--- A variable put among ranked ones.
-unfoldable pub placed : Plan → Try → ℕ → List ℕ → List ℕ
-placed p t x [] = x ∷ []
-placed p t x (y ∷ ys) = cond (ranksBefore p t y x) (y ∷ placed p t x ys) (x ∷ y ∷ ys)
+  -- A variable put among ranked ones.
+  unfoldable pub placed : ℕ → List ℕ → List ℕ
+  placed x [] = x ∷ []
+  placed x (y ∷ ys) = cond (ranksBefore y x) (y ∷ placed x ys) (x ∷ y ∷ ys)
 
-unfoldable pub ranked : Plan → Try → List ℕ → List ℕ
-ranked p t [] = []
-ranked p t (x ∷ xs) = placed p t x (ranked p t xs)
+  unfoldable pub ranked : List ℕ → List ℕ
+  ranked [] = []
+  ranked (x ∷ xs) = placed x (ranked xs)
 
 -- The number of the last flip in this try among some variables, 0 where none of them was flipped.
-unfoldable pub latest : Try → List ℕ → ℕ
-latest t [] = 0
-latest t (x ∷ xs) = max (lastFlip (t .flips) x) (latest t xs)
+unfoldable pub latest : (ℕ → ℕ) → List ℕ → ℕ
+latest last [] = 0
+latest last (x ∷ xs) = max (last x) (latest last xs)
 
 -- "the one most recently flipped in this try among them"
-unfoldable pub isNewest : Try → List ℕ → ℕ → Bool
-isNewest t xs x = ltb 0 (latest t xs) and eqb (lastFlip (t .flips) x) (latest t xs)
+unfoldable pub isNewest : (ℕ → ℕ) → List ℕ → ℕ → Bool
+isNewest last xs x = ltb 0 (latest last xs) and eqb (last x) (latest last xs)

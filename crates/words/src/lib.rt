@@ -46,7 +46,7 @@ pub fn byte_word(b: u8) -> u32
 }
 
 // A number as a length, a count or an index, and back.
-fn widen(n: u32) -> usize
+pub fn widen(n: u32) -> usize
     ensures { λ r. ⌜ r ≡ n ⌝ }
 {
     n as usize

@@ -1,0 +1,2 @@
+-- Laws of the choice by Novelty+.
+pub mod Choosing

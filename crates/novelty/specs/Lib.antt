@@ -1,0 +1,2 @@
+-- When Novelty+ draws a second number, as the code decides it.
+pub mod Noise

@@ -1,0 +1,2 @@
+-- Laws of the ranking.
+pub mod Ranking

@@ -1,0 +1,2 @@
+-- The first two of the ranked variables, as the code keeps them.
+pub mod Ranking
