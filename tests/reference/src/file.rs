@@ -2,7 +2,7 @@
 //! refusal" and "The program and its two lines"; document 02, T-01).
 
 use crate::plan::{Clause, Lock, Plan, Rule, Term};
-use crate::walk::Settings;
+use crate::walk::{Settings, SKC};
 
 pub const MOST_VARIABLES: usize = 512;
 pub const MOST_CLAUSES: usize = 512;
@@ -46,7 +46,7 @@ fn lawful_length(tag: u8, length: usize) -> bool {
         // "Length a multiple of 3 or 0."
         LOCKS => length.is_multiple_of(3),
         RULE => length >= 15 && (length - 9).is_multiple_of(6),
-        WALK => length == 9,
+        WALK => length == 9 || length == 12,
         _ => false,
     }
 }
@@ -211,7 +211,8 @@ pub fn parse(bytes: &[u8]) -> Result<Plan, Refusal> {
 }
 
 /// The settings of walk.bin: "one field, tag 16, length 9: noise 2 bytes, tries 2, flips 4, mode
-/// 1"; it "meets 1, 2, 3 and 7 with offsets as a plan does, then 11 to 14".
+/// 1"; it "meets 1, 2, 3 and 7 with offsets as a plan does, then 11 to 14". "Walk.bin may have length
+/// 12, with a heuristic byte (0 SKC, 1 this) and a two-byte walk chance; length 9 means SKC."
 pub fn parse_settings(bytes: &[u8]) -> Result<Settings, Refusal> {
     let Field { body, next, .. } = field(bytes, 0, &[WALK])?;
     if next < bytes.len() {
@@ -222,6 +223,8 @@ pub fn parse_settings(bytes: &[u8]) -> Result<Settings, Refusal> {
         tries: unsigned16(&body[2..]) as u32,
         flips: unsigned32(&body[4..]),
         mode: body[8] as u32,
+        heuristic: body.get(9).map_or(SKC, |&byte| byte as u32),
+        chance: body.get(10..).map_or(0, |rest| unsigned16(rest) as u32),
     };
     match settings.refusal() {
         Some(number) => refuse(number, 0),
@@ -298,13 +301,17 @@ pub fn write(plan: &Plan) -> Vec<u8> {
     bytes
 }
 
-/// walk.bin of these settings.
+/// walk.bin of these settings: of length 9 where that says all, else of length 12.
 pub fn write_settings(settings: &Settings) -> Vec<u8> {
     let mut body = Vec::new();
     body.extend((settings.noise as u16).to_le_bytes());
     body.extend((settings.tries as u16).to_le_bytes());
     body.extend(settings.flips.to_le_bytes());
     body.push(settings.mode as u8);
+    if (settings.heuristic, settings.chance) != (SKC, 0) {
+        body.push(settings.heuristic as u8);
+        body.extend((settings.chance as u16).to_le_bytes());
+    }
     write_field(WALK, &body)
 }
 

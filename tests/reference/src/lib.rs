@@ -15,6 +15,7 @@ pub mod file;
 pub mod literals;
 pub mod making;
 pub mod mapper;
+pub mod novelty;
 pub mod plan;
 pub mod program;
 pub mod random;

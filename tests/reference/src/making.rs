@@ -2,7 +2,7 @@
 
 use crate::file::MOST_WEIGHT;
 use crate::plan::{Clause, Lock, Plan, Rule, Term};
-use crate::walk::Settings;
+use crate::walk::{Settings, NOVELTY, SKC};
 
 pub fn terms(list: &[(usize, i64)]) -> Vec<Term> {
     list.iter()
@@ -87,12 +87,24 @@ pub fn difference_over_2(m: i64, w: i64) -> (Plan, Vec<bool>) {
     (plan(list.len(), &[], &[&[at_most(1, &list)]]), assignment)
 }
 
+/// Settings under SKC.
 pub fn settings(noise: u32, tries: u32, flips: u32, mode: u32) -> Settings {
     Settings {
         noise,
         tries,
         flips,
         mode,
+        heuristic: SKC,
+        chance: 0,
+    }
+}
+
+/// .. and under Novelty+ with this walk chance.
+pub fn novelty(skc: Settings, chance: u32) -> Settings {
+    Settings {
+        heuristic: NOVELTY,
+        chance,
+        ..skc
     }
 }
 

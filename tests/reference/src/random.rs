@@ -517,6 +517,8 @@ pub fn settings(random: &mut Random) -> Settings {
         tries: 1 + random.number() % [2, 5, 1_000][random.below(3)],
         flips: 1 + random.number() % [2, 20, 1_000, 1_000_000][random.below(4)],
         mode: random.number() % 2,
+        heuristic: random.number() % 2,
+        chance: [0, 1, 10, 500, 1_000, random.number() % 1_001][random.below(6)],
     }
 }
 
@@ -534,6 +536,12 @@ pub fn any_settings(random: &mut Random) -> Settings {
     }
     if random.percent(30) {
         settings.mode = [0, 1, 2, 255][random.below(4)];
+    }
+    if random.percent(30) {
+        settings.heuristic = [0, 1, 2, 255][random.below(4)];
+    }
+    if random.percent(30) {
+        settings.chance = [0, 1_000, 1_001, 65_535][random.below(4)];
     }
     settings
 }

@@ -1,13 +1,18 @@
-//! The walk (document 01, "The walk"; document 02, T-01, T-06 and T-08; paper 004, Algorithms 1 and
-//! 2; paper 000, Algorithm 1).
+//! The walk (document 01, "The walk"; document 02, T-01, T-06, T-08 and T-09; paper 004, Algorithms 1
+//! and 2; paper 000, Algorithm 1).
 
 use crate::counts::{Count, Counter};
 use crate::file::Refusal;
+use crate::novelty::{self, Candidate, Ways};
 use crate::plan::{flipped, Clause, Plan};
 use crate::tallies::Tallies;
 
 pub const LINEAR: u32 = 0;
 pub const LBS: u32 = 1;
+
+/// "A heuristic byte (0 SKC, 1 this)."
+pub const SKC: u32 = 0;
+pub const NOVELTY: u32 = 1;
 
 /// What walk.bin gives.
 #[derive(Clone, Copy, Debug, PartialEq, Eq)]
@@ -16,11 +21,15 @@ pub struct Settings {
     pub tries: u32,
     pub flips: u32,
     pub mode: u32,
+    pub heuristic: u32,
+    /// The walk chance of Novelty+, per 1,000.
+    pub chance: u32,
 }
 
 impl Settings {
     /// "11: noise outside 0 to 1,000. 12: tries outside 1 to 1,000. 13: flips outside 1 to
-    /// 1,000,000. 14: mode other than 0 (linear) or 1 (LBS)." In this order.
+    /// 1,000,000. 14: mode other than 0 (linear) or 1 (LBS)." "15 for another heuristic, 16 for a
+    /// chance above 1,000, after 14." In this order.
     pub fn refusal(&self) -> Option<u32> {
         if self.noise > 1_000 {
             Some(11)
@@ -30,6 +39,10 @@ impl Settings {
             Some(13)
         } else if self.mode != LINEAR && self.mode != LBS {
             Some(14)
+        } else if self.heuristic != SKC && self.heuristic != NOVELTY {
+            Some(15)
+        } else if self.chance > 1_000 {
+            Some(16)
         } else {
             None
         }
@@ -347,6 +360,7 @@ pub struct Seen {
     pub least: u64,
     pub any: u64,
     pub leasts: Leasts,
+    pub ways: Ways,
     /// Tries that met a clause with no unlocked variable.
     pub stuck: u64,
     /// Choices in a clause that has locked variables too.
@@ -385,7 +399,9 @@ fn call(
     let counter = Counter::new(plan);
     for _ in 0..settings.tries {
         let mut assignment = start(plan, &mut progress.numbers)?;
-        for _ in 0..settings.flips {
+        // For each variable how many flips of this try came before its last one.
+        let mut flipped_at = vec![None; plan.variables + 1];
+        for made in 0..settings.flips as u64 {
             let tallies = Tallies::fresh(plan, &assignment);
             let unsatisfied = tallies.unsatisfied_clauses();
             if unsatisfied.is_empty() {
@@ -400,14 +416,27 @@ fn call(
             }
             let all = plan.clauses[clause].variables().len();
             progress.seen.partly_locked += (variables.len() < all) as u64;
-            let break_count = |variable| {
-                let counts = counter.counts(&tallies, &assignment, variable);
-                counts.break_count.given()
-            };
+            let counts = |variable| counter.counts(&tallies, &assignment, variable);
             let numbers = &mut progress.numbers;
-            let chosen = choose(&variables, break_count, settings.noise, numbers)?;
-            progress.seen.count(chosen.how);
-            assignment = flipped(&assignment, chosen.variable);
+            let variable = if settings.heuristic == NOVELTY {
+                let candidate = |&variable: &usize| Candidate {
+                    variable,
+                    make: counts(variable).make_count.given(),
+                    break_count: counts(variable).break_count.given(),
+                    flipped: flipped_at[variable],
+                };
+                let candidates: Vec<Candidate> = variables.iter().map(candidate).collect();
+                let chosen = novelty::choose(&candidates, settings, numbers)?;
+                progress.seen.ways.count(&chosen);
+                chosen.variable
+            } else {
+                let break_count = |variable| counts(variable).break_count.given();
+                let chosen = choose(&variables, break_count, settings.noise, numbers)?;
+                progress.seen.count(chosen.how);
+                chosen.variable
+            };
+            assignment = flipped(&assignment, variable);
+            flipped_at[variable] = Some(made);
             progress.flips += 1;
         }
     }
