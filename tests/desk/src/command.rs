@@ -11,7 +11,7 @@ use reference::plan::{value, Plan};
 use reference::program::MOST_BYTES;
 use reference::random::Random;
 use reference::squeeze::squeezed;
-use reference::walk::{Settings, LBS};
+use reference::walk::{Settings, LBS, SKC};
 use std::fs;
 use std::path::Path;
 
@@ -191,6 +191,8 @@ fn map_lists(paths: [&str; 2], folder: &str, seed: &str, count: &str) -> Done {
         tries: 10,
         flips: 1_000,
         mode: LBS,
+        heuristic: SKC,
+        chance: 0,
     };
     let names = sites.iter().map(|site| on_a_line(&site.code) + "\n");
     let clauses = zones.iter().map(|zone| {

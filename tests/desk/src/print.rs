@@ -2,7 +2,7 @@
 
 use crate::names::Names;
 use reference::plan::{Clause, Plan, Rule, Term};
-use reference::walk::{Settings, LINEAR};
+use reference::walk::{Settings, LINEAR, SKC};
 
 /// A sum's lines are broken before this column; the word before a sum is short.
 const WIDTH: usize = 90;
@@ -85,16 +85,24 @@ fn variables(names: &Names) -> String {
     text
 }
 
-/// `walk noise 500 tries 10 flips 1000 mode lbs`.
+/// `walk noise 500 tries 10 flips 1000 mode lbs`, and `heuristic novelty 10` where it is not SKC
+/// alone.
 pub fn walk(settings: &Settings) -> String {
     let Settings {
         noise,
         tries,
         flips,
         mode,
+        heuristic,
+        chance,
     } = settings;
     let mode = if *mode == LINEAR { "linear" } else { "lbs" };
-    format!("walk noise {noise} tries {tries} flips {flips} mode {mode}\n")
+    let choice = match (*heuristic, *chance) {
+        (SKC, 0) => String::new(),
+        (SKC, chance) => format!(" heuristic skc {chance}"),
+        (_, chance) => format!(" heuristic novelty {chance}"),
+    };
+    format!("walk noise {noise} tries {tries} flips {flips} mode {mode}{choice}\n")
 }
 
 /// The text of a plan, and of the walk's settings where they are known.

@@ -8,7 +8,7 @@ use reference::file::{
     MOST_BOUND, MOST_CLAUSES, MOST_RULES, MOST_TERMS, MOST_VARIABLES, MOST_WEIGHT,
 };
 use reference::plan::{Clause, Lock, Plan, Rule, Term};
-use reference::walk::{Settings, LBS, LINEAR};
+use reference::walk::{Settings, LBS, LINEAR, NOVELTY, SKC};
 
 /// What a text says.
 #[derive(Clone, Debug, PartialEq, Eq)]
@@ -304,7 +304,8 @@ impl<'a> Reader<'a> {
         Ok(())
     }
 
-    /// `walk noise 500 tries 10 flips 1000 mode lbs`, in this order.
+    /// `walk noise 500 tries 10 flips 1000 mode lbs`, in this order, and behind it at times
+    /// `heuristic novelty 10`, with the walk chance; without it the choice is SKC.
     fn walk(&mut self) -> Result<(), Fault> {
         let line = self.last().line;
         if self.text.settings.is_some() {
@@ -324,13 +325,33 @@ impl<'a> Reader<'a> {
         } else {
             return self.missing("'linear' or 'lbs'");
         };
+        let (heuristic, chance) = if self.take("heuristic") {
+            self.heuristic()?
+        } else {
+            (SKC, 0)
+        };
         self.text.settings = Some(Settings {
             noise,
             tries,
             flips,
             mode,
+            heuristic,
+            chance,
         });
         Ok(())
+    }
+
+    /// `novelty 10` or `skc 0`: how a variable is chosen, and the walk chance, which only Novelty+
+    /// asks for.
+    fn heuristic(&mut self) -> Result<(u32, u32), Fault> {
+        let heuristic = if self.take("novelty") {
+            NOVELTY
+        } else if self.take("skc") {
+            SKC
+        } else {
+            return self.missing("'novelty' or 'skc'");
+        };
+        Ok((heuristic, self.number("the walk chance", 0, 1_000)? as u32))
     }
 
     fn statement(&mut self) -> Result<(), Fault> {

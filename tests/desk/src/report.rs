@@ -71,6 +71,8 @@ pub const REFUSALS: [(u32, &str); 22] = [
     (12, "the number of tries is not from 1 to 1,000"),
     (13, "the number of flips is not from 1 to 1,000,000"),
     (14, "the mode is neither 0 (linear) nor 1 (LBS)"),
+    (15, "the heuristic is neither 0 (SKC) nor 1 (Novelty+)"),
+    (16, "the walk chance is not from 0 to 1,000"),
     (21, "a buffer is too small"),
     (22, "the tables hold no plan as loading leaves it"),
     (23, "the plan has no such variable"),

@@ -6,7 +6,8 @@ use desk::read::{read, read_bytes, Text};
 use desk::report::{counted, grouped};
 use reference::file::{parse, write};
 use reference::plan::{Rule, Term};
-use reference::walk::{Settings, LBS, LINEAR};
+use reference::making;
+use reference::walk::{Settings, LBS, LINEAR, SKC};
 
 fn accepted(text: &str) -> Text {
     let read = read(text).unwrap_or_else(|fault| panic!("{fault:?} in:\n{text}"));
@@ -156,9 +157,25 @@ fn settings_of_the_walk() {
             tries,
             flips,
             mode,
+            heuristic: SKC,
+            chance: 0,
         };
         assert_eq!(settings(line), expected);
         assert_eq!(print::walk(&expected).trim_end(), line);
+        for chance in [0, 10, 1_000] {
+            let line = format!("{line} heuristic novelty {chance}");
+            let expected = making::novelty(expected, chance);
+            assert_eq!(settings(&line), expected);
+            assert_eq!(print::walk(&expected).trim_end(), line);
+        }
+        let beside = Settings {
+            chance: 10,
+            ..expected
+        };
+        assert_eq!(settings(&format!("{line} heuristic skc 10")), beside);
+        assert_eq!(settings(&format!("{line} heuristic skc 0")), expected);
+        let printed = format!("{line} heuristic skc 10");
+        assert_eq!(print::walk(&beside).trim_end(), printed);
     }
 }
 

@@ -111,6 +111,8 @@ fn the_other_two_files() {
             tries,
             flips,
             mode,
+            heuristic: 0,
+            chance: 0,
         })
     };
     for (walk, number, offset) in [

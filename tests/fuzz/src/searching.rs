@@ -22,8 +22,10 @@ fn settings(random: &mut Random) -> Settings {
             tries,
             flips,
             mode,
+            heuristic,
+            chance,
         } = &mut settings;
-        for setting in [noise, tries, flips, mode] {
+        for setting in [noise, tries, flips, mode, heuristic, chance] {
             if random.percent(40) {
                 *setting = making::word(random);
             }
@@ -57,7 +59,8 @@ pub fn case(random: &mut Random, figures: &mut Figures) -> Searched {
     let lent = Lent::sized(random, &tables, &terms, &numbers, lengths);
     let (answer, seen) = lent.check_seen(&settings(random));
     figures.note("stuck", seen.stuck > 0);
-    for (name, count) in seen.picks.named().into_iter().chain(seen.leasts.named()) {
+    let named = seen.picks.named().into_iter().chain(seen.leasts.named());
+    for (name, count) in named.chain(seen.ways.named()) {
         figures.note(name, count > 0);
     }
     let locked = || layout::loaded(&tables, &terms).is_some_and(|plan| !plan.locks.is_empty());

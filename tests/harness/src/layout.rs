@@ -30,8 +30,8 @@ pub const TABLES: usize = 4 * (ORDER_WORDS + TERMS);
 pub const TERM_TABLE: usize = 4 * (2 * TERMS);
 pub const ASSIGNMENT: usize = MOST_VARIABLES;
 pub const TALLIES: usize = 4 * (RULES + CLAUSES + 1);
-/// What a search marks: a byte for each variable.
-pub const MARKS: usize = MOST_VARIABLES;
+/// What a search keeps of each variable: a byte for its mark, then a word for its last flip in a try.
+pub const MARKS: usize = 5 * MOST_VARIABLES;
 
 /// Words are appended, and a section is filled up with zeros.
 struct Words(Vec<u8>);

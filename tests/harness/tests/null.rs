@@ -63,8 +63,8 @@ impl Buffers {
             [4, 5, 6, 7, 8].map(|place| self.lend(place));
         unsafe {
             raw::planner_search(
-                tables, a, terms, b, numbers, length, 500, 1, 1, 1, bits, c, v, d, w, e, x, f, y,
-                g, z, h,
+                tables, a, terms, b, numbers, length, 500, 1, 1, 1, 0, 0, bits, c, v, d, w, e, x,
+                f, y, g, z, h,
             )
         }
     }

@@ -3,6 +3,7 @@
 
 use harness::program::{check_files, printed, root, Folder, NAMES};
 use reference::file::{write, write_field, write_numbers, write_settings, WALK};
+use reference::making;
 use reference::plan::Plan;
 use reference::random::{self, Random};
 use reference::walk::Settings;
@@ -28,6 +29,8 @@ const EXAMPLE_SETTINGS: Settings = Settings {
     tries: 1,
     flips: 1,
     mode: 1,
+    heuristic: 0,
+    chance: 0,
 };
 
 const EXAMPLE_NUMBERS: [u32; 10] = [2, 1, 0, 5, 900, 3, 0, 5, 100, 0];
@@ -269,7 +272,7 @@ fn refusals_of_walk_bin() {
         assert_eq!(check_walk(&[tag, 9]), refusal(1, 0));
     }
     // 3: any other length, whether or not so many bytes are there.
-    for length in [0, 1, 8, 10, 15, 256, 256 + 9, 60_000] {
+    for length in [0, 1, 8, 10, 11, 13, 15, 256, 256 + 9, 256 + 12, 60_000] {
         let walk = write_field(WALK, &resized(body, length));
         assert_eq!(check_walk(&walk), refusal(3, 0));
         assert_eq!(check_walk(&walk[..3]), refusal(3, 0));
@@ -280,18 +283,30 @@ fn refusals_of_walk_bin() {
         tries: 0,
         flips: 0,
         mode: 2,
+        heuristic: 0,
+        chance: 0,
     });
     for length in [13, 14, 24, 300] {
         assert_eq!(check_walk(&resized(&EXAMPLE_WALK, length)), refusal(7, 12));
         assert_eq!(check_walk(&resized(&wrong, length)), refusal(7, 12));
     }
     assert_eq!(check_walk(&wrong), refusal(11, 0));
+    // "walk.bin may have length 12": cut short, whole, and with bytes after it.
+    let long = write_settings(&making::novelty(EXAMPLE_SETTINGS, 10));
+    assert_eq!(long.len(), 15);
+    for length in 3..15 {
+        assert_eq!(check_walk(&long[..length]), refusal(1, 0));
+    }
+    assert_eq!(check_walk(&long), SHORT_NONE);
+    for length in [16, 17, 300] {
+        assert_eq!(check_walk(&resized(&long, length)), refusal(7, 15));
+    }
 }
 
 #[test]
 fn settings_at_their_edges() {
     type Set = fn(&mut Settings, u32);
-    let cases: [(u32, Set, &[u32], &[u32]); 4] = [
+    let cases: [(u32, Set, &[u32], &[u32]); 6] = [
         (11, |s, n| s.noise = n, &[0, 1_000], &[1_001, 65_535]),
         (12, |s, n| s.tries = n, &[1, 1_000], &[0, 1_001, 65_535]),
         (
@@ -301,6 +316,8 @@ fn settings_at_their_edges() {
             &[0, 1_000_001, 1 << 31, u32::MAX],
         ),
         (14, |s, n| s.mode = n, &[0, 1], &[2, 128, 255]),
+        (15, |s, n| s.heuristic = n, &[0, 1], &[2, 128, 255]),
+        (16, |s, n| s.chance = n, &[0, 1_000], &[1_001, 65_535]),
     ];
     for (number, set, inside, outside) in cases {
         for &value in inside.iter().chain(outside) {
@@ -441,6 +458,8 @@ fn mutated_files() {
             "refused 12",
             "refused 13",
             "refused 14",
+            "refused 15",
+            "refused 16",
         ],
     );
 }
@@ -465,6 +484,8 @@ fn the_full_limits() {
         tries: 3,
         flips: 1_000,
         mode: 1,
+        heuristic: 0,
+        chance: 0,
     };
     for (locks, size) in [(0, 52_907), (400, 54_110), (512, 54_446)] {
         let plan = write(&random::locked_full_plan(&mut random, locks));

@@ -4,9 +4,11 @@ use harness::layout::{self, Part};
 use harness::planner::Searched;
 use harness::searching::{refused, Lent, ENDINGS, SIZES};
 use reference::file::{parse, parse_settings, write_numbers};
+use reference::making;
+use reference::novelty::Ways;
 use reference::plan::Plan;
 use reference::random::{self, Random};
-use reference::walk::{Leasts, Picks, Settings, LBS, LINEAR};
+use reference::walk::{Leasts, Picks, Settings, LBS, LINEAR, NOVELTY, SKC};
 use reference::worked::walks;
 
 /// Searches on noisy buffers and compares all with the reference.
@@ -154,7 +156,7 @@ fn running_short_at_every_place() {
 fn random_small_plans() {
     let mut random = Random::new(44);
     let (mut met, mut stuck, mut partly, mut found) = ([0; 6], 0, 0, 0);
-    let mut picks = Picks::default();
+    let (mut picks, mut ways) = (Picks::default(), Ways::default());
     for round in 0..6_000 {
         let plan = match round % 3 {
             0 => random::small_plan(&mut random),
@@ -170,6 +172,7 @@ fn random_small_plans() {
         let (answer, seen) = Lent::new(&mut random, &plan, &numbers).check_seen(&settings);
         met[answer.ending as usize] += 1;
         picks += seen.picks;
+        ways += seen.ways;
         stuck += (seen.stuck > 0) as u32;
         partly += (seen.partly_locked > 0) as u32;
         found += (answer.finds > 0 && !plan.locks.is_empty()) as u32;
@@ -181,6 +184,33 @@ fn random_small_plans() {
         "{stuck} {partly} {found}"
     );
     came_up(&picks, 100);
+    // Every way in which Novelty+ comes to a variable, and ties that age and number decide.
+    let named = ways.named();
+    let small = named.iter().filter(|(name, _)| *name != "novelty cut");
+    assert!(small.clone().all(|&(_, count)| count > 200), "{named:?}");
+}
+
+/// Novelty+ on plans whose counts lie around the cap: a cut count stands as the cap, so that it ties
+/// with it.
+#[test]
+fn novelty_around_the_cap() {
+    let mut random = Random::new(54);
+    let (mut met, mut ways) = ([0; 6], Ways::default());
+    for round in 0..2_000 {
+        let plan = match round % 2 {
+            0 => random::cap_plan(&mut random),
+            _ => random::heavy_plan(&mut random),
+        };
+        let settings = random::settings(&mut random);
+        let settings = making::novelty(settings, [0, 100, 500][random.below(3)]);
+        let numbers = list(&mut random, 80);
+        let (answer, seen) = Lent::new(&mut random, &plan, &numbers).check_seen(&settings);
+        met[answer.ending as usize] += 1;
+        ways += seen.ways;
+    }
+    assert!(met[1..].iter().all(|&count| count > 20), "{met:?}");
+    let named = ways.named();
+    assert!(named.iter().all(|&(_, count)| count > 50), "{named:?}");
 }
 
 /// Counts on both sides of the cap, and ties above it.
@@ -241,6 +271,8 @@ fn race_size_plans() {
             tries: 1 + random.number() % 10,
             flips: 1 + random.number() % 1_000,
             mode: [LINEAR, LBS][round % 2],
+            heuristic: [SKC, NOVELTY][round / 2 % 2],
+            chance: [10, 300][round / 4 % 2],
         };
         let numbers = list(&mut random, 4_000);
         finds += check(&mut random, &plan, &settings, &numbers).finds;
@@ -252,7 +284,15 @@ fn race_size_plans() {
 fn the_full_limits() {
     let mut random = Random::new(47);
     let mut finds = 0;
-    for (mode, locks) in [(LINEAR, 0), (LBS, 0), (LINEAR, 300), (LBS, 60), (LBS, 512)] {
+    for (mode, heuristic, locks) in [
+        (LINEAR, SKC, 0),
+        (LBS, SKC, 0),
+        (LINEAR, SKC, 300),
+        (LBS, SKC, 60),
+        (LBS, SKC, 512),
+        (LBS, NOVELTY, 0),
+        (LINEAR, NOVELTY, 60),
+    ] {
         let plan = random::locked_full_plan(&mut random, locks);
         let numbers = list(&mut random, 2_500);
         let settings = Settings {
@@ -260,6 +300,8 @@ fn the_full_limits() {
             tries: 3,
             flips: 1_000,
             mode,
+            heuristic,
+            chance: 10,
         };
         finds += check(&mut random, &plan, &settings, &numbers).finds;
     }
@@ -279,6 +321,8 @@ fn each_buffer_one_byte_short() {
         tries: 0,
         flips: 0,
         mode: 2,
+        heuristic: 2,
+        chance: 1_001,
     };
     let numbers = list(&mut random, 50);
     for place in 0..SIZES.len() {
@@ -328,14 +372,9 @@ fn settings_at_their_edges() {
     let mut random = Random::new(50);
     let plan = random::small_met_plan(&mut random);
     let numbers = list(&mut random, 100);
-    let good = Settings {
-        noise: 500,
-        tries: 2,
-        flips: 20,
-        mode: LBS,
-    };
+    let good = making::settings(500, 2, 20, LBS);
     type Set = fn(&mut Settings, u32);
-    let cases: [(u32, Set, &[u32], &[u32]); 4] = [
+    let cases: [(u32, Set, &[u32], &[u32]); 6] = [
         (
             11,
             |s, n| s.noise = n,
@@ -355,29 +394,39 @@ fn settings_at_their_edges() {
             &[0, 1_000_001, u32::MAX],
         ),
         (14, |s, n| s.mode = n, &[0, 1], &[2, 256, 257, u32::MAX]),
+        (15, |s, n| s.heuristic = n, &[0, 1], &[2, 256, u32::MAX]),
+        (
+            16,
+            |s, n| s.chance = n,
+            &[0, 1_000],
+            &[1_001, 65_536, u32::MAX],
+        ),
     ];
-    for (number, set, inside, outside) in cases {
-        for &value in inside.iter().chain(outside) {
-            let mut settings = good;
-            set(&mut settings, value);
-            let refusal = check(&mut random, &plan, &settings, &numbers).refusal;
-            let wanted = if inside.contains(&value) { 0 } else { number };
-            assert_eq!(refusal, wanted, "{settings:?}");
+    // The chance is judged under SKC too.
+    for good in [good, making::novelty(good, 10)] {
+        for (number, set, inside, outside) in cases {
+            for &value in inside.iter().chain(outside) {
+                let mut settings = good;
+                set(&mut settings, value);
+                let refusal = check(&mut random, &plan, &settings, &numbers).refusal;
+                let wanted = if inside.contains(&value) { 0 } else { number };
+                assert_eq!(refusal, wanted, "{settings:?}");
+            }
         }
     }
 }
 
-/// Every set of conditions at once: the first in the order 21, 22, 11, 12, 13, 14 is answered, and
-/// no byte changes.
+/// Every set of conditions at once: the first in the order 21, 22, 11, 12, 13, 14, 15, 16 is
+/// answered, and no byte changes.
 #[test]
 fn refusals_in_their_order() {
     let mut random = Random::new(51);
-    for set in 0..64_u32 {
+    for set in 0..256_u32 {
         let plan = random::race_plan(&mut random);
         let (mut tables, terms) = layout::tables(&plan);
         let mut settings = short_settings(&mut random);
         let mut lengths = SIZES;
-        let conditions = [21, 22, 11, 12, 13, 14];
+        let conditions = [21, 22, 11, 12, 13, 14, 15, 16];
         let met = |number| set >> conditions.iter().position(|&c| c == number).unwrap() & 1 == 1;
         if met(21) {
             lengths[random.below(SIZES.len())] -= 1;
@@ -396,6 +445,12 @@ fn refusals_in_their_order() {
         }
         if met(14) {
             settings.mode = 2;
+        }
+        if met(15) {
+            settings.heuristic = 2;
+        }
+        if met(16) {
+            settings.chance = 1_001;
         }
         let numbers = list(&mut random, 30);
         let mut lent = Lent::sized(&mut random, &tables, &terms, &numbers, lengths);

@@ -41,7 +41,7 @@ fn cases_of_a_separately_written_program() {
         count += 1;
     }
     assert!(count >= 200, "{count} cases");
-    // Every ending, and every refusal of the files but 9.
+    // Every ending, and every refusal of the files but 9, 12 and 16.
     assert_eq!(kinds.len(), 5 + 13, "{kinds:?}");
 }
 

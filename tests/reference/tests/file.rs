@@ -508,9 +508,10 @@ fn settings_of_a_walk() {
         // 2 before 3.
         assert_eq!(with(0, &[tag, 8]), refused(2, 0));
     }
-    for length in (0..=300u16).filter(|&length| length != 9) {
+    for length in (0..=300u16).filter(|&length| length != 9 && length != 12) {
         assert_eq!(with(1, &length.to_le_bytes()), refused(3, 0));
     }
+    assert_eq!(with(1, &12u16.to_le_bytes()), refused(1, 0));
     // Bytes after the field come before its settings.
     let mut longer = EXAMPLE_WALK.to_vec();
     longer[3] = 255;
@@ -518,6 +519,40 @@ fn settings_of_a_walk() {
     assert_eq!(parse_settings(&longer), refused(11, 0));
     longer.push(16);
     assert_eq!(parse_settings(&longer), refused(7, 12));
+}
+
+/// "walk.bin may have length 12, with a heuristic byte (0 SKC, 1 this) and a two-byte walk chance;
+/// length 9 means SKC."
+#[test]
+fn settings_of_length_12() {
+    let walk = [16, 12, 0, 0xF4, 1, 1, 0, 1, 0, 0, 0, 1, 1, 0x2C, 1];
+    let novelty = novelty(settings(500, 1, 1, 1), 300);
+    assert_eq!(parse_settings(&walk), Ok(novelty));
+    assert_eq!(write_settings(&novelty), walk);
+    for cut in 0..15 {
+        assert_eq!(parse_settings(&walk[..cut]), refused(1, 0));
+    }
+    let with = |place: usize, bytes: &[u8]| {
+        let mut walk = walk.to_vec();
+        walk[place..place + bytes.len()].copy_from_slice(bytes);
+        parse_settings(&walk)
+    };
+    // A heuristic byte 0 is SKC, whatever the chance.
+    let skc = with(12, &[0]).unwrap();
+    assert_eq!((skc.heuristic, skc.chance), (SKC, 300));
+    for heuristic in 2..=255 {
+        assert_eq!(with(12, &[heuristic]), refused(15, 0));
+        // 15 before 16, 14 before both.
+        assert_eq!(with(12, &[heuristic, 0xE9, 3]), refused(15, 0));
+        assert_eq!(with(11, &[2, heuristic, 0xE9, 3]), refused(14, 0));
+    }
+    for heuristic in [0, 1] {
+        assert!(with(12, &[heuristic, 0xE8, 3]).is_ok());
+        assert_eq!(with(12, &[heuristic, 0xE9, 3]), refused(16, 0));
+        assert_eq!(with(12, &[heuristic, 255, 255]), refused(16, 0));
+    }
+    let longer = [&walk[..], &[16]].concat();
+    assert_eq!(parse_settings(&longer), refused(7, 15));
 }
 
 #[test]

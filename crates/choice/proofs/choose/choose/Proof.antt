@@ -4,6 +4,7 @@ use borrow.Author.Needs.{needs}
 use native.Mathlib.Omega.{arith}
 use mathlib.Core.Path.{_≡_, sym, _∙_}
 use Rattle.recount.proofs.Laid.{tables-long, variables-word}
+use Rattle.breaks.specs.Breaks.{lentTry}
 use Rattle.choice.proofs.Choosing.{free-pickable, free-chosen, noisy-ready, noisy-chosen}
 use Rattle.choice.proofs.choose.choose.Statement.{statement}
 use Rattle.choice.proofs.choose.choose.Tie as tie
@@ -21,7 +22,7 @@ pick-marked-requires c κs =
     let f = c .before .before .before .before in
     let i = f .before .before in
     let at = i .before .before .before .before .before .before in
-    free-pickable (at .pre .0 .laid) _ (i .index .ensures) (f .mark-free .ensures) (at .pre .1) (c .before .if1 .taken)
+    free-pickable (at .pre .0 .laid) (lentTry (at .args .tables .now) (at .args .terms .now) (at .args .assignment .now)) (i .index .ensures) (f .mark-free .ensures) (at .pre .1) (c .before .if1 .taken)
 
 returns : tie.Need-returns
 returns c =
@@ -37,7 +38,7 @@ choose-noisy-requires c κs =
     let at = i .before .before .before .before .before .before in (
       at .pre .0,
       i .index .ensures ∙ sym (variables-word _ _ (at .pre .0 .laid)),
-      noisy-ready (at .pre .0 .laid) _ (i .index .ensures) (f .mark-free .ensures) (at .pre .1) (c .before .if1 .left),
+      noisy-ready (at .pre .0 .laid) (lentTry (at .args .tables .now) (at .args .terms .now) (at .args .assignment .now)) (i .index .ensures) (f .mark-free .ensures) (at .pre .1) (c .before .if1 .left),
     )
 
 returns-2 : tie.Need-returns-2
