@@ -14,7 +14,7 @@ use Rattle.settings.specs.declared.Settings.{Settings as Asked}
 use Rattle.settings.specs.Settings.{settingsRefusal}
 use Rattle.lending.specs.Lent.{Lent, tablesSmall, workSmall, tooSmall, searchRefusal}
 use Rattle.lending.specs.Work.{Work}
-use Rattle.format.specs.Layout.{tableSize, tallySize, termSize}
+use Rattle.format.specs.Layout.{markSize, tableSize, tallySize, termSize}
 
 -- ---- room
 
@@ -40,7 +40,7 @@ module _ (tables terms : List ℕ) (w : Work) {r : Bool} (e : r ≡ tablesSmall 
   unfolding workSmall _or_
   small-tallies t h = rw (sym e ∙ t, lt-ltb (length (w .tallies)) tallySize h)
 
-  pub small-marks : r ≡ false → tallySize ≤ length (w .tallies) → ltb (length (w .marks)) 512 ≡ workSmall tables terms w
+  pub small-marks : r ≡ false → tallySize ≤ length (w .tallies) → ltb (length (w .marks)) markSize ≡ workSmall tables terms w
   unfolding workSmall _or_
   small-marks t h = rw (sym e ∙ t, le-ltb (length (w .tallies)) tallySize h)
 

@@ -4,9 +4,9 @@ use Prim.Native.Nat.{ℕ}
 use mathlib.Core.Path.{_≡_}
 use mathlib.Core.List.{List}
 use lib.ListN.{drop}
-use Rattle.format.specs.Layout.{tallySize}
+use Rattle.format.specs.Layout.{markSize, tallySize}
 
--- What the walk writes: an assignment, its tallies, and the choice's marks.
+-- What the walk writes: an assignment, its tallies, and the choice's marks with the numbers of the last flips.
 pub record Work : Type 0 where
   pub assignment : List ℕ
   pub tallies : List ℕ
@@ -19,4 +19,4 @@ work assignment tallies marks = record { assignment = assignment; tallies = tall
 pub record Beyond (n : ℕ) (w v : Work) : Type 0 where
   pub assignment : drop n (v .assignment) ≡ drop n (w .assignment)
   pub tallies : drop tallySize (v .tallies) ≡ drop tallySize (w .tallies)
-  pub marks : drop n (v .marks) ≡ drop n (w .marks)
+  pub marks : drop markSize (v .marks) ≡ drop markSize (w .marks)

@@ -7,13 +7,14 @@ ghost use Rattle.settings.specs.Settings.{settingsOf};
 ghost use Rattle.moves.specs.Moves.{Walking, Moves, InClause};
 ghost use Rattle.lending.specs.Work.{work};
 use choice::choose::Chosen;
-use choice::choose::choose;
 use choice::marks::mark_choosable;
 use flips::flip_core;
+use novelty::choose_by;
 use numbers::Picked;
 use numbers::nth_zero;
 use numbers::pick;
 use settings::Settings;
+use stamps::stamp;
 use words::index;
 
 // A flip was made, or the clause has no variable to choose, or too few numbers were left; and how many are used after it.
@@ -23,21 +24,22 @@ pub enum Moved {
     Short(usize),
 }
 
-// "choose a variable of it; flip"
+// "choose a variable of it; flip". It is the flip behind so many of this try, and its number is kept as that of the variable's last flip.
 fn flip_in(
     tables: &[u8],
     terms: &[u8],
     numbers: &[u8],
     used: usize,
     s: Settings,
+    turn: u32,
     c: usize,
     assignment: &mut [u8],
     tallies: &mut [u8],
     marks: &mut [u8],
 ) -> Moved
     requires { ⌜ Walking (now tables) (now terms) (work (now assignment) (now tallies) (now marks)) × (c < wordAt (now tables) 1)
-        × (used ≤ length (now numbers) / 4) ⌝ }
-    ensures { λ r. ⌜ InClause (settingsOf s) (now (tables .entry)) (now (terms .entry)) (now (numbers .entry)) used c r
+        × (used ≤ length (now numbers) / 4) × (turn < 4_294_967_295) ⌝ }
+    ensures { λ r. ⌜ InClause (settingsOf s) (now (tables .entry)) (now (terms .entry)) (now (numbers .entry)) used turn c r
         (work (now (assignment .entry)) (now (tallies .entry)) (now (marks .entry)))
         (work (now (assignment .exit)) (now (tallies .exit)) (now (marks .exit))) ⌝ }
 {
@@ -45,10 +47,11 @@ fn flip_in(
     if some == 0 {
         return Moved::Stuck(used);
     }
-    let v = choose(tables, terms, assignment, numbers, used, s, marks);
+    let v = choose_by(tables, terms, assignment, numbers, used, s, marks);
     match v {
         Chosen::At(x, after) => {
             flip_core(tables, terms, assignment, tallies, x);
+            stamp(marks, x, turn + 1);
             Moved::Made(after)
         }
         Chosen::Short(after) => Moved::Short(after),
@@ -62,13 +65,14 @@ pub fn make_move(
     numbers: &[u8],
     used: usize,
     s: Settings,
+    turn: u32,
     assignment: &mut [u8],
     tallies: &mut [u8],
     marks: &mut [u8],
 ) -> Moved
     requires { ⌜ Walking (now tables) (now terms) (work (now assignment) (now tallies) (now marks)) × (0 < wordAt (now tallies) unsatisfiedAt)
-        × (used ≤ length (now numbers) / 4) ⌝ }
-    ensures { λ r. ⌜ Moves (settingsOf s) (now (tables .entry)) (now (terms .entry)) (now (numbers .entry)) used r
+        × (used ≤ length (now numbers) / 4) × (turn < 4_294_967_295) ⌝ }
+    ensures { λ r. ⌜ Moves (settingsOf s) (now (tables .entry)) (now (terms .entry)) (now (numbers .entry)) used turn r
         (work (now (assignment .entry)) (now (tallies .entry)) (now (marks .entry)))
         (work (now (assignment .exit)) (now (tallies .exit)) (now (marks .exit))) ⌝ }
 {
@@ -83,6 +87,7 @@ pub fn make_move(
                 numbers,
                 after,
                 s,
+                turn,
                 c,
                 assignment,
                 tallies,

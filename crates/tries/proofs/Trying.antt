@@ -42,7 +42,9 @@ use Rattle.lending.specs.Work.{Work, Beyond}
 use Rattle.moves.specs.Moves.{bitsIn, tryIn, Walking, movedOf, usedIn, IfMade, Moves}
 use Rattle.tries.specs.Steps.{Startable, triedOf, stoppedAt, usedBy, flipsBy, IfReached, Tries}
 use Rattle.moves.proofs.Moving.{unsatisfied-word}
-use Rattle.format.specs.Layout.{tableSize, unsatisfiedAt}
+use Rattle.format.specs.Layout.{tableSize, unsatisfiedAt, markSize}
+use Rattle.stamps.specs.Stamps.{Stamped, unstamped}
+use Rattle.stamps.proofs.Stamping.{stamped-none, cleared-size, cleared-beyond}
 use Rattle.locks.specs.Held.{heldBytes}
 use Rattle.locks.proofs.Holding.{bytes-held}
 
@@ -79,11 +81,14 @@ module _ {tables terms : List ℕ} {w : Work} (k : Walking tables terms w) where
 
 -- What the flips have come to: as many are left, from another assignment and another place in the list.
 pub record Flipping (s : Settings) (tables terms numbers : List ℕ) (begun before : ℕ) (w : Work) (used made left : ℕ) (v : Work) : Type 0 where
+  pub flips : List ℕ
+  pub stamped : Stamped (planOfTables tables terms .variables) flips (v .marks)
+  pub counted : length flips + left ≡ s .flips
   pub walking : Walking tables terms v
   pub outcome :
       (fs : List Assignment)
-      → run (flipping s (planOfTables tables terms) (s .flips) (tryIn tables terms w)) (numbersOf numbers) (at begun before fs)
-      ≡ run (flipping s (planOfTables tables terms) left (tryIn tables terms v)) (numbersOf numbers) (at used made fs)
+      → run (flipping s (planOfTables tables terms) (s .flips) (tryIn tables terms [] w)) (numbersOf numbers) (at begun before fs)
+      ≡ run (flipping s (planOfTables tables terms) left (tryIn tables terms flips v)) (numbersOf numbers) (at used made fs)
   pub uses : begun ≤ used
   pub flipped : made ≤ used
   pub within : used ≤ length numbers / 4
@@ -91,22 +96,23 @@ pub record Flipping (s : Settings) (tables terms numbers : List ℕ) (begun befo
   pub sized : Sized w v
 
 pub flips-begin : (s : Settings) {tables terms numbers : List ℕ} {begun before : ℕ} {w : Work} → Walking tables terms w → begun ≤ length numbers / 4 → before ≤ begun
+    → Stamped (planOfTables tables terms .variables) [] (w .marks)
     → Flipping s tables terms numbers begun before w begun before (s .flips) w
-flips-begin s k l h =
-    record { walking = k; outcome = λ fs. refl; uses = omega arith; flipped = h; within = l; beyond = beyond-same _ _; sized = record { assignment = refl; tallies = refl; marks = refl } }
+flips-begin s k l h t =
+    record { flips = []; stamped = t; counted = omega arith; walking = k; outcome = λ fs. refl; uses = omega arith; flipped = h; within = l; beyond = beyond-same _ _; sized = record { assignment = refl; tallies = refl; marks = refl } }
 
 module _ {s : Settings} {tables terms numbers : List ℕ} {begun before : ℕ} {w : Work} {used made left : ℕ} {v : Work} (i : Flipping s tables terms numbers begun before w used made left v) where
   abbrev p : Plan
   p = planOfTables tables terms
 
   pub flips-found : 0 < left → wordAt (v .tallies) unsatisfiedAt ≡ 0
-      → Tries (flipping s p (s .flips) (tryIn tables terms w)) tables terms numbers begun before begun (tried.Reached used made) w v
+      → Tries (flipping s p (s .flips) (tryIn tables terms [] w)) tables terms numbers begun before begun (tried.Reached used made) w v
   unfolding triedOf usedBy flipsBy IfReached
   flips-found h e =
       let sat = look-true (i .walking) e in
       record {
-        outcome = λ fs. i .outcome fs ∙ ap (λ k. run (flipping s p k (tryIn tables terms v)) (numbersOf numbers) (at used made fs)) (counted-down left h)
-            ∙ flipping-found s p (numbersOf numbers) (tryIn tables terms v) (at used made fs) (left - 1) sat;
+        outcome = λ fs. i .outcome fs ∙ ap (λ k. run (flipping s p k (tryIn tables terms (i .flips) v)) (numbersOf numbers) (at used made fs)) (counted-down left h)
+            ∙ flipping-found s p (numbersOf numbers) (tryIn tables terms (i .flips) v) (at used made fs) (left - 1) sat;
         finds = record { bits = i .walking .bits; satisfied = rw sat tt; uses = i .uses };
         uses = i .uses;
         within = i .within;
@@ -115,19 +121,23 @@ module _ {s : Settings} {tables terms numbers : List ℕ} {begun before : ℕ} {
       }
 
   module _ (h : 0 < left) (e : wordAt (v .tallies) unsatisfiedAt ≢ 0) where
-    on : (fs : List Assignment) → run (flipping s p (s .flips) (tryIn tables terms w)) (numbersOf numbers) (at begun before fs)
-        ≡ run (flipping s p (suc (left - 1)) (tryIn tables terms v)) (numbersOf numbers) (at used made fs)
-    on fs = i .outcome fs ∙ ap (λ k. run (flipping s p k (tryIn tables terms v)) (numbersOf numbers) (at used made fs)) (counted-down left h)
+    on : (fs : List Assignment) → run (flipping s p (s .flips) (tryIn tables terms [] w)) (numbersOf numbers) (at begun before fs)
+        ≡ run (flipping s p (suc (left - 1)) (tryIn tables terms (i .flips) v)) (numbersOf numbers) (at used made fs)
+    on fs = i .outcome fs ∙ ap (λ k. run (flipping s p k (tryIn tables terms (i .flips) v)) (numbersOf numbers) (at used made fs)) (counted-down left h)
 
-    pub flips-more : {r : Moved} {after : ℕ} {u : Work} → Moves s tables terms numbers used r v u → r ≡ moved.Made after → Sized w u
+    pub flips-more : {r : Moved} {after turn : ℕ} {u : Work} → turn ≡ s .flips - left → Moves s tables terms numbers used turn r v u → r ≡ moved.Made after → Sized w u
         → Flipping s tables terms numbers begun before w after (made + 1) (left - 1) u
     unfolding movedOf usedIn IfMade
-    flips-more {r} {after} {u} m t z =
-        let same = subst (λ q. Moves s tables terms numbers used q v u) t m in
+    flips-more {r} {after} {turn} {u} c m t z =
+        let same = subst (λ q. Moves s tables terms numbers used turn q v u) t m in
+        let on-from = same .reaches (i .flips) (i .stamped) (omega (arith, c, i .counted)) in
         record {
+          flips = on-from .next;
+          stamped = on-from .stamped .0;
+          counted = omega (arith, on-from .stamped .1, i .counted, h);
           walking = same .walking .0;
           outcome = λ fs. on fs
-              ∙ flipping-moved s p (numbersOf numbers) (tryIn tables terms v) (at used made fs) (left - 1) (look-false (i .walking) e) (same .outcome made fs);
+              ∙ flipping-moved s p (numbersOf numbers) (tryIn tables terms (i .flips) v) (at used made fs) (left - 1) (look-false (i .walking) e) (on-from .outcome made fs);
           uses = omega (arith, i .uses, same .uses);
           flipped = omega (arith, i .flipped, same .walking .1);
           within = same .within;
@@ -136,22 +146,24 @@ module _ {s : Settings} {tables terms numbers : List ℕ} {begun before : ℕ} {
         }
 
     -- No flip was made: the try is stuck, or the numbers are gone.
-    pub flips-stopped : (r : Moved) {u : Work} → OneOf (1 ∷ 2 ∷ []) (tagOf move-type r) → Moves s tables terms numbers used r v u
-        → Tries (flipping s p (s .flips) (tryIn tables terms w)) tables terms numbers begun before begun (stoppedAt r made) w u
+    pub flips-stopped : (r : Moved) {turn : ℕ} {u : Work} → turn ≡ s .flips - left → OneOf (1 ∷ 2 ∷ []) (tagOf move-type r) → Moves s tables terms numbers used turn r v u
+        → Tries (flipping s p (s .flips) (tryIn tables terms [] w)) tables terms numbers begun before begun (stoppedAt r made) w u
     unfolding stoppedAt movedOf usedIn IfMade triedOf usedBy flipsBy IfReached
-    flips-stopped (moved.Made after) k m = absurd (miss (1 ∷ 2 ∷ []) 0 tt k)
-    flips-stopped (moved.Stuck after) k m =
+    flips-stopped (moved.Made after) c k m = absurd (miss (1 ∷ 2 ∷ []) 0 tt k)
+    flips-stopped (moved.Stuck after) c k m =
+        let on-from = m .reaches (i .flips) (i .stamped) (omega (arith, c, i .counted)) in
         record {
-          outcome = λ fs. on fs ∙ flipping-stuck s p (numbersOf numbers) (tryIn tables terms v) (at used made fs) (left - 1) (look-false (i .walking) e) (m .outcome made fs);
+          outcome = λ fs. on fs ∙ flipping-stuck s p (numbersOf numbers) (tryIn tables terms (i .flips) v) (at used made fs) (left - 1) (look-false (i .walking) e) (on-from .outcome made fs);
           finds = tt;
           uses = omega (arith, i .uses, m .uses);
           within = m .within;
           flipped = omega (arith, i .flipped, m .uses);
           beyond = beyond-on (i .beyond) (m .beyond);
         }
-    flips-stopped (moved.Short after) k m =
+    flips-stopped (moved.Short after) c k m =
+        let on-from = m .reaches (i .flips) (i .stamped) (omega (arith, c, i .counted)) in
         record {
-          outcome = λ fs. on fs ∙ flipping-short s p (numbersOf numbers) (tryIn tables terms v) (at used made fs) (left - 1) (look-false (i .walking) e) (m .outcome made fs);
+          outcome = λ fs. on fs ∙ flipping-short s p (numbersOf numbers) (tryIn tables terms (i .flips) v) (at used made fs) (left - 1) (look-false (i .walking) e) (on-from .outcome made fs);
           finds = tt;
           uses = omega (arith, i .uses, m .uses);
           within = m .within;
@@ -159,13 +171,13 @@ module _ {s : Settings} {tables terms numbers : List ℕ} {begun before : ℕ} {
           beyond = beyond-on (i .beyond) (m .beyond);
         }
 
-  pub flips-end : left ≤ 0 → Tries (flipping s p (s .flips) (tryIn tables terms w)) tables terms numbers begun before begun (tried.Failed used made) w v
+  pub flips-end : left ≤ 0 → Tries (flipping s p (s .flips) (tryIn tables terms [] w)) tables terms numbers begun before begun (tried.Failed used made) w v
   unfolding triedOf usedBy flipsBy IfReached
   flips-end h =
       let e : left ≡ 0 = omega arith in
       record {
-        outcome = λ fs. i .outcome fs ∙ ap (λ k. run (flipping s p k (tryIn tables terms v)) (numbersOf numbers) (at used made fs)) e
-            ∙ flipping-none s p (numbersOf numbers) (tryIn tables terms v) (at used made fs);
+        outcome = λ fs. i .outcome fs ∙ ap (λ k. run (flipping s p k (tryIn tables terms (i .flips) v)) (numbersOf numbers) (at used made fs)) e
+            ∙ flipping-none s p (numbersOf numbers) (tryIn tables terms (i .flips) v) (at used made fs);
         finds = tt;
         uses = i .uses;
         within = i .within;
@@ -240,9 +252,16 @@ module _ {tables terms : List ℕ} (numbers : List ℕ) {used made : ℕ} {w : W
       pub started-ready : length kept ≡ length bytes → length bytes ≡ length (w .assignment) → Ready tables terms kept
       started-ready m l = record { laid = k .ready .laid; bytes = omega (arith, k .ready .bytes) }
 
-      module _ {tallies : List ℕ} (l : length kept ≡ length bytes) (l′ : length bytes ≡ length (w .assignment)) (y : tallies ≡ recounted tables terms kept (w .tallies)) where
+      module _ {tallies marks : List ℕ} (l : length kept ≡ length bytes) (l′ : length bytes ≡ length (w .assignment)) (y : tallies ≡ recounted tables terms kept (w .tallies))
+          (z : marks ≡ unstamped (w .marks)) where
         abbrev begun : Work
-        begun = record { assignment = kept; tallies = tallies; marks = w .marks }
+        begun = record { assignment = kept; tallies = tallies; marks = marks }
+
+        pub started-stamps : Stamped (planOfTables tables terms .variables) [] marks
+        started-stamps = stamped-none (w .marks) (k .stamps) z (q .variables) (parts tables terms (k .ready .laid) .high)
+
+        same-marks : length marks ≡ length (w .marks)
+        same-marks = cleared-size (w .marks) (k .stamps) z
 
         pub started-walking : Walking tables terms begun
         started-walking =
@@ -250,16 +269,17 @@ module _ {tables terms : List ℕ} (numbers : List ℕ) {used made : ℕ} {w : W
               ready = started-ready l l′;
               bits = rw (← named, held-start) (areBits-bytes n begin (drop n (w .assignment)) begin-size);
               fresh = rw y (take-fresh q (roomy-fits q (k .ready .laid .room)) _ _);
-              marks = k .marks;
+              marks = record { laid = k .marks .laid; bytes = omega (arith, k .marks .bytes, same-marks) };
+              stamps = omega (arith, k .stamps, same-marks);
             }
 
-        pub tried-once : (s : Settings) {t : Tried} {v : Work} → Tries (flipping s q (s .flips) (tryIn tables terms begun)) tables terms numbers after made after t begun v
+        pub tried-once : (s : Settings) {t : Tried} {v : Work} → Tries (flipping s q (s .flips) (tryIn tables terms [] begun)) tables terms numbers after made after t begun v
             → Tries (try s q) tables terms numbers used made (used + 1) t w v
         tried-once s {t} {v} g =
             let u = started-uses in
             record {
               outcome = λ fs. try-started s q (numbersOf numbers) (at used made fs) (ap (λ m. takeWords (startWords m) (numbersOf numbers) used) (sym named) ∙ drew .1)
-                  ∙ ap (λ a. run (flipping s q (s .flips) (record { bits = a })) (numbersOf numbers) (at after made fs)) (sym started-bits)
+                  ∙ ap (λ a. run (flipping s q (s .flips) (record { bits = a; flips = [] })) (numbersOf numbers) (at after made fs)) (sym started-bits)
                   ∙ g .outcome fs;
               finds = if-reached t (λ f. record { bits = f .bits; satisfied = f .satisfied; uses = omega (arith, f .uses, u .0) }) (g .finds);
               uses = omega (arith, g .uses, u .0);
@@ -268,7 +288,7 @@ module _ {tables terms : List ℕ} (numbers : List ℕ) {used made : ℕ} {w : W
               beyond = beyond-on (record {
                 assignment = rw (← named, held-start) (drop-bytes n begin (drop n (w .assignment)) begin-size);
                 tallies = rw y (drop-fresh q (roomy-fits q (k .ready .laid .room)) _ _);
-                marks = refl;
+                marks = cleared-beyond (w .marks) (k .stamps) z;
               }) (g .beyond);
             }
 
@@ -285,7 +305,7 @@ module _ {tables terms : List ℕ} (numbers : List ℕ) {used made : ℕ} {w : W
         uses = omega arith;
         within = l;
         flipped = few;
-        beyond = record { assignment = ap (drop (q .variables)) (a ∙ d .1); tallies = ap (drop tallySize) y; marks = ap (drop (q .variables)) m };
+        beyond = record { assignment = ap (drop (q .variables)) (a ∙ d .1); tallies = ap (drop tallySize) y; marks = ap (drop markSize) m };
       }
 
 -- ---- a call
@@ -322,6 +342,7 @@ startable-on k z =
       ready = record { laid = k .ready .laid; bytes = omega (arith, k .ready .bytes, z .assignment) };
       room = omega (arith, k .room, z .tallies);
       marks = record { laid = k .marks .laid; bytes = omega (arith, k .marks .bytes, z .marks) };
+      stamps = omega (arith, k .stamps, z .marks);
     }
 
 unfoldable pub isFailed : Tried → Bool

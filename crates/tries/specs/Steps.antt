@@ -10,6 +10,7 @@ use Rattle.plpb.specs.Walk.{Walk, at, Outcome, ends, short, run}
 use Rattle.plpb.specs.Search.{Reached, failed, reached}
 use Rattle.format.specs.Tables.{planOfTables}
 use Rattle.lending.specs.Work.{Work, Beyond}
+use Rattle.format.specs.Layout.{markSize}
 use Rattle.tallies.specs.Layout.{tallySize, areBits}
 use Rattle.recount.specs.Core.{Ready}
 use Rattle.numbers.specs.Numbers.{numbersOf}
@@ -19,11 +20,12 @@ use Rattle.tries.specs.declared.Tried.{Tried}
 use Rattle.tries.specs.declared.Tried.the-variants as tried
 use Rattle.moves.specs.Moves.{bitsIn}
 
--- There is room for an assignment, its tallies and the marks.
+-- There is room for an assignment, its tallies, the marks and the numbers of the last flips.
 pub record Startable (tables terms : List ℕ) (w : Work) : Type 0 where
   pub ready : Ready tables terms (w .assignment)
   pub room : tallySize ≤ length (w .tallies)
   pub marks : Ready tables terms (w .marks)
+  pub stamps : markSize ≤ length (w .marks)
 
 -- What a try or a call comes to, with the finds before it and the assignment that it leaves.
 unfoldable pub triedOf : Tried → Assignment → List Assignment → Outcome Reached

@@ -1,5 +1,6 @@
 // One call of the walk (Algorithm 1): tries, each with its start and its flips.
 ghost use mathlib.Core.Path.{_≡_};
+ghost use mathlib.Core.List.{[]};
 ghost use Prim.Native.Nat.{_+_, _/_, _≤_};
 ghost use lib.ListN.{length};
 ghost use Rattle.plpb.specs.Search.{flipping, try, call as called};
@@ -7,6 +8,7 @@ ghost use Rattle.format.specs.Tables.{planOfTables};
 ghost use Rattle.settings.specs.Settings.{settingsOf};
 ghost use Rattle.tries.specs.Steps.{Startable, Tries, stoppedAt};
 ghost use Rattle.moves.specs.Moves.{Walking, tryIn};
+ghost use Rattle.stamps.specs.Stamps.{Stamped};
 ghost use Rattle.lending.specs.Work.{work};
 use locks::hold_locks;
 use moves::Moved;
@@ -15,6 +17,7 @@ use numbers::Started;
 use numbers::start;
 use recount::open::open_core;
 use settings::Settings;
+use stamps::clear_stamps;
 use words::index;
 use words::word;
 
@@ -36,7 +39,7 @@ fn stopped(m: Moved, made: usize) -> Tried
     }
 }
 
-// "for each of the allowed flips: if no clause is unsatisfied, return; .. flip"
+// "for each of the allowed flips: if no clause is unsatisfied, return; .. flip". No variable is stamped at first.
 fn make_flips(
     tables: &[u8],
     terms: &[u8],
@@ -49,10 +52,10 @@ fn make_flips(
     marks: &mut [u8],
 ) -> Tried
     requires { ⌜ Walking (now tables) (now terms) (work (now assignment) (now tallies) (now marks)) × (begun ≤ length (now numbers) / 4)
-        × (before ≤ begun) ⌝ }
+        × (before ≤ begun) × Stamped (planOfTables (now tables) (now terms) .variables) [] (now marks) ⌝ }
     ensures { λ r. ⌜ Tries
         (flipping (settingsOf s) (planOfTables (now (tables .entry)) (now (terms .entry))) (s .flips)
-        (tryIn (now (tables .entry)) (now (terms .entry)) (work (now (assignment .entry)) (now (tallies .entry)) (now (marks .entry)))))
+        (tryIn (now (tables .entry)) (now (terms .entry)) [] (work (now (assignment .entry)) (now (tallies .entry)) (now (marks .entry)))))
         (now (tables .entry)) (now (terms .entry)) (now (numbers .entry)) begun before begun r
         (work (now (assignment .entry)) (now (tallies .entry)) (now (marks .entry)))
         (work (now (assignment .exit)) (now (tallies .exit)) (now (marks .exit))) ⌝ }
@@ -64,7 +67,17 @@ fn make_flips(
         if word(tallies, format::UNSATISFIED) == 0 {
             return Tried::Reached(used, made);
         }
-        let m = make_move(tables, terms, numbers, used, s, assignment, tallies, marks);
+        let m = make_move(
+            tables,
+            terms,
+            numbers,
+            used,
+            s,
+            s.flips - left,
+            assignment,
+            tallies,
+            marks,
+        );
         let Moved::Made(after) = m else {
             return stopped(m, made);
         };
@@ -75,7 +88,7 @@ fn make_flips(
     Tried::Failed(used, made)
 }
 
-// One try: its start, in which locked variables take their value, the tallies of that, its flips.
+// One try: its start, in which locked variables take their value, the tallies of that, no flip of any variable yet, its flips.
 fn try_once(
     tables: &[u8],
     terms: &[u8],
@@ -99,6 +112,7 @@ fn try_once(
     };
     hold_locks(tables, n, assignment);
     open_core(tables, terms, assignment, tallies);
+    clear_stamps(marks);
     make_flips(
         tables,
         terms,

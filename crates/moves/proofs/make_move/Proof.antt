@@ -40,6 +40,7 @@ flip-in-requires c κs =
       at .pre .0,
       picked-within (at .pre .0) _ _ _ (i .index .ensures) (k .pick .ensures) some (b .p .given .1) (z .before .index2 .ensures) (z .nth-zero .ensures),
       picked-uses (at .pre .0) _ _ _ (i .index .ensures) (k .pick .ensures) some (b .p .given .1) (z .before .index2 .ensures) (z .nth-zero .ensures) .1,
+      at .pre .3,
     )
 
 returns : tie.Need-returns
