@@ -275,6 +275,7 @@ module _ {tables terms : List ℕ} (numbers : List ℕ) {used made : ℕ} {w : W
 
         pub tried-once : (s : Settings) {t : Tried} {v : Work} → Tries (flipping s q (s .flips) (tryIn tables terms [] begun)) tables terms numbers after made after t begun v
             → Tries (try s q) tables terms numbers used made (used + 1) t w v
+        unfolding beginning
         tried-once s {t} {v} g =
             let u = started-uses in
             record {

@@ -4,7 +4,7 @@ use borrow.Author.Needs.{needs}
 use native.Mathlib.Omega.{arith}
 use mathlib.Core.Path.{refl}
 use Rattle.recount.proofs.Laid.{tables-long, variables-word}
-use Rattle.tries.proofs.Trying.{started-uses, started-holdable, started-ready, started-walking, tried-once, no-start}
+use Rattle.tries.proofs.Trying.{started-uses, started-holdable, started-ready, started-stamps, started-walking, tried-once, no-start}
 use Rattle.tries.proofs.try_once.Statement.{statement}
 use Rattle.tries.proofs.try_once.Tie as tie
 
@@ -36,21 +36,25 @@ open-core-requires c κs =
       at .pre .0 .room,
     )
 
+clear-stamps-requires : tie.Need-clear-stamps-requires
+clear-stamps-requires c κs = let at = c .before .before .before .before .before .before .before .before .before .before .before .before .before .before .before .before .before .before .before .before .before .before .before .before in at .pre .0 .stamps
+
 make-flips-requires : tie.Need-make-flips-requires
 make-flips-requires c κs =
-    let at = c .before .before .before .before .before .before .before .before .before .before .before .before .before .before .before .before .before .before .before .before .before .before .before .before .before .before in
-    let u = started-uses _ (at .pre .0) (at .pre .2) (c .before .before .before .before .before .before .before .before .before .before .before .before .before .before .before .before .before .before .before .index .ensures) (c .before .before .before .before .before .before .before .before .before .before .before .before .before .before .before .before .before .start .ensures) (c .before .before .before .before .before .before .before .before .before .before .before .before .before .after .given .1) in (
-      started-walking _ (at .pre .0) (at .pre .2) (c .before .before .before .before .before .before .before .before .before .before .before .before .before .before .before .before .before .before .before .index .ensures) (c .before .before .before .before .before .before .before .before .before .before .before .before .before .before .before .before .before .start .ensures) (c .before .before .before .before .before .before .before .before .before .before .before .before .before .after .given .1) (c .before .before .before .before .before .before .before .before .before .before .hold-locks .ensures) (c .before .before .before .before .before .before .before .before .before .assignment2 .given)
-          (c .before .before .before .before .before .before .before .before .before .before .before .before .before .before .before .before .assignment .given) (c .before .before .before .before .before .open-core .ensures),
+    let at = c .before .before .before .before .before .before .before .before .before .before .before .before .before .before .before .before .before .before .before .before .before .before .before .before .before .before .before .before .before .before in
+    let u = started-uses _ (at .pre .0) (at .pre .2) (c .before .before .before .before .before .before .before .before .before .before .before .before .before .before .before .before .before .before .before .before .before .before .before .index .ensures) (c .before .before .before .before .before .before .before .before .before .before .before .before .before .before .before .before .before .before .before .before .before .start .ensures) (c .before .before .before .before .before .before .before .before .before .before .before .before .before .before .before .before .before .after .given .1) in (
+      started-walking _ (at .pre .0) (at .pre .2) (c .before .before .before .before .before .before .before .before .before .before .before .before .before .before .before .before .before .before .before .before .before .before .before .index .ensures) (c .before .before .before .before .before .before .before .before .before .before .before .before .before .before .before .before .before .before .before .before .before .start .ensures) (c .before .before .before .before .before .before .before .before .before .before .before .before .before .before .before .before .before .after .given .1) (c .before .before .before .before .before .before .before .before .before .before .before .before .before .before .hold-locks .ensures) (c .before .before .before .before .before .before .before .before .before .before .before .before .before .assignment2 .given)
+          (c .before .before .before .before .before .before .before .before .before .before .before .before .before .before .before .before .before .before .before .before .assignment .given) (c .before .before .before .before .before .before .before .before .before .open-core .ensures) (c .before .before .before .before .before .clear-stamps .ensures),
       u .1,
       u .2,
+      started-stamps _ (at .pre .0) (at .pre .2) (c .before .before .before .before .before .before .before .before .before .before .before .before .before .before .before .before .before .before .before .before .before .before .before .index .ensures) (c .before .before .before .before .before .before .before .before .before .before .before .before .before .before .before .before .before .before .before .before .before .start .ensures) (c .before .before .before .before .before .before .before .before .before .before .before .before .before .before .before .before .before .after .given .1) (c .before .before .before .before .before .before .before .before .before .before .before .before .before .before .hold-locks .ensures) (c .before .before .before .before .before .before .before .before .before .before .before .before .before .assignment2 .given) (c .before .before .before .before .before .before .before .before .before .before .before .before .before .before .before .before .before .before .before .before .assignment .given) (c .before .before .before .before .before .before .before .before .before .open-core .ensures) (c .before .before .before .before .before .clear-stamps .ensures),
     )
 
 returns-2 : tie.Need-returns-2
 returns-2 c =
-    let at = c .before .before .before .before .before .before .before .before .before .before .before .before .before .before .before .before .before .before .before .before .before .before .before .before .before .before .before .before .before .before .before .before .before in
-    tried-once _ (at .pre .0) (at .pre .2) (c .before .before .before .before .before .before .before .before .before .before .before .before .before .before .before .before .before .before .before .before .before .before .before .before .before .before .index .ensures) (c .before .before .before .before .before .before .before .before .before .before .before .before .before .before .before .before .before .before .before .before .before .before .before .before .start .ensures) (c .before .before .before .before .before .before .before .before .before .before .before .before .before .before .before .before .before .before .before .before .after .given .1) (c .before .before .before .before .before .before .before .before .before .before .before .before .before .before .before .before .before .hold-locks .ensures) (c .before .before .before .before .before .before .before .before .before .before .before .before .before .before .before .before .assignment2 .given)
-    (c .before .before .before .before .before .before .before .before .before .before .before .before .before .before .before .before .before .before .before .before .before .before .before .assignment .given) (c .before .before .before .before .before .before .before .before .before .before .before .before .open-core .ensures) _ (c .before .before .before .before .before .before .make-flips .ensures)
+    let at = c .before .before .before .before .before .before .before .before .before .before .before .before .before .before .before .before .before .before .before .before .before .before .before .before .before .before .before .before .before .before .before .before .before .before .before .before .before in
+    tried-once _ (at .pre .0) (at .pre .2) (c .before .before .before .before .before .before .before .before .before .before .before .before .before .before .before .before .before .before .before .before .before .before .before .before .before .before .before .before .before .before .index .ensures) (c .before .before .before .before .before .before .before .before .before .before .before .before .before .before .before .before .before .before .before .before .before .before .before .before .before .before .before .before .start .ensures) (c .before .before .before .before .before .before .before .before .before .before .before .before .before .before .before .before .before .before .before .before .before .before .before .before .after .given .1) (c .before .before .before .before .before .before .before .before .before .before .before .before .before .before .before .before .before .before .before .before .before .hold-locks .ensures) (c .before .before .before .before .before .before .before .before .before .before .before .before .before .before .before .before .before .before .before .before .assignment2 .given)
+    (c .before .before .before .before .before .before .before .before .before .before .before .before .before .before .before .before .before .before .before .before .before .before .before .before .before .before .before .assignment .given) (c .before .before .before .before .before .before .before .before .before .before .before .before .before .before .before .before .open-core .ensures) (c .before .before .before .before .before .before .before .before .before .before .before .before .clear-stamps .ensures) _ (c .before .before .before .before .before .before .make-flips .ensures)
 
 pub try-once-spec : {M : Type 1} → statement M
 try-once-spec =
@@ -64,6 +68,7 @@ try-once-spec =
     returns
     hold-locks-requires
     open-core-requires
+    clear-stamps-requires
     make-flips-requires
     (λ c. search needs)
     (λ c. search needs)
