@@ -90,24 +90,30 @@ static void read_clauses(const char *folder) {
 
 static uint32_t two_bytes(const uint8_t *bytes) { return (uint32_t)bytes[0] | (uint32_t)bytes[1] << 8; }
 
-/* walk.bin is one field: tag 16, length 9, then noise, tries, flips and mode. */
+/* walk.bin is one field: tag 16, length 9, then noise, tries, flips and mode; or length 12, and behind these the
+ * heuristic and its walk chance. */
 static planner_loaded read_walk(size_t length, planner_settings *settings) {
     planner_loaded answer = {PLANNER_ACCEPTED, 0};
+    size_t body = length < 3 ? 0 : two_bytes(walk_file + 1);
     if (length < 3) {
         answer.refusal = PLANNER_CUT_SHORT;
     } else if (walk_file[0] != 16) {
         answer.refusal = PLANNER_WRONG_TAG;
-    } else if (two_bytes(walk_file + 1) != 9) {
+    } else if (body != 9 && body != 12) {
         answer.refusal = PLANNER_WRONG_LENGTH;
-    } else if (length < 12) {
+    } else if (length < 3 + body) {
         answer.refusal = PLANNER_CUT_SHORT;
-    } else if (length > 12) {
+    } else if (length > 3 + body) {
         answer.refusal = PLANNER_BYTES_AFTER_END;
-        answer.offset = 12;
+        answer.offset = 3 + body;
     }
     if (answer.refusal) return answer;
     *settings = planner_settings_of(two_bytes(walk_file + 3), two_bytes(walk_file + 5), planner_word(walk_file + 7),
                                     walk_file[11]);
+    if (body == 12) {
+        settings->heuristic = walk_file[12];
+        settings->chance = two_bytes(walk_file + 13);
+    }
     if (settings->noise > 1000) {
         answer.refusal = PLANNER_WRONG_NOISE;
     } else if (settings->tries < 1 || settings->tries > 1000) {
@@ -116,6 +122,10 @@ static planner_loaded read_walk(size_t length, planner_settings *settings) {
         answer.refusal = PLANNER_WRONG_FLIPS;
     } else if (settings->mode > 1) {
         answer.refusal = PLANNER_WRONG_MODE;
+    } else if (settings->heuristic > 1) {
+        answer.refusal = PLANNER_WRONG_HEURISTIC;
+    } else if (settings->chance > 1000) {
+        answer.refusal = PLANNER_WRONG_CHANCE;
     }
     return answer;
 }

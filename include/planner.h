@@ -54,7 +54,7 @@ extern "C" {
 #define PLANNER_TERMS_SIZE 52096
 #define PLANNER_ASSIGNMENT_SIZE 512
 #define PLANNER_TALLIES_SIZE 6156
-#define PLANNER_MARKS_SIZE 512
+#define PLANNER_MARKS_SIZE 2560
 #define PLANNER_LIST_SIZE 2048
 
 /* The byte of the tables at which the locks begin. */
@@ -101,6 +101,8 @@ enum planner_refusal {
     PLANNER_WRONG_TRIES = 12, /* tries not from 1 to 1,000 */
     PLANNER_WRONG_FLIPS = 13, /* flips not from 1 to 1,000,000 */
     PLANNER_WRONG_MODE = 14,  /* a mode other than PLANNER_LINEAR and PLANNER_LBS */
+    PLANNER_WRONG_HEURISTIC = 15, /* a heuristic other than PLANNER_SKC and PLANNER_NOVELTY */
+    PLANNER_WRONG_CHANCE = 16,    /* a walk chance above 1,000, under either heuristic */
 
     /* By what the program lends: a fault of the program, and none of the plan. */
     PLANNER_BUFFER_TOO_SMALL = 21, /* a buffer below its size above: the inline functions lend the right ones */
@@ -138,6 +140,8 @@ static inline const char *planner_refusal_text(uint32_t refusal) {
     case PLANNER_WRONG_TRIES: return "the number of tries is not from 1 to 1,000";
     case PLANNER_WRONG_FLIPS: return "the number of flips is not from 1 to 1,000,000";
     case PLANNER_WRONG_MODE: return "the mode is neither 0 (linear) nor 1 (LBS)";
+    case PLANNER_WRONG_HEURISTIC: return "the heuristic is neither 0 (SKC) nor 1 (Novelty+)";
+    case PLANNER_WRONG_CHANCE: return "the walk chance is not from 0 to 1,000";
     case PLANNER_BUFFER_TOO_SMALL: return "a buffer is too small";
     case PLANNER_NOT_LOADED: return "the tables hold no plan as loading leaves it";
     case PLANNER_WRONG_VARIABLE: return "the plan has no such variable";
@@ -250,15 +254,22 @@ planner_counted planner_counts(const uint8_t *tables, size_t tables_length, cons
                                size_t tallies_length, uint32_t variable);
 
 /* Searches for an assignment that meets every clause, then for cheaper ones, by the walk of Liu and Truszczynski with
- * the SKC choice. A locked variable has its value from each try's start on and is not chosen; a try that picks a clause
- * without an unlocked variable ends there. noise is how many of 1,000 choices take the least break count, cut ones
- * being the greatest, where every one spoils something; the others take any. Each call of the walk has so many tries of
- * so many flips. numbers is a list of any length, each number of 4 bytes, little-endian: the same plan, settings and
- * list give the same answer. A pick among m discards each number at or above the largest multiple of m up to
- * 4,294,967,296 and takes the next, so that no place is favoured; the noise number is such a pick among 1,000. A last
- * number of fewer than 4 bytes is not read.
+ * the SKC choice or with Novelty+ (Hoos, 1999). A locked variable has its value from each try's start on and is not
+ * chosen; a try that picks a clause without an unlocked variable ends there. Each call of the walk has so many tries of
+ * so many flips.
+ * With SKC a variable of the picked clause that spoils nothing is chosen. Where every one spoils something, noise is how
+ * many of 1,000 choices take the least break count, cut ones being the greatest; the others take any. With Novelty+
+ * chance is how many of 1,000 choices take any of them. The others rank them by make count minus break count, a cut one
+ * standing as 4,294,967,295, the highest first, equals by how long they are unflipped in this try, then by number, and
+ * take the first; but where that is the one most recently flipped in this try, noise is how many of 1,000 such choices
+ * take the second. chance is judged under SKC too, which does not ask for it.
+ * numbers is a list of any length, each number of 4 bytes, little-endian: the same plan, settings and list give the same
+ * answer. A pick among m discards each number at or above the largest multiple of m up to 4,294,967,296 and takes the
+ * next, so that no place is favoured; the numbers for noise and chance are such picks among 1,000. A last number of
+ * fewer than 4 bytes is not read.
  * PLANNER_BUFFER_TOO_SMALL (a buffer other than numbers), PLANNER_NOT_LOADED, PLANNER_WRONG_NOISE, PLANNER_WRONG_TRIES,
- * PLANNER_WRONG_FLIPS, PLANNER_WRONG_MODE; with a refusal every other field of the answer is 0.
+ * PLANNER_WRONG_FLIPS, PLANNER_WRONG_MODE, PLANNER_WRONG_HEURISTIC, PLANNER_WRONG_CHANCE; with a refusal every other
+ * field of the answer is 0.
  * Accepted: the answer is that of the walk. With a find (finds is not 0: ending 1, 2 or 4) the first n bytes of
  * assignment are the last one found: it meets every clause, each locked variable has its value, and cost is its cost.
  * With none they are as they were; those beyond n always are. What the five work buffers hold at first does not matter;
@@ -266,8 +277,9 @@ planner_counted planner_counts(const uint8_t *tables, size_t tables_length, cons
  * find. */
 planner_searched planner_search(const uint8_t *tables, size_t tables_length, const uint8_t *terms, size_t terms_length,
                                 const uint8_t *numbers, size_t numbers_length, uint32_t noise, uint32_t tries,
-                                uint32_t flips, uint32_t mode, uint8_t *assignment, size_t assignment_length,
-                                uint8_t *work_tables, size_t work_tables_length, uint8_t *work_terms,
+                                uint32_t flips, uint32_t mode, uint32_t heuristic, uint32_t chance,
+                                uint8_t *assignment, size_t assignment_length, uint8_t *work_tables,
+                                size_t work_tables_length, uint8_t *work_terms,
                                 size_t work_terms_length, uint8_t *work_assignment, size_t work_assignment_length,
                                 uint8_t *work_tallies, size_t work_tallies_length, uint8_t *work_marks,
                                 size_t work_marks_length);
@@ -313,20 +325,33 @@ typedef struct {
     uint8_t numbers[PLANNER_LIST_SIZE];
 } planner_list;
 
-/* Make it by planner_settings_of, so that fields to come have their plain values. */
+/* Make it by planner_settings_of or planner_novelty_of, so that fields to come have their plain values. */
 typedef struct {
-    uint32_t noise; /* 0 to 1,000 */
-    uint32_t tries; /* 1 to 1,000 */
-    uint32_t flips; /* 1 to 1,000,000 */
-    uint32_t mode;  /* enum planner_mode */
+    uint32_t noise;     /* 0 to 1,000 */
+    uint32_t tries;     /* 1 to 1,000 */
+    uint32_t flips;     /* 1 to 1,000,000 */
+    uint32_t mode;      /* enum planner_mode */
+    uint32_t heuristic; /* enum planner_heuristic */
+    uint32_t chance;    /* 0 to 1,000 */
 } planner_settings;
 
 /* How far below a find's cost the next search asks. PLANNER_LINEAR: by one. PLANNER_LBS: by a third of the way down to
  * the least cost that PLANNER_FLOOR speaks of, until that fails; then by one. */
 enum planner_mode { PLANNER_LINEAR = 0, PLANNER_LBS = 1 };
 
+/* How a variable is chosen. PLANNER_NOVELTY: Novelty+, for plans on which SKC sticks. */
+enum planner_heuristic { PLANNER_SKC = 0, PLANNER_NOVELTY = 1 };
+
+/* Settings with the SKC choice. */
 static inline planner_settings planner_settings_of(uint32_t noise, uint32_t tries, uint32_t flips, uint32_t mode) {
-    planner_settings settings = {noise, tries, flips, mode};
+    planner_settings settings = {noise, tries, flips, mode, PLANNER_SKC, 0};
+    return settings;
+}
+
+/* Settings with Novelty+ and its walk chance. */
+static inline planner_settings planner_novelty_of(uint32_t noise, uint32_t tries, uint32_t flips, uint32_t mode,
+                                                  uint32_t chance) {
+    planner_settings settings = {noise, tries, flips, mode, PLANNER_NOVELTY, chance};
     return settings;
 }
 
@@ -343,8 +368,8 @@ static inline planner_searched planner_plan_search(const planner_plan *plan, pla
                                                    const uint8_t *numbers, size_t numbers_length, planner_state *state,
                                                    planner_work *work) {
     return planner_search(PLANNER_LEND(plan->tables), PLANNER_LEND(plan->terms), numbers, numbers_length,
-                          settings.noise, settings.tries, settings.flips, settings.mode,
-                          PLANNER_LEND(state->assignment), PLANNER_LEND(work->tables), PLANNER_LEND(work->terms),
+                          settings.noise, settings.tries, settings.flips, settings.mode, settings.heuristic,
+                          settings.chance, PLANNER_LEND(state->assignment), PLANNER_LEND(work->tables), PLANNER_LEND(work->terms),
                           PLANNER_LEND(work->assignment), PLANNER_LEND(work->tallies), PLANNER_LEND(work->marks));
 }
 

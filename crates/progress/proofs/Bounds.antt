@@ -166,6 +166,7 @@ module _ {p : Plan} {tables terms assignment : List ℕ} {w : Work} (room : Room
           ready = record { laid = l; bytes = omega (arith, n, room .tried) };
           room = room .tallies;
           marks = record { laid = l; bytes = omega (arith, n, room .marks) };
+          stamps = room .stamps;
         }
 
     module _ (s : Settings) {numbers : List ℕ} {from : Progress} (st : Tracks p numbers assignment from) {v : Work} where

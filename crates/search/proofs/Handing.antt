@@ -1,13 +1,12 @@
 -- What a search that is not refused answers, leaves and hands out.
 -- Assumes nothing.
-use Prim.Native.Nat.{ℕ, _+_, _-_, _≤_}
+use Prim.Native.Nat.{ℕ, _≤_}
 use native.Mathlib.Omega.{arith}
 use mathlib.Core.Path.{_≡_, refl, sym, ap, _∙_, subst}
 use mathlib.Core.Bool.{false}
 use mathlib.Core.List.{List, [], _∷_, _++_}
 use lib.Dec.{T}
 use lib.ListN.{drop, replicate}
-use lib.Seq.{drop-drop}
 use mir.Facts.{toZ-ofZ}
 use mir.Syntax.{w64}
 use mir.Val.{toZ, ofZ, SFits}
@@ -26,6 +25,7 @@ use Rattle.numbers.specs.Numbers.{numbersOf}
 use Rattle.progress.specs.declared.Searched.{Searched}
 use Rattle.settings.specs.declared.Settings.{Settings as Asked}
 use Rattle.settings.specs.Settings.{settingsOf}
+use Rattle.moves.proofs.Moving.{drop-more}
 use Rattle.lending.specs.Work.{Work}
 use Rattle.lending.specs.Lent.{Lent, searchRefusal}
 use Rattle.search.specs.Calls.{answer, searchAssignment, cleared, endingNumber, unless, Searches, HandsOut}
@@ -71,11 +71,6 @@ handed-out {s} {p} {numbers} {r} {entry} {exit} {w} {v} h t =
 
 -- ---- what a search answers and leaves
 
-drop-more : {n m : ℕ} (s t : List ℕ) → n ≤ m → drop n s ≡ drop n t → drop m s ≡ drop m t
-drop-more {n} {m} s t h e =
-    let k : n + (m - n) ≡ m = omega arith in
-    ap (λ i. drop i s) (sym k) ∙ sym (drop-drop (m - n) n s) ∙ ap (drop (m - n)) e ∙ drop-drop (m - n) n t ∙ ap (λ i. drop i t) k
-
 module _ (l : Lent) (k : Asked) (z : searchRefusal l k ≡ 0) {r : Searched} {exit : List ℕ} {v : Work}
     (h : Whole (settingsOf k) (planOfTables (l .tables) (l .terms)) (l .numbers) r (l .assignment) exit
     (record { assignment = l .workAssignment; tallies = l .workTallies; marks = l .workMarks }) v)
@@ -120,7 +115,7 @@ module _ (l : Lent) (k : Asked) (z : searchRefusal l k ≡ 0) {r : Searched} {ex
           workTerms = rw z eb;
           workAssignment = rw z (ec ∙ ap (λ s. replicate assignmentSize 0 ++ s) (drop-more (v .assignment) (l .workAssignment) few-here (h .beyond .assignment)));
           workTallies = rw z (ed ∙ ap (λ s. replicate tallySize 0 ++ s) (h .beyond .tallies));
-          workMarks = rw z (em ∙ ap (λ s. replicate markSize 0 ++ s) (drop-more (v .marks) (l .workMarks) few-here (h .beyond .marks)));
+          workMarks = rw z (em ∙ ap (λ s. replicate markSize 0 ++ s) (h .beyond .marks));
         }
 
     pub hands : HandsOut l (record { refusal = 0; ending = n; cost = toZ w64 (ofZ w64 (r .progress .cost)); finds = r .progress .finds; flips = r .progress .flips; used = r .progress .used }) exit
