@@ -44,6 +44,10 @@ typedef struct {
     uint32_t refusal, breaks, break_cut, makes, make_cut;
 } plain_counted;
 typedef struct {
+    uint32_t noise, tries, flips, mode, heuristic, chance;
+} plain_settings;
+
+typedef struct {
     uint32_t refusal, ending;
     int64_t cost;
     uint64_t finds, flips, used;
@@ -54,7 +58,7 @@ uint32_t plain_open(const plain_tables *t, const plain_terms *s, const uint8_t *
 plain_flipped plain_flip(const plain_tables *t, const plain_terms *s, uint8_t *a, plain_tallies *y, uint32_t x);
 plain_counted plain_counts(const plain_tables *t, const plain_terms *s, const uint8_t *a, const plain_tallies *y,
                            uint32_t x);
-plain_searched plain_search(const plain_tables *t, const plain_terms *s, uint32_t noise, uint32_t tries, uint32_t flips,
-                            uint32_t mode, const uint8_t *numbers, size_t length, uint8_t *a);
+plain_searched plain_search(const plain_tables *t, const plain_terms *s, plain_settings set, const uint8_t *numbers,
+                            size_t length, uint8_t *a);
 
 #endif

@@ -1,6 +1,7 @@
 // One search of each plan file named, by the proved library and by the straightforward C program, over the same list of
 // numbers:
-//     search ROUNDS NUMBERS COUNT PLAN...     the first COUNT numbers; the best of so many rounds
+//     search ROUNDS NUMBERS COUNT PLAN...     the first COUNT numbers; the best of so many rounds; each plan by SKC, then
+//                                             by Novelty+
 #include "plain.h"
 #include "../include/planner.h"
 
@@ -35,8 +36,9 @@ static planner_searched proved(void) { return planner_plan_search(&plan, setting
 
 // In the library's terms: its endings begin at 1, after that of a refusal.
 static planner_searched plain(void) {
-    plain_searched r = plain_search(&tables, &terms, settings.noise, settings.tries, settings.flips, settings.mode,
-                                    numbers, listed, assignment);
+    plain_settings set = {settings.noise, settings.tries,     settings.flips,
+                          settings.mode,  settings.heuristic, settings.chance};
+    plain_searched r = plain_search(&tables, &terms, set, numbers, listed, assignment);
     return (planner_searched){r.refusal, r.refusal ? 0 : r.ending + 1, r.cost, r.finds, r.flips, r.used};
 }
 
@@ -67,15 +69,19 @@ int main(int count, char **names) {
     }
     long rounds = strtol(names[1], NULL, 10);
     size_t most = 4 * strtoul(names[3], NULL, 10);
-    settings = planner_settings_of(500, 10, 100000, PLANNER_LBS);
+    const planner_settings choices[] = {planner_settings_of(500, 10, 100000, PLANNER_LBS),
+                                        planner_novelty_of(500, 10, 100000, PLANNER_LBS, 10)};
+    static const char *const heuristics[] = {"SKC", "Novelty+"};
     listed = contents(names[2], numbers);
     if (most < listed) listed = most;
-    printf("| plan | ending | finds | flips | proved, ms | C, ms | proved, µs a flip | C, µs a flip | ratio |\n");
-    printf("|---|---|---|---|---|---|---|---|---|\n");
-    for (int i = 4; i < count; i++) {
-        size_t length = contents(names[i], file);
+    printf("| plan | choice | ending | finds | flips | proved, ms | C, ms | proved, µs a flip | C, µs a flip | ratio |\n");
+    printf("|---|---|---|---|---|---|---|---|---|---|\n");
+    for (int i = 8; i < 2 * count; i++) {
+        const char *path = names[i / 2];
+        settings = choices[i % 2];
+        size_t length = contents(path, file);
         if (planner_plan_load(&plan, file, length).refusal || plain_load(file, length, &tables, &terms).refusal) {
-            printf("%s is no plan\n", names[i]);
+            printf("%s is no plan\n", path);
             return 1;
         }
         memset(state.assignment, 2, sizeof state.assignment);
@@ -83,13 +89,13 @@ int main(int count, char **names) {
         planner_searched p, q;
         double r = best(proved, rounds, &p), c = best(plain, rounds, &q), flips = p.flips ? (double)p.flips : 1;
         if (!same(p, q)) {
-            printf("the two differ on %s\n", names[i]);
+            printf("the two differ on %s\n", path);
             return 1;
         }
-        const char *slash = strrchr(names[i], '/');
-        const char *name = slash ? slash + 1 : names[i];
-        printf("| %.*s | %s | %zu | %zu | %.1f | %.1f | %.2f | %.2f | %.2f |\n", (int)strcspn(name, "."), name,
-               endings[p.ending], p.finds, p.flips, r * 1e3, c * 1e3, r / flips * 1e6, c / flips * 1e6, r / c);
+        const char *slash = strrchr(path, '/');
+        const char *name = slash ? slash + 1 : path;
+        printf("| %.*s | %s | %s | %zu | %zu | %.1f | %.1f | %.2f | %.2f | %.2f |\n", (int)strcspn(name, "."), name,
+               heuristics[i % 2], endings[p.ending], p.finds, p.flips, r * 1e3, c * 1e3, r / flips * 1e6, c / flips * 1e6, r / c);
         fflush(stdout);
     }
     return 0;

@@ -311,7 +311,7 @@ typedef struct {
     uint8_t tallies[PLANNER_TALLIES_SIZE];
 } planner_state;
 
-/* What a search works in: five buffers, each below 64 KiB; 116,092 bytes in all. Nothing of it is of use after. */
+/* What a search works in: five buffers, each below 64 KiB; 118,140 bytes in all. Nothing of it is of use after. */
 typedef struct {
     uint8_t tables[PLANNER_TABLES_SIZE];
     uint8_t terms[PLANNER_TERMS_SIZE];
