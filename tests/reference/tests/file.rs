@@ -539,7 +539,7 @@ fn settings_of_length_12() {
     };
     // A heuristic byte 0 is SKC, whatever the chance.
     let skc = with(12, &[0]).unwrap();
-    assert_eq!((skc.heuristic, skc.chance), (SKC, 300));
+    assert_eq!((skc.heuristic, skc.chance), (0, 300));
     for heuristic in 2..=255 {
         assert_eq!(with(12, &[heuristic]), refused(15, 0));
         // 15 before 16, 14 before both.
