@@ -328,8 +328,8 @@ fn settings_at_their_edges() {
             assert_eq!(printed.starts_with("refused"), outside.contains(&value));
         }
     }
-    // Several outside at once: the first of 11 to 14.
-    for set in 1..16_u32 {
+    // Several outside at once: the first of 11 to 16.
+    for set in 1..64_u32 {
         let mut settings = EXAMPLE_SETTINGS;
         for (place, (_, put, _, outside)) in cases.iter().enumerate() {
             if set >> place & 1 == 1 {
