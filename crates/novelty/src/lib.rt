@@ -68,7 +68,10 @@ fn choose_ranked(top: Top, numbers: &[u8], used: usize, noise: u32) -> Chosen
     }
     let p = pick(numbers, used, 1000);
     match p {
-        Picked::At(r, after) => Chosen::At(either(is_below(r, noise), second.variable, first.variable), after),
+        Picked::At(r, after) => Chosen::At(
+            either(is_below(r, noise), second.variable, first.variable),
+            after,
+        ),
         Picked::Short(after) => Chosen::Short(after),
     }
 }
@@ -98,7 +101,12 @@ fn choose_novelty(
             if is_below(r, s.chance) {
                 choose_any(numbers, after, n, marks)
             } else {
-                choose_ranked(rank_marked(tables, terms, assignment, marks, n), numbers, after, s.noise)
+                choose_ranked(
+                    rank_marked(tables, terms, assignment, marks, n),
+                    numbers,
+                    after,
+                    s.noise,
+                )
             }
         }
         Picked::Short(after) => Chosen::Short(after),

@@ -182,13 +182,7 @@ fn with_place(
 }
 
 // The variables marked 1, ranked: from the last to the first, so that each comes before those that are ranked already.
-pub fn rank_marked(
-    tables: &[u8],
-    terms: &[u8],
-    assignment: &[u8],
-    marks: &[u8],
-    n: usize,
-) -> Top
+pub fn rank_marked(tables: &[u8], terms: &[u8], assignment: &[u8], marks: &[u8], n: usize) -> Top
     requires { ⌜ Ready (now tables) (now terms) (now assignment) × (n ≡ planOfTables (now tables) (now terms) .variables)
         × (markSize ≤ length (now marks)) ⌝ }
     ensures { λ r. ⌜ Ranks (planOfTables (now (tables .entry)) (now (terms .entry)))

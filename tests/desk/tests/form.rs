@@ -5,8 +5,8 @@ use desk::print;
 use desk::read::{read, read_bytes, Text};
 use desk::report::{counted, grouped};
 use reference::file::{parse, write};
-use reference::plan::{Rule, Term};
 use reference::making;
+use reference::plan::{Rule, Term};
 use reference::walk::{Settings, LBS, LINEAR, SKC};
 
 fn accepted(text: &str) -> Text {
