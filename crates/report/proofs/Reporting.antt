@@ -1,6 +1,6 @@
 -- Laws of what is printed once a plan is read: the settings, then the list of numbers.
 -- Assumes nothing.
-use Prim.Native.Nat.{ℕ, _≤_}
+use Prim.Native.Nat.{ℕ, _+_, _≤_}
 use native.Mathlib.Omega.{arith}
 use mathlib.Core.Path.{_≡_, refl, sym, ap, _∙_}
 use mathlib.Core.Bool.{Bool, true, false, cond}
@@ -12,7 +12,7 @@ use Rattle.plpb.specs.Plan.{Plan}
 use Rattle.plpb.specs.Settings.{Settings}
 use Rattle.plpb.specs.Search.{search}
 use Rattle.words.specs.Writes.{front}
-use Rattle.format.specs.File.{Reading, refused, accepted, read}
+use Rattle.format.specs.File.{Reading, refused, accepted, read, lengthAt}
 use Rattle.numbers.specs.Numbers.{numbersOf}
 use Rattle.settings.specs.declared.Settings.{Settings as Asked}
 use Rattle.settings.specs.Settings.{settingsRefusal, settingsOf}
@@ -56,8 +56,9 @@ readOr k (accepted q) = q
 read-lawful : (s : List ℕ) (k : Asked) → readWalk s ≡ accepted k → settingsRefusal k ≡ 0
 unfolding readWalk judged readOr
 read-lawful s k e =
-    let a = passed (ltb 0 (walkFault s)) (walkFault s) 0 (cond (ltb 12 (length s)) (refused 7 12) (judged (askedIn s))) k e in
-    let b = passed (ltb 12 (length s)) 7 12 (judged (askedIn s)) k (a .1) in
+    let end = 3 + lengthAt s 0 in
+    let a = passed (ltb 0 (walkFault s)) (walkFault s) 0 (cond (ltb end (length s)) (refused 7 end) (judged (askedIn s))) k e in
+    let b = passed (ltb end (length s)) 7 end (judged (askedIn s)) k (a .1) in
     let c = passed (ltb 0 (settingsRefusal (askedIn s))) (settingsRefusal (askedIn s)) 0 (accepted (askedIn s)) k (b .1) in
     let low : settingsRefusal (askedIn s) ≤ 0 = ltb-false _ _ (c .0) in
     let is : askedIn s ≡ k = ap (readOr k) (c .1) in
