@@ -53,8 +53,8 @@ static void run(uint32_t load, uint32_t call, uint32_t search, const size_t *siz
     }
     expect("load", planner_load(file, length, lent[0], size[0], lent[1], size[1]).refusal, load);
     planner_searched found =
-        planner_search(lent[0], size[0], lent[1], size[1], numbers, listed, 500, 10, 1000, 1, lent[2], size[2], work[0],
-                       size[0], work[1], size[1], work[2], size[2], work[3], size[3], work[4], size[4]);
+        planner_search(lent[0], size[0], lent[1], size[1], numbers, listed, 500, 10, 1000, 1, 0, 0, lent[2], size[2],
+                       work[0], size[0], work[1], size[1], work[2], size[2], work[3], size[3], work[4], size[4]);
     expect("search", found.refusal, search);
     uint32_t variables = call ? 1 : planner_word(lent[0]);
     if (!call && !found.finds) memset(lent[2], 0, variables);
