@@ -1,0 +1,4 @@
+-- The laws behind fractions in lowest terms.
+pub mod Euclid
+pub mod Lowest
+pub mod Signs

@@ -1,0 +1,2 @@
+-- Fractions in lowest terms.
+pub mod Fractions
