@@ -5,11 +5,13 @@ ghost use lib.IntN.{natAbs};
 ghost use Rattle.words.specs.Signed.{complement};
 ghost use Rattle.fractions.specs.Fractions.{gcd, reduced, reducedZ};
 
+#[repr(C)]
 pub struct Fraction {
     pub top: u64,
     pub bottom: u64,
 }
 
+#[repr(C)]
 pub struct SignedFraction {
     pub top: i64,
     pub bottom: u64,

@@ -1,0 +1,4 @@
+-- The laws behind the sums and the figures.
+pub mod Apart
+pub mod Adding
+pub mod Means

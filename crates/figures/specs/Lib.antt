@@ -1,0 +1,3 @@
+-- Runs of the search, and what is reported of them.
+pub mod Runs
+pub mod Figures
