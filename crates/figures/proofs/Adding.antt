@@ -14,7 +14,7 @@ use Rattle.plpb.specs.Lists.{keep, count, sumBy}
 use Rattle.plpb.specs.Search.{Answer}
 use Rattle.counting.proofs.Signed.{size-sum}
 use Rattle.figures.specs.declared.Sums.{Sums}
-use Rattle.figures.specs.Figures.{hasFind, costs, sumsOf, AtMost, plus}
+use Rattle.figures.specs.Figures.{hasFind, costs, sumsOf, AtMost, plus, plusRun}
 
 abbrev pub sums : ℕ → ℕ → ℤ → Sums
 sums found flips cost = record { found = found; flips = flips; cost = cost }
@@ -52,17 +52,29 @@ module _ (s : Sums) (finds flips : ℕ) (cost : ℤ) where
       either-cost true = omega (arith, m .cost, size-sum (s .cost) cost)
       either-cost false = omega (arith, m .cost)
 
+-- Fewer runs are no more.
+pub most-more : (n m : ℕ) (s : Sums) → n ≤ m → AtMost n s → AtMost m s
+most-more n m s h a =
+    record {
+      found = omega (arith, a .found);
+      flips = omega (arith, a .flips);
+      cost = omega (arith, a .cost);
+    }
+
+pub most-none : AtMost 0 (sums 0 0 (pos 0))
+most-none = record { found = omega arith; flips = omega arith; cost = omega arith }
+
 -- ---- all of them
 
 unfoldable pub total : Sums → List Answer → Sums
 total s [] = s
-total s (r ∷ rs) = total (plus s (r .finds) (r .flips) (r .cost)) rs
+total s (r ∷ rs) = total (plusRun s r) rs
 
 total-sums : (s : Sums) (rs : List Answer)
     → total s rs ≡ sums (s .found + count hasFind rs) (s .flips + sumBy (λ r. r .flips) rs) (s .cost +ℤ costs (keep hasFind rs))
 unfolding total count keep sumBy costs plus hasFind
 total-sums s [] = same-sums (sym (add-zero (s .found))) (sym (add-zero (s .flips))) (sym (+ℤ-idr (s .cost)))
-total-sums s (r ∷ rs) = total-sums (plus s (r .finds) (r .flips) (r .cost)) rs ∙ step (ltb 0 (r .finds))
+total-sums s (r ∷ rs) = total-sums (plusRun s r) rs ∙ step (ltb 0 (r .finds))
   where
     step : (b : Bool)
         → sums (s .found + cond b 1 0 + length (keep hasFind rs)) (s .flips + r .flips + sumBy (λ q. q .flips) rs)

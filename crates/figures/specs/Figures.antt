@@ -85,3 +85,6 @@ plus s finds flips cost =
       flips = s .flips + flips;
       cost = cond (ltb 0 finds) (s .cost +ℤ cost) (s .cost);
     }
+
+abbrev pub plusRun : Sums → Answer → Sums
+plusRun s r = plus s (r .finds) (r .flips) (r .cost)

@@ -1,0 +1,3 @@
+-- The laws behind figures over many runs.
+pub mod Refusing
+pub mod Reporting

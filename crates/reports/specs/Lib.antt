@@ -1,0 +1,2 @@
+-- Figures over many runs, with what is refused.
+pub mod Calls

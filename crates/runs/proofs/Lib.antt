@@ -1,0 +1,3 @@
+-- The laws behind runs in a row.
+pub mod Once
+pub mod Repeated

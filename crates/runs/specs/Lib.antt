@@ -1,0 +1,2 @@
+-- Runs of the search in a row.
+pub mod Repeating
