@@ -5,6 +5,7 @@ ghost use Rattle.counting.specs.Count.{countWords, markedWords};
 ghost use Rattle.tallies.specs.Calls.{openRefusal, openTallies, callRefusal, flipRefusal, flipRules, flipAssignment, flipTallies, countsBreak, countsMake, lent};
 ghost use Rattle.search.specs.Calls.{Searches, HandsOut};
 ghost use Rattle.lending.specs.Lent.{lentAll};
+ghost use Rattle.reports.specs.Calls.{Reports, trial};
 ghost use Rattle.squeeze.specs.Calls.{Answers, outcome};
 ghost use Rattle.tables.specs.Load.{refusalOf, offsetOf, loading, tablesAfter, termsAfter};
 use answers::Answer as Searched;
@@ -13,6 +14,8 @@ use calls::counts::counts;
 use calls::flip::Flipped;
 use calls::flip::flip;
 use calls::open::open;
+use figures::Figures;
+use reports::report;
 use search::search;
 use settings::Settings;
 use squeeze::Squeezed;
@@ -20,6 +23,7 @@ use squeeze::squeeze;
 use tables::load;
 use verdict::Loaded;
 use verdict::numbers;
+use xorwow::Xorwow;
 
 #[no_mangle]
 pub extern "C" fn planner_load(file: &[u8], tables: &mut [u8], terms: &mut [u8]) -> Loaded
@@ -124,6 +128,68 @@ pub extern "C" fn planner_search(
             heuristic,
             chance,
         },
+        assignment,
+        work_tables,
+        work_terms,
+        work_assignment,
+        work_tallies,
+        work_marks,
+    )
+}
+
+// The figures of many runs, each a search of its own.
+#[no_mangle]
+pub extern "C" fn planner_runs(
+    tables: &[u8],
+    terms: &[u8],
+    x: u32,
+    y: u32,
+    z: u32,
+    w: u32,
+    v: u32,
+    counter: u32,
+    runs: u32,
+    count: u32,
+    noise: u32,
+    tries: u32,
+    flips: u32,
+    mode: u32,
+    numbers: &mut [u8],
+    assignment: &mut [u8],
+    work_tables: &mut [u8],
+    work_terms: &mut [u8],
+    work_assignment: &mut [u8],
+    work_tallies: &mut [u8],
+    work_marks: &mut [u8],
+) -> Figures
+    ensures { λ r. ⌜ Reports
+        (lentAll (now (tables .entry)) (now (terms .entry)) (now (numbers .entry)) (now (assignment .entry)) (now («work_tables» .entry))
+        (now («work_terms» .entry)) (now («work_assignment» .entry)) (now («work_tallies» .entry)) (now («work_marks» .entry)))
+        (trial (record { noise = noise; tries = tries; flips = flips; mode = mode })
+        (record { x = x; y = y; z = z; w = w; v = v; counter = counter }) runs count) r
+        (lentAll (now (tables .entry)) (now (terms .entry)) (now (numbers .exit)) (now (assignment .exit)) (now («work_tables» .exit))
+        (now («work_terms» .exit)) (now («work_assignment» .exit)) (now («work_tallies» .exit)) (now («work_marks» .exit))) ⌝ }
+{
+    report(
+        tables,
+        terms,
+        Xorwow {
+            x,
+            y,
+            z,
+            w,
+            v,
+            counter,
+        },
+        runs,
+        count,
+        Settings {
+            noise,
+            tries,
+            flips,
+            mode,
+        },
+        numbers,
         assignment,
         work_tables,
         work_terms,
