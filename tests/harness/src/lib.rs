@@ -7,4 +7,5 @@ pub mod planner;
 pub mod probe;
 pub mod program;
 pub mod replay;
+pub mod running;
 pub mod searching;

@@ -2,6 +2,7 @@
 
 use reference::book::Answer;
 use reference::counts::Count;
+use reference::figures::{self, Trial};
 use reference::walk::Settings;
 
 /// What loading answers.
@@ -106,9 +107,52 @@ pub struct Squeezed {
     pub constant: i64,
 }
 
+/// What is reported of many runs: three fractions, top and bottom. `found` is 0 where the mean cost
+/// is absent, 0 over 0.
+#[repr(C)]
+#[derive(Clone, Copy, Debug, PartialEq, Eq)]
+pub struct Figures {
+    pub refusal: u32,
+    pub found: u32,
+    pub share: [u64; 2],
+    pub flips: [u64; 2],
+    pub cost_top: i64,
+    pub cost_bottom: u64,
+}
+
+impl Figures {
+    /// The answer with this refusal: every other field is 0.
+    pub fn refused(refusal: u32) -> Figures {
+        Figures {
+            refusal,
+            found: 0,
+            share: [0; 2],
+            flips: [0; 2],
+            cost_top: 0,
+            cost_bottom: 0,
+        }
+    }
+}
+
+/// What is reported where the reference has these figures.
+impl From<figures::Figures> for Figures {
+    fn from(figures: figures::Figures) -> Figures {
+        let whole = |(top, bottom): figures::Fraction| [top as u64, bottom];
+        let (cost_top, cost_bottom) = figures.cost.unwrap_or((0, 0));
+        Figures {
+            refusal: 0,
+            found: figures.cost.is_some() as u32,
+            share: whole(figures.share),
+            flips: whole(figures.flips),
+            cost_top,
+            cost_bottom,
+        }
+    }
+}
+
 /// The functions as they are exported.
 pub mod raw {
-    use super::{Counted, Flipped, Loaded, Searched, Squeezed};
+    use super::{Counted, Figures, Flipped, Loaded, Searched, Squeezed};
 
     extern "C" {
         pub fn planner_load(
@@ -177,6 +221,38 @@ pub mod raw {
             work_marks: *mut u8,
             work_marks_length: usize,
         ) -> Searched;
+        pub fn planner_runs(
+            tables: *const u8,
+            tables_length: usize,
+            terms: *const u8,
+            terms_length: usize,
+            x: u32,
+            y: u32,
+            z: u32,
+            w: u32,
+            v: u32,
+            counter: u32,
+            runs: u32,
+            count: u32,
+            noise: u32,
+            tries: u32,
+            flips: u32,
+            mode: u32,
+            numbers: *mut u8,
+            numbers_length: usize,
+            assignment: *mut u8,
+            assignment_length: usize,
+            work_tables: *mut u8,
+            work_tables_length: usize,
+            work_terms: *mut u8,
+            work_terms_length: usize,
+            work_assignment: *mut u8,
+            work_assignment_length: usize,
+            work_tallies: *mut u8,
+            work_tallies_length: usize,
+            work_marks: *mut u8,
+            work_marks_length: usize,
+        ) -> Figures;
         pub fn planner_squeeze(
             file: *mut u8,
             file_length: usize,
@@ -282,6 +358,54 @@ pub fn search(
             settings.mode,
             settings.heuristic,
             settings.chance,
+            assignment.as_mut_ptr(),
+            assignment.len(),
+            work_tables.as_mut_ptr(),
+            work_tables.len(),
+            work_terms.as_mut_ptr(),
+            work_terms.len(),
+            work_assignment.as_mut_ptr(),
+            work_assignment.len(),
+            work_tallies.as_mut_ptr(),
+            work_tallies.len(),
+            work_marks.as_mut_ptr(),
+            work_marks.len(),
+        )
+    }
+}
+
+/// The written buffers are numbers and assignment; the work buffers are as for a search.
+pub fn runs(
+    tables: &[u8],
+    terms: &[u8],
+    trial: &Trial,
+    settings: &Settings,
+    numbers: &mut [u8],
+    assignment: &mut [u8],
+    work: [&mut [u8]; 5],
+) -> Figures {
+    let [x, y, z, w, v] = trial.state.words;
+    let [work_tables, work_terms, work_assignment, work_tallies, work_marks] = work;
+    unsafe {
+        raw::planner_runs(
+            tables.as_ptr(),
+            tables.len(),
+            terms.as_ptr(),
+            terms.len(),
+            x,
+            y,
+            z,
+            w,
+            v,
+            trial.state.counter,
+            trial.runs,
+            trial.count,
+            settings.noise,
+            settings.tries,
+            settings.flips,
+            settings.mode,
+            numbers.as_mut_ptr(),
+            numbers.len(),
             assignment.as_mut_ptr(),
             assignment.len(),
             work_tables.as_mut_ptr(),

@@ -11,6 +11,7 @@ pub mod counts;
 pub mod csv;
 pub mod exact;
 pub mod expansion;
+pub mod figures;
 pub mod file;
 pub mod literals;
 pub mod making;
