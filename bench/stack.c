@@ -7,13 +7,14 @@
 #include <string.h>
 #include <ucontext.h>
 
-enum { SIZE = 1 << 20, PAINT = 0xa5, CALLS = 7, LISTED = 4 * 200 };
+enum { SIZE = 1 << 20, PAINT = 0xa5, CALLS = 8, LISTED = 4 * 200 };
 
 static uint8_t file[PLANNER_INPUT_SIZE], numbers[LISTED];
 static planner_plan plan;
 static planner_state state;
 static planner_work work;
 static planner_list old;
+static planner_scratch scratch;
 static size_t length, listed;
 static uint32_t refusal;
 
@@ -25,6 +26,11 @@ static void counts(void) { refusal = planner_state_counts(&state, &plan, 1).refu
 static void search(void) {
     planner_settings settings = planner_settings_of(500, 10, 1000, PLANNER_LBS);
     refusal = planner_plan_search(&plan, settings, numbers, listed, &state, &work).refusal;
+}
+static void runs(void) {
+    planner_settings settings = planner_settings_of(500, 10, 1000, PLANNER_LBS);
+    planner_xorwow from = {1, 2, 3, 4, 5, 6};
+    refusal = planner_plan_runs(&plan, settings, from, 2, 100, &scratch, &work).refusal;
 }
 static void squeeze(void) { refusal = planner_file_squeeze(file, length, &old).refusal; }
 
@@ -51,8 +57,8 @@ static size_t contents(const char *name, uint8_t *bytes, size_t most) {
 }
 
 int main(int count, char **names) {
-    void (*calls[CALLS])(void) = {nothing, load, search, open, flip, counts, squeeze};
-    const char *called[CALLS] = {"nothing", "load", "search", "open", "flip", "counts", "squeeze"};
+    void (*calls[CALLS])(void) = {nothing, load, search, runs, open, flip, counts, squeeze};
+    const char *called[CALLS] = {"nothing", "load", "search", "runs", "open", "flip", "counts", "squeeze"};
     size_t deepest[CALLS] = {0};
     if (count < 3) {
         printf("usage: stack NUMBERS PLAN...\n");

@@ -11,11 +11,11 @@
  *     planner_opened opened = planner_state_open(&state, &plan);
  *     planner_flipped flipped = planner_state_flip(&state, &plan, 7);
  *
- * There are two layers. The archive exports six calls on pointers and lengths: planner_load, planner_open,
- * planner_flip, planner_counts, planner_search and planner_squeeze. What the comments say of them is proved. The
- * structs and the inline functions after them are plain C, which is tested and not proved: they lend buffers of the
- * right sizes, so that none is mixed up, and read what the calls leave. A program that uses these alone need not change
- * when a call gains an argument or an answer a field.
+ * There are two layers. The archive exports seven calls on pointers and lengths: planner_load, planner_open,
+ * planner_flip, planner_counts, planner_search, planner_runs and planner_squeeze. What the comments say of them is
+ * proved. The structs and the inline functions after them are plain C, which is tested and not proved: they lend buffers
+ * of the right sizes, so that none is mixed up, and read what the calls leave. A program that uses these alone need not
+ * change when a call gains an argument or an answer a field.
  *
  * What holds of every call:
  * - It may be made with anything at all. It returns, and gives what it was asked for or one of the refusals below.
@@ -104,6 +104,11 @@ enum planner_refusal {
     PLANNER_WRONG_HEURISTIC = 15, /* a heuristic other than PLANNER_SKC and PLANNER_NOVELTY */
     PLANNER_WRONG_CHANCE = 16,    /* a walk chance above 1,000, under either heuristic */
 
+    /* By what many runs are asked for. Choose others. */
+    PLANNER_ZERO_STATE = 41,  /* x, y, z, w and v all 0, from which every number would be the counter's */
+    PLANNER_WRONG_RUNS = 42,  /* runs not from 1 to 1,000 */
+    PLANNER_WRONG_COUNT = 43, /* numbers of a run not from 1 to 16,384 */
+
     /* By what the program lends: a fault of the program, and none of the plan. */
     PLANNER_BUFFER_TOO_SMALL = 21, /* a buffer below its size above: the inline functions lend the right ones */
     PLANNER_NOT_LOADED = 22,       /* tables that no accepted loading left: load first, and write nothing there */
@@ -142,6 +147,9 @@ static inline const char *planner_refusal_text(uint32_t refusal) {
     case PLANNER_WRONG_MODE: return "the mode is neither 0 (linear) nor 1 (LBS)";
     case PLANNER_WRONG_HEURISTIC: return "the heuristic is neither 0 (SKC) nor 1 (Novelty+)";
     case PLANNER_WRONG_CHANCE: return "the walk chance is not from 0 to 1,000";
+    case PLANNER_ZERO_STATE: return "the five words of the generator's state are all 0";
+    case PLANNER_WRONG_RUNS: return "the number of runs is not from 1 to 1,000";
+    case PLANNER_WRONG_COUNT: return "the numbers of a run are not from 1 to 16,384";
     case PLANNER_BUFFER_TOO_SMALL: return "a buffer is too small";
     case PLANNER_NOT_LOADED: return "the tables hold no plan as loading leaves it";
     case PLANNER_WRONG_VARIABLE: return "the plan has no such variable";
@@ -200,6 +208,18 @@ typedef struct {
     size_t used;     /* how many of the numbers, discarded ones too */
 } planner_searched;
 
+/* Figures over many runs: fractions in lowest terms, their denominators positive. With a refusal all else is 0. */
+typedef struct {
+    uint32_t refusal;
+    uint32_t found;        /* 1 where some run found an assignment; else 0, and the mean cost is absent, 0 over 0 */
+    uint64_t share_top;    /* the share of runs with a find */
+    uint64_t share_bottom;
+    uint64_t flips_top;    /* the mean of the flips over all runs */
+    uint64_t flips_bottom;
+    int64_t cost_top;      /* the mean cost over the runs with a find; the sign is on top */
+    uint64_t cost_bottom;
+} planner_figures;
+
 typedef struct {
     uint32_t refusal;
     size_t offset;    /* as in planner_loaded; 0 with another refusal than the file's own */
@@ -220,7 +240,7 @@ static inline const char *planner_ending_text(uint32_t ending) {
     }
 }
 
-/* ---- the six calls; the refusals of each stand in the order in which they are tried */
+/* ---- the seven calls; the refusals of each stand in the order in which they are tried */
 
 /* Loads a plan file of any length and content into the two tables.
  * PLANNER_BUFFER_TOO_SMALL, then the file's own: PLANNER_CUT_SHORT to PLANNER_BYTES_AFTER_END and PLANNER_WRONG_LOCK,
@@ -284,6 +304,24 @@ planner_searched planner_search(const uint8_t *tables, size_t tables_length, con
                                 uint8_t *work_tallies, size_t work_tallies_length, uint8_t *work_marks,
                                 size_t work_marks_length);
 
+/* Makes runs of the search one after another, each over the next count numbers of Marsaglia's xorwow ("Xorshift RNGs",
+ * 2003): from x, y, z, w, v and the counter, t = x ^ (x >> 2), x = y, y = z, z = w, w = v,
+ * v = (v ^ (v << 4)) ^ (t ^ (t << 1)), the counter rises by 362,437, and the number is counter + v, all of 32 bits.
+ * Each run answers what planner_search would over its own numbers; the tables are tested once.
+ * PLANNER_ZERO_STATE, PLANNER_WRONG_RUNS, PLANNER_WRONG_COUNT, then as for planner_search, PLANNER_BUFFER_TOO_SMALL for
+ * numbers below PLANNER_INPUT_SIZE too.
+ * Accepted: the share of runs with a find, the mean flips over all runs, and the mean cost over the runs with a find.
+ * What the seven buffers lent for writing hold at first does not matter; they end filled with 0 up to their sizes, so
+ * that no find is kept. Writes nothing else. */
+planner_figures planner_runs(const uint8_t *tables, size_t tables_length, const uint8_t *terms, size_t terms_length,
+                             uint32_t x, uint32_t y, uint32_t z, uint32_t w, uint32_t v, uint32_t counter,
+                             uint32_t runs, uint32_t count, uint32_t noise, uint32_t tries, uint32_t flips,
+                             uint32_t mode, uint8_t *numbers, size_t numbers_length, uint8_t *assignment,
+                             size_t assignment_length, uint8_t *work_tables, size_t work_tables_length,
+                             uint8_t *work_terms, size_t work_terms_length, uint8_t *work_assignment,
+                             size_t work_assignment_length, uint8_t *work_tallies, size_t work_tallies_length,
+                             uint8_t *work_marks, size_t work_marks_length);
+
 /* Rewrites a plan file in its own buffer without its locked variables: their values are put in, a bound that all values
  * of the others meet is dropped, so is a rule that no values can meet, and a clause with a rule that all values meet.
  * A rule is judged by its least and its greatest sum alone. The unlocked variables are numbered from 1 by rising number,
@@ -319,6 +357,17 @@ typedef struct {
     uint8_t tallies[PLANNER_TALLIES_SIZE];
     uint8_t marks[PLANNER_MARKS_SIZE];
 } planner_work;
+
+/* What many runs write besides: one run's numbers, and its finds. 66,048 bytes. Nothing of it is of use after. */
+typedef struct {
+    uint8_t numbers[PLANNER_INPUT_SIZE];
+    uint8_t assignment[PLANNER_ASSIGNMENT_SIZE];
+} planner_scratch;
+
+/* The generator's state: any numbers, but x, y, z, w and v not all 0. */
+typedef struct {
+    uint32_t x, y, z, w, v, counter;
+} planner_xorwow;
 
 /* Which old variable each new one was, after a squeeze. To be written by planner_file_squeeze alone. */
 typedef struct {
@@ -371,6 +420,17 @@ static inline planner_searched planner_plan_search(const planner_plan *plan, pla
                           settings.noise, settings.tries, settings.flips, settings.mode, settings.heuristic,
                           settings.chance, PLANNER_LEND(state->assignment), PLANNER_LEND(work->tables), PLANNER_LEND(work->terms),
                           PLANNER_LEND(work->assignment), PLANNER_LEND(work->tallies), PLANNER_LEND(work->marks));
+}
+
+/* planner_runs: the figures of so many runs from a state, each over so many numbers. */
+static inline planner_figures planner_plan_runs(const planner_plan *plan, planner_settings settings,
+                                                planner_xorwow from, uint32_t runs, uint32_t count,
+                                                planner_scratch *scratch, planner_work *work) {
+    return planner_runs(PLANNER_LEND(plan->tables), PLANNER_LEND(plan->terms), from.x, from.y, from.z, from.w, from.v,
+                        from.counter, runs, count, settings.noise, settings.tries, settings.flips, settings.mode,
+                        PLANNER_LEND(scratch->numbers), PLANNER_LEND(scratch->assignment), PLANNER_LEND(work->tables),
+                        PLANNER_LEND(work->terms), PLANNER_LEND(work->assignment), PLANNER_LEND(work->tallies),
+                        PLANNER_LEND(work->marks));
 }
 
 /* planner_open: the tallies of the state's assignment. */
@@ -472,6 +532,7 @@ PLANNER_GUARD(sizeof(planner_counted) == 20 && offsetof(planner_counted, break_c
 PLANNER_GUARD(offsetof(planner_counted, make_count) == 12 && offsetof(planner_counted, make_cut) == 16);
 PLANNER_GUARD(sizeof(planner_searched) == 40 && offsetof(planner_searched, cost) == 8);
 PLANNER_GUARD(offsetof(planner_searched, finds) == 16 && offsetof(planner_searched, used) == 32);
+PLANNER_GUARD(sizeof(planner_figures) == 56 && offsetof(planner_figures, share_top) == 8);
 PLANNER_GUARD(sizeof(planner_squeezed) == 32 && offsetof(planner_squeezed, offset) == 8);
 PLANNER_GUARD(offsetof(planner_squeezed, length) == 16 && offsetof(planner_squeezed, constant) == 24);
 PLANNER_GUARD(PLANNER_LIST_SIZE == 4 * PLANNER_MOST_VARIABLES && sizeof(planner_list) == PLANNER_LIST_SIZE);

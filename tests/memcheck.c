@@ -62,6 +62,23 @@ static void squeeze(planner_plan *plan, uint8_t *file, size_t length) {
     free(old);
 }
 
+/* A few runs from a state: the share is of the runs, and every byte lent for writing is 0 after them. */
+static void runs(const planner_plan *plan, planner_settings settings, planner_work *work) {
+    planner_scratch *scratch = block(sizeof *scratch);
+    planner_xorwow from = {123456789, 362436069, 521288629, 88675123, 5783321, 6615241};
+    planner_figures figures = planner_plan_runs(plan, settings, from, 3, 20, scratch, work);
+    expect("runs", figures.refusal);
+    if (3 % figures.share_bottom != 0 || figures.share_top > figures.share_bottom) exit(1);
+    const uint8_t *written[] = {(const uint8_t *)scratch, (const uint8_t *)work};
+    const size_t sizes[] = {sizeof *scratch, sizeof *work};
+    for (int i = 0; i < 2; i++) {
+        for (size_t at = 0; at < sizes[i]; at++) {
+            if (written[i][at] != 0) exit(1);
+        }
+    }
+    free(scratch);
+}
+
 int main(int count, char **arguments) {
     if (count != 4) return 2;
     size_t length, listed;
@@ -75,6 +92,7 @@ int main(int count, char **arguments) {
     planner_settings settings = planner_settings_of(500, 10, 1000, PLANNER_LBS);
     planner_searched found = planner_plan_search(plan, settings, numbers, listed, state, work);
     expect("search", found.refusal);
+    runs(plan, settings, work);
     uint32_t variables = planner_plan_variables(plan);
     if (found.finds == 0) memset(state->assignment, 0, variables);
     expect("open", planner_state_open(state, plan).refusal);

@@ -11,12 +11,15 @@ pub mod making;
 pub mod mapping;
 pub mod searching;
 pub mod squeezing;
+pub mod trials;
 
 use figures::Figures;
 use reference::random::Random;
 
 /// The calls, in the order in which the figures show them.
-pub const CALLS: [&str; 7] = ["load", "open", "flip", "counts", "search", "squeeze", "map"];
+pub const CALLS: [&str; 8] = [
+    "load", "open", "flip", "counts", "search", "squeeze", "map", "runs",
+];
 
 /// One call. It panics where the library and the reference differ.
 fn case(random: &mut Random, figures: &mut Figures) {
@@ -24,6 +27,7 @@ fn case(random: &mut Random, figures: &mut Figures) {
     match CALLS[call] {
         "load" => figures.count(call, loading::case(random)),
         "squeeze" => figures.count(call, squeezing::case(random)),
+        "runs" => figures.count(call, trials::case(random).refusal),
         "map" => figures.count(call, mapping::case(random)),
         "search" => {
             let answer = searching::case(random, figures);

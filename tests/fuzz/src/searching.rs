@@ -10,7 +10,7 @@ use reference::random::{self, Random};
 use reference::walk::Settings;
 
 /// Settings: lawful ones, of which one or more may have been replaced by any number.
-fn settings(random: &mut Random) -> Settings {
+pub fn settings(random: &mut Random) -> Settings {
     let mut settings = random::settings(random);
     if random.percent(50) {
         settings.tries = 1 + settings.tries % 3;

@@ -5,7 +5,7 @@ use fuzz::figures::CASES;
 #[test]
 fn a_short_run() {
     let figures = fuzz::run(2026, |number| number < 96_000);
-    let calls: [(&str, &[u32]); 7] = [
+    let calls: [(&str, &[u32]); 8] = [
         ("load", &[0, 1, 2, 3, 4, 5, 6, 7, 10, 21]),
         ("open", &[0, 21, 22, 24]),
         ("flip", &[0, 21, 22, 23, 24, 25, 26]),
@@ -13,6 +13,7 @@ fn a_short_run() {
         ("search", &[0, 11, 12, 13, 14, 21, 22]),
         ("squeeze", &[0, 1, 2, 3, 4, 5, 6, 7, 10, 21, 71, 72]),
         ("map", &[0, 21, 51, 52, 53, 54, 55]),
+        ("runs", &[0, 11, 12, 13, 14, 21, 22, 41, 42, 43]),
     ];
     for (call, refusals) in calls {
         for &refusal in refusals {

@@ -1,10 +1,11 @@
 //! include/planner.h against what this harness declares of the library: every size, offset, limit
-//! and ending, and the six prototypes, word for word.
+//! and ending, and the seven prototypes, word for word.
 
 use harness::layout::{self, ASSIGNMENT, MARKS, SECTIONS, TABLES, TALLIES, TERM_TABLE};
-use harness::planner::{Counted, Flipped, Loaded, Searched, Squeezed};
+use harness::planner::{Counted, Figures, Flipped, Loaded, Searched, Squeezed};
 use harness::program::{printed_by_c, root};
 use harness::searching::{ending, ENDINGS};
+use reference::figures::NUMBERS;
 use reference::file::{MOST_CLAUSES, MOST_RULES, MOST_TERMS, MOST_VARIABLES};
 use reference::program::MOST_BYTES;
 use reference::random::{locked_full_plan, Random};
@@ -95,6 +96,45 @@ fn sizes_offsets_and_numbers() {
             offset_of!(Searched, used),
         ),
         ("((planner_searched){.cost = -1}).cost < 0", 1),
+        ("sizeof(planner_figures)", size_of::<Figures>()),
+        (
+            "offsetof(planner_figures, refusal)",
+            offset_of!(Figures, refusal),
+        ),
+        (
+            "offsetof(planner_figures, found)",
+            offset_of!(Figures, found),
+        ),
+        (
+            "offsetof(planner_figures, share_top)",
+            offset_of!(Figures, share),
+        ),
+        (
+            "offsetof(planner_figures, share_bottom)",
+            offset_of!(Figures, share) + 8,
+        ),
+        (
+            "offsetof(planner_figures, flips_top)",
+            offset_of!(Figures, flips),
+        ),
+        (
+            "offsetof(planner_figures, flips_bottom)",
+            offset_of!(Figures, flips) + 8,
+        ),
+        (
+            "offsetof(planner_figures, cost_top)",
+            offset_of!(Figures, cost_top),
+        ),
+        (
+            "offsetof(planner_figures, cost_bottom)",
+            offset_of!(Figures, cost_bottom),
+        ),
+        ("((planner_figures){.cost_top = -1}).cost_top < 0", 1),
+        ("sizeof(planner_scratch)", NUMBERS + ASSIGNMENT),
+        ("offsetof(planner_scratch, assignment)", NUMBERS),
+        ("PLANNER_ZERO_STATE", 41),
+        ("PLANNER_WRONG_RUNS", 42),
+        ("PLANNER_WRONG_COUNT", 43),
         ("sizeof(planner_squeezed)", size_of::<Squeezed>()),
         (
             "offsetof(planner_squeezed, refusal)",
@@ -224,6 +264,7 @@ fn c_type(words: &str) -> &'static str {
         "planner_flipped" => "Flipped",
         "planner_counted" => "Counted",
         "planner_searched" => "Searched",
+        "planner_figures" => "Figures",
         "planner_squeezed" => "Squeezed",
         other => panic!("'{other}' is no type of the interface"),
     }
@@ -274,6 +315,7 @@ fn prototypes() {
         ("planner_search", 22),
         ("planner_search", 24),
         ("planner_runs", 32),
+        ("planner_runs", 30),
         ("planner_squeeze", 4),
     ] {
         let declared = prototype_in_c(&header, name);

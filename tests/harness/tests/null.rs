@@ -2,9 +2,10 @@
 //! elsewhere.
 
 use harness::layout::{self, ASSIGNMENT, MARKS, TABLES, TALLIES, TERM_TABLE};
-use harness::planner::{raw, squeeze, Counted, Flipped, Loaded, Searched, Squeezed};
+use harness::planner::{self, raw, squeeze, Counted, Figures, Flipped, Loaded, Searched, Squeezed};
 use harness::searching::refused;
-use reference::making::example_plan;
+use reference::figures::{Trial, Xorwow};
+use reference::making::{example_plan, settings};
 use reference::squeeze::LIST;
 use std::ptr::{null, null_mut};
 
@@ -118,6 +119,28 @@ fn no_buffer_is_one_too_small() {
         assert_eq!(loaded.refusal, refusal(&[0, 1]), "buffer {absent}");
         assert_eq!(loaded.offset, 0);
     }
+}
+
+#[test]
+fn no_room_for_numbers() {
+    let (tables, terms) = layout::tables(&example_plan());
+    let state = Xorwow {
+        words: [1; 5],
+        counter: 0,
+    };
+    let trial = Trial {
+        state,
+        runs: 1,
+        count: 1,
+    };
+    let mut bytes = SIZES.map(|size| vec![7; size]);
+    let before = bytes.clone();
+    let [_, _, assignment, _, work @ ..] = bytes.each_mut().map(Vec::as_mut_slice);
+    let settings = settings(500, 1, 1, 1);
+    let none = &mut [];
+    let reported = planner::runs(&tables, &terms, &trial, &settings, none, assignment, work);
+    assert_eq!(reported, Figures::refused(21));
+    assert!(bytes == before);
 }
 
 #[test]

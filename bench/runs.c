@@ -1,0 +1,89 @@
+// Many runs of each plan file named by one call, and the searches that they are made of by a call each, over the same numbers:
+//     runs RUNS COUNT PLAN...     so many runs of so many numbers
+// The figures must be those of the searches. Where there are 1,000 runs they may take no more than 1,050 times one search.
+#include "../include/planner.h"
+
+#include <stdio.h>
+#include <stdlib.h>
+#include <string.h>
+#include <time.h>
+
+static planner_plan plan;
+static planner_state state;
+static planner_work work;
+static planner_scratch scratch;
+static uint8_t file[PLANNER_INPUT_SIZE], numbers[PLANNER_INPUT_SIZE];
+
+// Of this process alone, so that another program on the machine does not count.
+static double now(void) {
+    struct timespec t;
+    clock_gettime(CLOCK_PROCESS_CPUTIME_ID, &t);
+    return (double)t.tv_sec + (double)t.tv_nsec / 1e9;
+}
+
+static size_t contents(const char *name, uint8_t *bytes) {
+    FILE *f = fopen(name, "rb");
+    size_t length = f ? fread(bytes, 1, PLANNER_INPUT_SIZE, f) : 0;
+    if (f) fclose(f);
+    return length;
+}
+
+static uint32_t draw(planner_xorwow *g) {
+    uint32_t t = g->x ^ (g->x >> 2);
+    g->x = g->y, g->y = g->z, g->z = g->w, g->w = g->v;
+    g->v = (g->v ^ (g->v << 4)) ^ (t ^ (t << 1));
+    return (g->counter += 362437) + g->v;
+}
+
+static void list(planner_xorwow *g, uint32_t count) {
+    for (uint32_t i = 0; i < count; i++) {
+        uint32_t number = draw(g);
+        for (int byte = 0; byte < 4; byte++) numbers[4 * i + byte] = (uint8_t)(number >> (8 * byte));
+    }
+}
+
+int main(int count, char **names) {
+    if (count < 4) {
+        printf("usage: runs RUNS COUNT PLAN...\n");
+        return 2;
+    }
+    uint32_t runs = (uint32_t)strtoul(names[1], NULL, 10), drawn = (uint32_t)strtoul(names[2], NULL, 10);
+    planner_settings settings = planner_settings_of(500, 10, 100000, PLANNER_LBS);
+    const planner_xorwow from = {123456789, 362436069, 521288629, 88675123, 5783321, 6615241};
+    printf("| plan | runs | numbers a run | one search, ms | all runs, ms | times one search |\n|---|---|---|---|---|---|\n");
+    for (int i = 3; i < count; i++) {
+        if (planner_plan_load(&plan, file, contents(names[i], file)).refusal) {
+            printf("%s is no plan\n", names[i]);
+            return 1;
+        }
+        planner_xorwow g = from;
+        uint64_t found = 0, flips = 0;
+        int64_t cost = 0;
+        double searched = 0;
+        for (uint32_t run = 0; run < runs; run++) {
+            list(&g, drawn);
+            double begin = now();
+            planner_searched r = planner_plan_search(&plan, settings, numbers, 4 * (size_t)drawn, &state, &work);
+            searched += now() - begin;
+            found += r.finds > 0, flips += r.flips, cost += r.cost;
+        }
+        double begin = now();
+        planner_figures f = planner_plan_runs(&plan, settings, from, runs, drawn, &scratch, &work);
+        double all = now() - begin, one = searched / runs;
+        if (f.refusal || f.share_top * runs != found * f.share_bottom || f.flips_top * runs != flips * f.flips_bottom ||
+            f.cost_top * (int64_t)found != cost * (int64_t)f.cost_bottom) {
+            printf("the figures of %s are not those of its searches\n", names[i]);
+            return 1;
+        }
+        const char *slash = strrchr(names[i], '/');
+        const char *name = slash ? slash + 1 : names[i];
+        printf("| %.*s | %u | %u | %.3f | %.1f | %.0f |\n", (int)strcspn(name, "."), name, (unsigned)runs,
+               (unsigned)drawn, one * 1e3, all * 1e3, all / one);
+        fflush(stdout);
+        if (runs == 1000 && all > 1050 * one) {
+            printf("1,000 runs take more than 1,050 times one search\n");
+            return 1;
+        }
+    }
+    return 0;
+}
