@@ -10,6 +10,10 @@ use Rattle.plpb.specs.Search.{Answer, search}
 use Rattle.xorwow.specs.declared.Xorwow.{Xorwow}
 use Rattle.xorwow.specs.Xorwow.{stream, after}
 
+-- The bytes of the most numbers that a run takes: 4 for each of 16,384.
+abbrev pub numbersSize : ℕ
+numbersSize = 65_536
+
 -- What the runs answer, each a search over the next k numbers.
 unfoldable pub answers : Settings → Plan → ℕ → ℕ → Xorwow → List Answer
 answers s p k zero g = []

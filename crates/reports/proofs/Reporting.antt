@@ -16,9 +16,10 @@ use Rattle.xorwow.specs.Xorwow.{after}
 use Rattle.figures.specs.declared.Sums.{Sums}
 use Rattle.figures.specs.declared.Figures.{Figures}
 use Rattle.figures.specs.Figures.{sumsOf, figuresBy, figuresOf}
-use Rattle.figures.specs.Runs.{answers}
-use Rattle.runs.specs.Repeating.{numbersSize, AsBefore, planIn, Repeats}
-use Rattle.reports.specs.Calls.{Trial, runsRefusal, reported, zeroed, Reports}
+use Rattle.figures.specs.Runs.{answers, numbersSize}
+use Rattle.runs.specs.Repeating.{AsBefore, planIn, Repeats}
+use Rattle.trials.specs.Trials.{Trial, runsRefusal}
+use Rattle.reports.specs.Calls.{reported, zeroed, Reports}
 
 length-answers : (s : Settings) (p : Plan) (k runs : ℕ) (g : Xorwow) → length (answers s p k runs g) ≡ runs
 unfolding answers

@@ -42,7 +42,8 @@ use Rattle.xorwow.specs.Xorwow.{stream}
 use Rattle.xorwow.proofs.Stream.{length-stream, stream-below}
 use Rattle.figures.specs.declared.Sums.{Sums}
 use Rattle.figures.specs.Figures.{plus, plusRun}
-use Rattle.runs.specs.Repeating.{numbersSize, AsBefore, planIn}
+use Rattle.figures.specs.Runs.{numbersSize}
+use Rattle.runs.specs.Repeating.{AsBefore, planIn}
 
 -- ---- bytes past a place
 

@@ -25,7 +25,7 @@ use Rattle.figures.specs.Figures.{AtMost, plusRun}
 use Rattle.figures.specs.Runs.{answers}
 use Rattle.figures.proofs.Adding.{plus-most, most-more, total}
 use Rattle.runs.specs.declared.Ran.{Ran}
-use Rattle.runs.specs.Repeating.{numbersSize, Ready, AsBefore, WithinLimits, planIn, RunsOnce}
+use Rattle.runs.specs.Repeating.{Ready, AsBefore, WithinLimits, planIn, RunsOnce}
 use Rattle.runs.proofs.Once.{cost-bounded}
 
 -- ---- the buffers

@@ -18,12 +18,8 @@ use Rattle.xorwow.specs.declared.Xorwow.{Xorwow}
 use Rattle.xorwow.specs.Xorwow.{stream, after}
 use Rattle.figures.specs.declared.Sums.{Sums}
 use Rattle.figures.specs.Figures.{AtMost, plusRun, sumsOf}
-use Rattle.figures.specs.Runs.{answers}
+use Rattle.figures.specs.Runs.{answers, numbersSize}
 use Rattle.runs.specs.declared.Ran.{Ran}
-
--- The bytes of the most numbers that a run takes: 4 for each of 16,384.
-abbrev pub numbersSize : ℕ
-numbersSize = 65_536
 
 -- Tables that passed the test for 22, and room for everything.
 pub record Ready (l : Lent) : Type 0 where

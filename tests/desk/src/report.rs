@@ -79,6 +79,9 @@ pub const REFUSALS: [(u32, &str); 24] = [
     (24, "the assignment has a byte other than 0 and 1"),
     (25, "the tallies are not those of this assignment"),
     (26, "the plan has locked this variable"),
+    (41, "the five words of the generator's state are all 0"),
+    (42, "the number of runs is not from 1 to 1,000"),
+    (43, "the numbers of a run are not from 1 to 16,384"),
     (71, "the plan has locked every variable"),
     (72, "the locks leave a clause with no rule that can be met"),
 ];

@@ -60,7 +60,7 @@ fn reduced(top: i64, bottom: usize) -> Fraction {
     let bottom = bottom as u64;
     let common = (1..=bottom)
         .rev()
-        .find(|&d| bottom % d == 0 && top.unsigned_abs() % d == 0)
+        .find(|&d| bottom.is_multiple_of(d) && top.unsigned_abs().is_multiple_of(d))
         .unwrap();
     (top / common as i64, bottom / common)
 }

@@ -1,9 +1,9 @@
 -- `is_outside` meets its contract, by the two tests.
 -- Assumes nothing.
 use native.Mathlib.Omega.{arith}
-use Rattle.reports.proofs.Refusing.{too-few, too-many, between}
-use Rattle.reports.proofs.is_outside.Statement.{statement}
-use Rattle.reports.proofs.is_outside.Tie as tie
+use Rattle.trials.proofs.Refusing.{too-few, too-many, between}
+use Rattle.trials.proofs.is_outside.Statement.{statement}
+use Rattle.trials.proofs.is_outside.Tie as tie
 
 pub is-outside-spec : {M : Type 1} → statement M
 is-outside-spec =

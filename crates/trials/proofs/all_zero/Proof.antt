@@ -1,8 +1,8 @@
 -- `all_zero` meets its contract: the first word that is not 0 decides.
 -- Assumes nothing.
-use Rattle.reports.proofs.Refusing.{some-x, some-y, some-z, some-w, last-v}
-use Rattle.reports.proofs.all_zero.Statement.{statement}
-use Rattle.reports.proofs.all_zero.Tie as tie
+use Rattle.trials.proofs.Refusing.{some-x, some-y, some-z, some-w, last-v}
+use Rattle.trials.proofs.all_zero.Statement.{statement}
+use Rattle.trials.proofs.all_zero.Tie as tie
 
 returns : tie.Need-returns
 returns c = some-x _ (c .if1 .taken)

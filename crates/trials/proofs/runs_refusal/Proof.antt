@@ -3,9 +3,9 @@
 use borrow.Author.Needs.{needs}
 use native.Mathlib.Omega.{arith}
 use mathlib.Core.Path.{_∙_}
-use Rattle.reports.proofs.Refusing.{state-41, runs-42, count-43, room-21, by-search}
-use Rattle.reports.proofs.runs_refusal.Statement.{statement}
-use Rattle.reports.proofs.runs_refusal.Tie as tie
+use Rattle.trials.proofs.Refusing.{state-41, runs-42, count-43, room-21, by-search}
+use Rattle.trials.proofs.runs_refusal.Statement.{statement}
+use Rattle.trials.proofs.runs_refusal.Tie as tie
 
 returns : tie.Need-returns
 returns c = state-41 _ _ (c .before .all-zero .ensures) (c .if1 .taken)

@@ -1,0 +1,2 @@
+-- The laws behind the tests of many runs.
+pub mod Refusing

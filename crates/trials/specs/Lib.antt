@@ -1,0 +1,2 @@
+-- What many runs are asked for.
+pub mod Trials
