@@ -316,7 +316,7 @@ planner_searched planner_search(const uint8_t *tables, size_t tables_length, con
 planner_figures planner_runs(const uint8_t *tables, size_t tables_length, const uint8_t *terms, size_t terms_length,
                              uint32_t x, uint32_t y, uint32_t z, uint32_t w, uint32_t v, uint32_t counter,
                              uint32_t runs, uint32_t count, uint32_t noise, uint32_t tries, uint32_t flips,
-                             uint32_t mode, uint8_t *numbers, size_t numbers_length, uint8_t *assignment,
+                             uint32_t mode, uint32_t heuristic, uint32_t chance, uint8_t *numbers, size_t numbers_length, uint8_t *assignment,
                              size_t assignment_length, uint8_t *work_tables, size_t work_tables_length,
                              uint8_t *work_terms, size_t work_terms_length, uint8_t *work_assignment,
                              size_t work_assignment_length, uint8_t *work_tallies, size_t work_tallies_length,
@@ -428,7 +428,7 @@ static inline planner_figures planner_plan_runs(const planner_plan *plan, planne
                                                 planner_scratch *scratch, planner_work *work) {
     return planner_runs(PLANNER_LEND(plan->tables), PLANNER_LEND(plan->terms), from.x, from.y, from.z, from.w, from.v,
                         from.counter, runs, count, settings.noise, settings.tries, settings.flips, settings.mode,
-                        PLANNER_LEND(scratch->numbers), PLANNER_LEND(scratch->assignment), PLANNER_LEND(work->tables),
+                        settings.heuristic, settings.chance, PLANNER_LEND(scratch->numbers), PLANNER_LEND(scratch->assignment), PLANNER_LEND(work->tables),
                         PLANNER_LEND(work->terms), PLANNER_LEND(work->assignment), PLANNER_LEND(work->tallies),
                         PLANNER_LEND(work->marks));
 }

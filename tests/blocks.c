@@ -58,7 +58,7 @@ static void run(uint32_t load, uint32_t call, uint32_t search, const size_t *siz
     expect("search", found.refusal, search);
     uint8_t *drawn = block(PLANNER_INPUT_SIZE), *tried = block(size[2]);
     planner_figures figures =
-        planner_runs(lent[0], size[0], lent[1], size[1], 1, 2, 3, 4, 5, 6, 2, 9, 500, 10, 1000, 1, drawn,
+        planner_runs(lent[0], size[0], lent[1], size[1], 1, 2, 3, 4, 5, 6, 2, 9, 500, 10, 1000, 1, 0, 0, drawn,
                      PLANNER_INPUT_SIZE, tried, size[2], work[0], size[0], work[1], size[1], work[2], size[2], work[3],
                      size[3], work[4], size[4]);
     expect("runs", figures.refusal, search);

@@ -155,6 +155,8 @@ pub extern "C" fn planner_runs(
     tries: u32,
     flips: u32,
     mode: u32,
+    heuristic: u32,
+    chance: u32,
     numbers: &mut [u8],
     assignment: &mut [u8],
     work_tables: &mut [u8],
@@ -166,7 +168,7 @@ pub extern "C" fn planner_runs(
     ensures { λ r. ⌜ Reports
         (lentAll (now (tables .entry)) (now (terms .entry)) (now (numbers .entry)) (now (assignment .entry)) (now («work_tables» .entry))
         (now («work_terms» .entry)) (now («work_assignment» .entry)) (now («work_tallies» .entry)) (now («work_marks» .entry)))
-        (trial (record { noise = noise; tries = tries; flips = flips; mode = mode })
+        (trial (record { noise = noise; tries = tries; flips = flips; mode = mode; heuristic = heuristic; chance = chance })
         (record { x = x; y = y; z = z; w = w; v = v; counter = counter }) runs count) r
         (lentAll (now (tables .entry)) (now (terms .entry)) (now (numbers .exit)) (now (assignment .exit)) (now («work_tables» .exit))
         (now («work_terms» .exit)) (now («work_assignment» .exit)) (now («work_tallies» .exit)) (now («work_marks» .exit))) ⌝ }
@@ -189,6 +191,8 @@ pub extern "C" fn planner_runs(
             tries,
             flips,
             mode,
+            heuristic,
+            chance,
         },
         numbers,
         assignment,

@@ -44,8 +44,7 @@ pub fn counted(count: usize, what: &str) -> String {
 
 /// Every refusal in plain words, by its number: those of the files, of the settings, and of what a
 /// program lends. include/planner.h and docs/REFUSALS.md have the same words.
-pub const REFUSALS: [(u32, &str); 24] = [
-pub const REFUSALS: [(u32, &str); 25] = [
+pub const REFUSALS: [(u32, &str); 27] = [
     (1, "the file ends in the middle of a field"),
     (2, "a field of this kind may not stand here"),
     (3, "no field of this kind has this length"),

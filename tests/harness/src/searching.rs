@@ -93,8 +93,6 @@ impl Lent {
 
     /// The plan of the tables, where no condition is met; else the first in the order 21, 22, 11,
     /// 12, 13, 14, 15, 16.
-    fn judged(&self, settings: &Settings) -> Result<Plan, u32> {
-    /// 12, 13, 14.
     pub fn judged(&self, settings: &Settings) -> Result<Plan, u32> {
         if self
             .lengths()

@@ -33,10 +33,13 @@ fn numbers(word: &str) -> Vec<u32> {
     word.split(',').map(|n| n.parse().unwrap()).collect()
 }
 
-/// Six numbers as settings; none for a choice that this program does not have.
-fn settings_of(six: &[u32]) -> Option<Settings> {
-    let plain = six[4] == 0 && six[5] <= 1_000;
-    plain.then(|| settings(six[0], six[1], six[2], six[3]))
+/// Six numbers as settings.
+fn settings_of(six: &[u32]) -> Settings {
+    Settings {
+        heuristic: six[4],
+        chance: six[5],
+        ..settings(six[0], six[1], six[2], six[3])
+    }
 }
 
 fn fraction(word: &str) -> Fraction {
@@ -64,9 +67,7 @@ fn cases_of_a_separately_written_program() {
     for case in include_str!("../../vectors/figures.txt").lines() {
         let (given, expected) = case.split_once(" = ").unwrap();
         let given: Vec<&str> = given.split(' ').collect();
-        let Some(settings) = settings_of(&numbers(given[1])) else {
-            continue;
-        };
+        let settings = settings_of(&numbers(given[1]));
         let words = numbers(given[2]);
         let state = Xorwow {
             words: words[..5].try_into().unwrap(),
@@ -82,7 +83,7 @@ fn cases_of_a_separately_written_program() {
         absent += (reported.refusal == 0 && reported.found == 0) as u32;
     }
     assert!(
-        cases >= 60 && refused >= 10 && absent >= 5,
+        cases == 150 && refused >= 10 && absent >= 5,
         "{cases} {refused} {absent}"
     );
 }
@@ -172,7 +173,7 @@ fn each_run_is_a_search_of_its_own() {
 }
 
 /// Each condition, in the order in which they are tried; a buffer's place is behind its number.
-const ORDER: [(u32, usize); 17] = [
+const ORDER: [(u32, usize); 19] = [
     (41, 0),
     (42, 0),
     (43, 0),
@@ -190,6 +191,8 @@ const ORDER: [(u32, usize); 17] = [
     (12, 0),
     (13, 0),
     (14, 0),
+    (15, 0),
+    (16, 0),
 ];
 
 /// What is lent and asked with some conditions met.
@@ -210,7 +213,9 @@ fn faulty(random: &mut Random, faults: &[(u32, usize)]) -> (Lent, Trial, Setting
             11 => settings.noise = 1_001,
             12 => settings.tries = 0,
             13 => settings.flips = 0,
-            _ => settings.mode = 2,
+            14 => settings.mode = 2,
+            15 => settings.heuristic = 2,
+            _ => settings.chance = 1_001,
         }
     }
     let numbers = vec![0x5a; room];
