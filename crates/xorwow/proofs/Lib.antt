@@ -1,0 +1,3 @@
+-- The laws behind the generator.
+pub mod Stream
+pub mod Example

@@ -1,0 +1,2 @@
+-- The generator's numbers.
+pub mod Xorwow
