@@ -312,10 +312,8 @@ fn prototypes() {
         ("planner_open", 8),
         ("planner_flip", 9),
         ("planner_counts", 9),
-        ("planner_search", 22),
         ("planner_search", 24),
         ("planner_runs", 32),
-        ("planner_runs", 30),
         ("planner_squeeze", 4),
     ] {
         let declared = prototype_in_c(&header, name);
