@@ -7,7 +7,7 @@ use mathlib.Core.List.{List, [], _++_, append-nil}
 use lib.Dec.{T}
 use lib.IntN.{ℤ, natAbs}
 use lib.ListN.{length, getD, take, drop, length-take}
-use lib.Seq.{drop-drop, take-at, drop-at, ext-getD}
+use lib.Seq.{take-at, drop-at, ext-getD}
 use mir.Facts.{toZ-ofZ}
 use mir.Syntax.{w64}
 use mir.Val.{toZ, ofZ}
@@ -30,6 +30,7 @@ use Rattle.counting.proofs.Signed.{small-fits}
 use Rattle.tallies.proofs.Bits.{length-bitsOf, length-bitBytes}
 use Rattle.numbers.specs.Numbers.{numbersOf}
 use Rattle.numbers.proofs.Taking.{length-numbersOf, numbersOf-at}
+use Rattle.moves.proofs.Moving.{drop-more}
 use Rattle.progress.specs.declared.Searched.{Searched}
 use Rattle.progress.specs.Bounds.{answerOf}
 use Rattle.settings.specs.declared.Settings.{Settings as Asked}
@@ -46,11 +47,6 @@ use Rattle.figures.specs.Runs.{numbersSize}
 use Rattle.runs.specs.Repeating.{AsBefore, planIn}
 
 -- ---- bytes past a place
-
-drop-more : {n m : ℕ} (s t : List ℕ) → n ≤ m → drop n s ≡ drop n t → drop m s ≡ drop m t
-drop-more {n} {m} s t h e =
-    let k : n + (m - n) ≡ m = omega arith in
-    ap (λ i. drop i s) (sym k) ∙ sym (drop-drop (m - n) n s) ∙ ap (drop (m - n)) e ∙ drop-drop (m - n) n t ∙ ap (λ i. drop i t) k
 
 past : (xs s : List ℕ) (m n : ℕ) → length xs ≡ n → n ≤ m → drop m (xs ++ drop n s) ≡ drop m s
 past xs s m n e h = drop-more (xs ++ drop n s) s h (drop-at xs (drop n s) n e)
@@ -155,4 +151,4 @@ module _ (tables terms numbers : List ℕ) (k : Asked) (count : ℕ) (g : Xorwow
     tried-past e = record { size = e; beyond = drop-more (v .assignment) (w .assignment) few-here (h .beyond .assignment) }
 
     pub marks-past : length (v .marks) ≡ length (w .marks) → AsBefore markSize (w .marks) (v .marks)
-    marks-past e = record { size = e; beyond = drop-more (v .marks) (w .marks) few-here (h .beyond .marks) }
+    marks-past e = record { size = e; beyond = h .beyond .marks }
