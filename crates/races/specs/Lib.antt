@@ -1,0 +1,2 @@
+-- Races and their parts.
+pub mod Races
