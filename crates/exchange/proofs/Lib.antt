@@ -1,0 +1,2 @@
+-- Laws of a race's settings and answer in bytes.
+pub mod Laws

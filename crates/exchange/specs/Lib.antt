@@ -1,0 +1,2 @@
+-- A race's settings and its answer in bytes.
+pub mod Exchange
