@@ -7,6 +7,9 @@
  * clauses.txt one for each clause, if they are there; `desk write` writes all five. Commands come from the standard
  * input; `help` lists them. It exits with 1 where a file is refused.
  *
+ * Where FOLDER has a file races.txt it is a festival: a line of it has a race's stake and the name of the subfolder that
+ * holds its plan.bin and walk.bin. All races are planned from FOLDER's numbers.bin, and what is chosen is shown.
+ *
  * The planner's calls are proved. What this program does around them is not: it reads the files, and it judges walk.bin
  * and the length of numbers.bin itself, as docs/FORMAT.md says.
  */
@@ -360,8 +363,93 @@ static void run_commands(planner_settings settings, size_t numbers_length) {
     }
 }
 
+/* ---- a festival: a folder with numbers.bin, a subfolder for each race, and races.txt, a line for each race: its stake
+ * and the name of its subfolder */
+
+static planner_plan race_plans[PLANNER_MOST_RACES];
+static planner_state race_states[PLANNER_MOST_RACES];
+static planner_race races[PLANNER_MOST_RACES + 1];
+static char race_folders[PLANNER_MOST_RACES + 1][LINE_SIZE];
+
+/* The races of races.txt, one more than there may be at most. */
+static size_t read_races(FILE *file) {
+    char line[LINE_SIZE];
+    size_t count = 0;
+    while (count <= PLANNER_MOST_RACES && read_line(file, line, sizeof line)) {
+        size_t digits = strspn(line, "0123456789"), stake = 0;
+        for (size_t i = 0; i < digits && stake <= 100; i++) stake = 10 * stake + (size_t)(line[i] - '0');
+        races[count].stake = stake;
+        snprintf(race_folders[count], LINE_SIZE, "%s", line + digits + strspn(line + digits, " "));
+        count++;
+    }
+    return count;
+}
+
+/* Reads one race's plan and settings; 1 where a file is refused. Where nothing is found the sites that are locked at yes
+ * stay chosen, and no other. */
+static int read_race(const char *folder, size_t i) {
+    char path[4096];
+    size_t plan_length, walk_length;
+    snprintf(path, sizeof path, "%s/%s", folder, race_folders[i]);
+    int fits = read_file(path, "plan.bin", plan_file, &plan_length);
+    fits &= read_file(path, "walk.bin", walk_file, &walk_length);
+    if (!fits) return refuse(race_folders[i], PLANNER_FILE_TOO_LARGE, 0);
+    planner_loaded loaded = planner_plan_load(&race_plans[i], plan_file, plan_length);
+    if (loaded.refusal) return refuse(race_folders[i], loaded.refusal, loaded.offset);
+    planner_loaded walk = read_walk(walk_length, &races[i].settings);
+    if (walk.refusal) return refuse(race_folders[i], walk.refusal, walk.offset);
+    for (unsigned k = 0; k < planner_plan_variables(&race_plans[i]); k++) {
+        race_states[i].assignment[k] = planner_plan_lock(&race_plans[i], k + 1) == PLANNER_LOCKED_AT_1;
+    }
+    races[i].plan = &race_plans[i];
+    races[i].state = &race_states[i];
+    return 0;
+}
+
+static void show_race(const char *folder, size_t i) {
+    char path[4096];
+    const planner_searched *found = &races[i].answer;
+    printf("%s: numbers %zu to %zu. ", race_folders[i], races[i].first, races[i].first + races[i].length);
+    if (found->refusal) {
+        refuse("The search", found->refusal, 0);
+        return;
+    }
+    printf("%s.\n", planner_ending_text(found->ending));
+    if (found->finds) printf("Cost %lld. ", (long long)found->cost);
+    printf("%zu found, %zu flips, %zu of %zu numbers used.\n", found->finds, found->flips, found->used, races[i].length);
+    snprintf(path, sizeof path, "%s/%s", folder, race_folders[i]);
+    read_names(path);
+    plan = race_plans[i];
+    state = race_states[i];
+    planner_opened opened = planner_state_open(&state, &plan);
+    if (opened.refusal) {
+        refuse("The opening", opened.refusal, 0);
+        return;
+    }
+    show_chosen();
+}
+
+/* Plans every race of a festival from its one list of numbers. */
+static int plan_festival(const char *folder, FILE *list) {
+    size_t numbers_length, count = read_races(list);
+    fclose(list);
+    if (!read_file(folder, "numbers.bin", numbers, &numbers_length)) {
+        return refuse("numbers.bin", PLANNER_FILE_TOO_LARGE, 0);
+    }
+    if (numbers_length % 4 != 0) return refuse("numbers.bin", PLANNER_CUT_NUMBER, 0);
+    for (size_t i = 0; i < count && i < PLANNER_MOST_RACES; i++) {
+        if (read_race(folder, i)) return 1;
+    }
+    uint32_t refusal = planner_plan_races(races, count, numbers, numbers_length, &work);
+    if (refusal) return refuse("The festival", refusal, 0);
+    for (size_t i = 0; i < count; i++) show_race(folder, i);
+    return 0;
+}
+
 int main(int count, char **arguments) {
     const char *folder = count > 1 ? arguments[1] : ".";
+    FILE *festival = open_file(folder, "races.txt");
+    if (festival) return plan_festival(folder, festival);
     size_t plan_length, walk_length, numbers_length;
     int fits = read_file(folder, "plan.bin", plan_file, &plan_length);
     fits &= read_file(folder, "walk.bin", walk_file, &walk_length);

@@ -11,9 +11,9 @@
  *     planner_opened opened = planner_state_open(&state, &plan);
  *     planner_flipped flipped = planner_state_flip(&state, &plan, 7);
  *
- * There are two layers. The archive exports seven calls on pointers and lengths: planner_load, planner_open,
- * planner_flip, planner_counts, planner_search, planner_runs and planner_squeeze. What the comments say of them is
- * proved. The structs and the inline functions after them are plain C, which is tested and not proved: they lend buffers
+ * There are two layers. The archive exports eight calls on pointers and lengths: planner_load, planner_open,
+ * planner_flip, planner_counts, planner_search, planner_runs, planner_squeeze and planner_races. What the comments
+ * say of them is proved. The structs and the inline functions after them are plain C, which is tested and not proved: they lend buffers
  * of the right sizes, so that none is mixed up, and read what the calls leave. A program that uses these alone need not
  * change when a call gains an argument or an answer a field.
  *
@@ -56,6 +56,13 @@ extern "C" {
 #define PLANNER_TALLIES_SIZE 6156
 #define PLANNER_MARKS_SIZE 2560
 #define PLANNER_LIST_SIZE 2048
+
+/* A festival has at most so many races. Each has a place in the buffers that hold one for each: 24 bytes of settings, an
+ * assignment, and an answer. */
+#define PLANNER_MOST_RACES 8
+#define PLANNER_ALL_SETTINGS_SIZE 192
+#define PLANNER_ALL_ASSIGNMENTS_SIZE 4096
+#define PLANNER_ALL_ANSWERS_SIZE 320
 
 /* The byte of the tables at which the locks begin. */
 #define PLANNER_LOCKS_PLACE 26668
@@ -118,6 +125,8 @@ enum planner_refusal {
 
     /* By the plan: no fault of anyone's. */
     PLANNER_LOCKED = 26,     /* a flip of a variable that the plan has locked: show it, and let another be turned over */
+    PLANNER_WRONG_RACES = 61, /* a festival of no race, or of more than 8 */
+    PLANNER_WRONG_STAKE = 62, /* a race's stake is not from 1 to 100 */
     PLANNER_ALL_LOCKED = 71, /* every variable is locked: nothing is left to squeeze */
     PLANNER_CLAUSE_LOST = 72 /* the locks leave a clause that no values can meet: look at it at the desk */
 };
@@ -156,6 +165,8 @@ static inline const char *planner_refusal_text(uint32_t refusal) {
     case PLANNER_NOT_BITS: return "the assignment has a byte other than 0 and 1";
     case PLANNER_STALE_TALLIES: return "the tallies are not those of this assignment";
     case PLANNER_LOCKED: return "the plan has locked this variable";
+    case PLANNER_WRONG_RACES: return "there is no race, or there are more than 8";
+    case PLANNER_WRONG_STAKE: return "a race's stake is not from 1 to 100";
     case PLANNER_ALL_LOCKED: return "the plan has locked every variable";
     case PLANNER_CLAUSE_LOST: return "the locks leave a clause with no rule that can be met";
     default: return "no refusal has this number";
@@ -333,6 +344,31 @@ planner_figures planner_runs(const uint8_t *tables, size_t tables_length, const 
  * meet every clause of the new one, and costs constant more. */
 planner_squeezed planner_squeeze(uint8_t *file, size_t file_length, uint8_t *old, size_t old_length);
 
+/* A festival: up to 8 races searched with one list of numbers. The races stand in the list as records of three numbers:
+ * a stake from 1 to 100, and the race's part, which the call writes: its first place in the list, from 0, and its
+ * length. A race gets the whole part of (numbers times stake over all stakes), and what remains goes one each to the
+ * first races; the parts follow one another. Race i, from 0, has its settings at byte 24 i (noise, tries, flips, mode,
+ * heuristic and chance, 4 bytes each), its plan in the tables and terms numbered i + 1, its assignment at byte 512 i,
+ * and its answer, a planner_searched, at byte 40 i. Answer, assignment and refusal of a race are those of a
+ * planner_search of its own with its part: another race's plan, settings or refusal cannot change them. A race that is
+ * not there needs no tables. Past the last race nothing is written.
+ * PLANNER_BUFFER_TOO_SMALL (settings, assignments or answers below 8 races' worth), PLANNER_WRONG_RACES,
+ * PLANNER_WRONG_STAKE, before any search; what a race's search refuses stands in that race's answer. */
+uint32_t planner_races(size_t *races, size_t races_length, const uint8_t *numbers, size_t numbers_length,
+                       const uint8_t *settings, size_t settings_length,
+                       const uint8_t *tables1, size_t tables1_length, const uint8_t *terms1, size_t terms1_length,
+                       const uint8_t *tables2, size_t tables2_length, const uint8_t *terms2, size_t terms2_length,
+                       const uint8_t *tables3, size_t tables3_length, const uint8_t *terms3, size_t terms3_length,
+                       const uint8_t *tables4, size_t tables4_length, const uint8_t *terms4, size_t terms4_length,
+                       const uint8_t *tables5, size_t tables5_length, const uint8_t *terms5, size_t terms5_length,
+                       const uint8_t *tables6, size_t tables6_length, const uint8_t *terms6, size_t terms6_length,
+                       const uint8_t *tables7, size_t tables7_length, const uint8_t *terms7, size_t terms7_length,
+                       const uint8_t *tables8, size_t tables8_length, const uint8_t *terms8, size_t terms8_length,
+                       uint8_t *assignments, size_t assignments_length, uint8_t *answers, size_t answers_length,
+                       uint8_t *work_tables, size_t work_tables_length, uint8_t *work_terms, size_t work_terms_length,
+                       uint8_t *work_assignment, size_t work_assignment_length, uint8_t *work_tallies,
+                       size_t work_tallies_length, uint8_t *work_marks, size_t work_marks_length);
+
 /* ---- plan, state and work */
 
 /* A plan as loading leaves it: two buffers, each below 64 KiB; 108,912 bytes in all. To be written by
@@ -453,6 +489,69 @@ static inline planner_counted planner_state_counts(const planner_state *state, c
                           PLANNER_LEND(state->tallies), variable);
 }
 
+/* One race of a festival: its stake, plan, settings and state are the caller's; its part and its answer are written,
+ * and the state's assignment where a plan is found. */
+typedef struct {
+    size_t stake, first, length;
+    const planner_plan *plan;
+    planner_settings settings;
+    planner_state *state;
+    planner_searched answer;
+} planner_race;
+
+/* planner_races: every race of a festival, from one list of numbers. With a refusal no race is written. */
+static inline uint32_t planner_plan_races(planner_race *races, size_t count, const uint8_t *numbers,
+                                          size_t numbers_length, planner_work *work) {
+    size_t records[PLANNER_MOST_RACES + 1][3];
+    uint32_t settings[PLANNER_MOST_RACES][6];
+    uint8_t assignments[PLANNER_MOST_RACES][PLANNER_ASSIGNMENT_SIZE];
+    planner_searched answers[PLANNER_MOST_RACES];
+    const planner_plan *plans[PLANNER_MOST_RACES];
+    size_t shown = count <= PLANNER_MOST_RACES ? count : PLANNER_MOST_RACES + 1;
+    for (size_t i = 0; i < PLANNER_MOST_RACES; i++) {
+        const planner_race *race = i < count ? &races[i] : NULL;
+        const uint32_t words[6] = {race ? race->settings.noise : 0, race ? race->settings.tries : 0,
+                                   race ? race->settings.flips : 0, race ? race->settings.mode : 0,
+                                   race ? race->settings.heuristic : 0, race ? race->settings.chance : 0};
+        plans[i] = race ? race->plan : NULL;
+        for (size_t k = 0; k < 6; k++) settings[i][k] = words[k];
+        for (size_t k = 0; k < PLANNER_ASSIGNMENT_SIZE; k++) assignments[i][k] = race ? race->state->assignment[k] : 0;
+    }
+    for (size_t i = 0; i <= PLANNER_MOST_RACES; i++) {
+        records[i][0] = i < count ? races[i].stake : 0;
+        records[i][1] = records[i][2] = 0;
+    }
+    uint32_t refusal = planner_races(
+        records[0], 3 * shown, numbers, numbers_length, (const uint8_t *)settings, sizeof settings,
+        plans[0] ? plans[0]->tables : NULL, plans[0] ? sizeof plans[0]->tables : 0,
+        plans[0] ? plans[0]->terms : NULL, plans[0] ? sizeof plans[0]->terms : 0,
+        plans[1] ? plans[1]->tables : NULL, plans[1] ? sizeof plans[1]->tables : 0,
+        plans[1] ? plans[1]->terms : NULL, plans[1] ? sizeof plans[1]->terms : 0,
+        plans[2] ? plans[2]->tables : NULL, plans[2] ? sizeof plans[2]->tables : 0,
+        plans[2] ? plans[2]->terms : NULL, plans[2] ? sizeof plans[2]->terms : 0,
+        plans[3] ? plans[3]->tables : NULL, plans[3] ? sizeof plans[3]->tables : 0,
+        plans[3] ? plans[3]->terms : NULL, plans[3] ? sizeof plans[3]->terms : 0,
+        plans[4] ? plans[4]->tables : NULL, plans[4] ? sizeof plans[4]->tables : 0,
+        plans[4] ? plans[4]->terms : NULL, plans[4] ? sizeof plans[4]->terms : 0,
+        plans[5] ? plans[5]->tables : NULL, plans[5] ? sizeof plans[5]->tables : 0,
+        plans[5] ? plans[5]->terms : NULL, plans[5] ? sizeof plans[5]->terms : 0,
+        plans[6] ? plans[6]->tables : NULL, plans[6] ? sizeof plans[6]->tables : 0,
+        plans[6] ? plans[6]->terms : NULL, plans[6] ? sizeof plans[6]->terms : 0,
+        plans[7] ? plans[7]->tables : NULL, plans[7] ? sizeof plans[7]->tables : 0,
+        plans[7] ? plans[7]->terms : NULL, plans[7] ? sizeof plans[7]->terms : 0,
+        assignments[0], sizeof assignments, (uint8_t *)answers, sizeof answers, PLANNER_LEND(work->tables),
+        PLANNER_LEND(work->terms), PLANNER_LEND(work->assignment), PLANNER_LEND(work->tallies),
+        PLANNER_LEND(work->marks));
+    if (refusal) return refusal;
+    for (size_t i = 0; i < count; i++) {
+        races[i].first = records[i][1];
+        races[i].length = records[i][2];
+        races[i].answer = answers[i];
+        for (size_t k = 0; k < PLANNER_ASSIGNMENT_SIZE; k++) races[i].state->assignment[k] = assignments[i][k];
+    }
+    return 0;
+}
+
 /* planner_squeeze: a plan file without its locked variables, in its own buffer. */
 static inline planner_squeezed planner_file_squeeze(uint8_t *file, size_t file_length, planner_list *old) {
     return planner_squeeze(file, file_length, PLANNER_LEND(old->numbers));
@@ -533,6 +632,9 @@ PLANNER_GUARD(offsetof(planner_counted, make_count) == 12 && offsetof(planner_co
 PLANNER_GUARD(sizeof(planner_searched) == 40 && offsetof(planner_searched, cost) == 8);
 PLANNER_GUARD(offsetof(planner_searched, finds) == 16 && offsetof(planner_searched, used) == 32);
 PLANNER_GUARD(sizeof(planner_figures) == 56 && offsetof(planner_figures, share_top) == 8);
+PLANNER_GUARD(PLANNER_ALL_SETTINGS_SIZE == PLANNER_MOST_RACES * 6 * sizeof(uint32_t));
+PLANNER_GUARD(PLANNER_ALL_ASSIGNMENTS_SIZE == PLANNER_MOST_RACES * PLANNER_ASSIGNMENT_SIZE);
+PLANNER_GUARD(PLANNER_ALL_ANSWERS_SIZE == PLANNER_MOST_RACES * sizeof(planner_searched));
 PLANNER_GUARD(sizeof(planner_squeezed) == 32 && offsetof(planner_squeezed, offset) == 8);
 PLANNER_GUARD(offsetof(planner_squeezed, length) == 16 && offsetof(planner_squeezed, constant) == 24);
 PLANNER_GUARD(PLANNER_LIST_SIZE == 4 * PLANNER_MOST_VARIABLES && sizeof(planner_list) == PLANNER_LIST_SIZE);

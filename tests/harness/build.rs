@@ -5,7 +5,7 @@ use std::path::Path;
 fn main() {
     let archives = Path::new(env!("CARGO_MANIFEST_DIR")).join("../../target/staticlib");
     println!("cargo:rustc-link-search=native={}", archives.display());
-    for name in ["planner", "probe", "replay", "csv"] {
+    for name in ["planner", "probe", "replay", "csv", "races"] {
         let archive = archives.join(format!("lib{name}.a"));
         assert!(
             archive.exists(),

@@ -7,14 +7,15 @@ use mathlib.Core.List.{List, [], _∷_, _++_}
 use native.Mathlib.Nat.{zero-add, add-zero, mul-zero, zero-div, le-of-suc-le-suc, not-suc-le-zero, pos-of-ne-zero}
 use native.Mathlib.Omega.{arith}
 use lib.Dec.{leb, ltb, eqb}
-use lib.ListN.{length, take, replicate}
-use borrow.Author.Tests.{le-leb, lt-leb, lt-ltb, le-ltb, leb-true, leb-false, ne-eqb, eqb-false}
+use lib.ListN.{length, getD, take, replicate}
+use borrow.Author.Tests.{le-leb, lt-leb, lt-ltb, le-ltb, ltb-false, leb-true, leb-false, ne-eqb, eqb-true, eqb-false}
 use Rattle.plpb.specs.Lists.{_and_, _or_, all}
 use Rattle.division.specs.Split.{sum, wholeParts, oneEach, lengths, Part, parts, split, lawfulStake, splitRefusal, refusalAfter, partsAfter}
 use Rattle.division.specs.declared.Stakes.{Stakes}
 use Rattle.division.specs.declared.Parts.{Parts}
 use Rattle.division.specs.Eight.{kept, paired, partsIn, badAt, badFrom, startsFrom, refusedBy, lawfulParts, divided}
-use Rattle.division.proofs.Whole.{few-remain, wholeParts-length}
+use Rattle.division.proofs.Whole.{few-remain, wholeParts-length, splits-all}
+use Rattle.division.proofs.Laws.{good-some}
 
 -- ---- 0 where there is no race
 
@@ -109,6 +110,48 @@ some-stake (s ∷ ss) h e = omega (arith, leb-true 1 s (and-first (leb 1 s) (leb
     and-first : (x y z : Bool) → (x and y and z) ≡ true → x ≡ true
     and-first true y z h = refl
     and-first false y z h = unfold _and_ in h
+
+-- A part lies within the list, of any stakes in an array of 8.
+starts-within : (at : ℕ) (ls : List ℕ) (i : ℕ) → i < length ls → getD (startsFrom at ls) i 0 + getD ls i 0 ≤ at + sum ls
+unfolding startsFrom sum
+starts-within at [] i h = absurd (not-suc-le-zero h)
+starts-within at (l ∷ ls) zero h = omega arith
+starts-within at (l ∷ ls) (suc i) h = omega (arith, starts-within (at + l) ls i (le-of-suc-le-suc h))
+
+pub record Within (before numbers : ℕ) (p : Parts) (i : ℕ) : Type 0 where
+  pub race : i < 8
+  pub fine : before ≡ 0
+  pub part : getD (p .first) i 0 + getD (p .length) i 0 ≤ numbers
+
+module _ (before : ℕ) (s : Stakes) (numbers : ℕ) (long : length (s .stakes) ≡ 8) where
+  no-parts : (r i : ℕ) → i < refusedBy r .count → Within before numbers (refusedBy r) i
+  unfolding refusedBy
+  no-parts r i h = absurd (not-suc-le-zero h)
+
+  some-parts : before ≡ 0 → s .count ≤ 8 → 0 < s .count → badFrom (s .count) 0 (s .stakes) ≡ 0 → (i : ℕ) → i < s .count
+      → Within before numbers (lawfulParts (s .count) (s .stakes) numbers) i
+  unfolding lawfulParts
+  some-parts z few more good i h =
+      let ls = lengths numbers (s .stakes) in
+      let total = splits-all numbers (s .stakes) (good-some (s .count) (s .stakes) more (omega (arith, long)) good) in
+      let n = lengths-length numbers (s .stakes) in
+      record { race = omega (arith, h, few); fine = z; part = omega (arith, starts-within 0 ls i (omega (arith, n, long, h, few)), total) }
+
+  pub divided-within : (i : ℕ) → i < divided before s numbers .count → Within before numbers (divided before s numbers) i
+  unfolding divided
+  divided-within i = by _ refl _ refl _ refl _ refl
+    where
+      by : (x : Bool) → eqb before 0 ≡ x → (y : Bool) → eqb (s .count) 0 ≡ y → (z : Bool) → ltb 8 (s .count) ≡ z
+          → (w : Bool) → eqb (badFrom (s .count) 0 (s .stakes)) 0 ≡ w
+          → i < cond x (cond y (refusedBy 61) (cond z (refusedBy 61) (cond w (lawfulParts (s .count) (s .stakes) numbers) (refusedBy 62)))) (refusedBy before) .count
+          → Within before numbers
+          (cond x (cond y (refusedBy 61) (cond z (refusedBy 61) (cond w (lawfulParts (s .count) (s .stakes) numbers) (refusedBy 62)))) (refusedBy before)) i
+      by false a y b z d w e h = no-parts before i h
+      by true a true b z d w e h = no-parts 61 i h
+      by true a false b true d w e h = no-parts 61 i h
+      by true a false b false d false e h = no-parts 62 i h
+      by true a false b false d true e h =
+          some-parts (eqb-true before 0 a) (ltb-false 8 (s .count) d) (pos-of-ne-zero (eqb-false (s .count) 0 b)) (eqb-true _ 0 e) i (unfold lawfulParts in h)
 
 -- What is answered of a plain list of stakes.
 pub record Told (before : ℕ) (ss : List ℕ) (numbers : ℕ) (p : Parts) : Type 0 where

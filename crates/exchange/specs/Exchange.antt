@@ -23,6 +23,8 @@ settingsAt s i =
       tries = wordAt s (6 * i + 1);
       flips = wordAt s (6 * i + 2);
       mode = wordAt s (6 * i + 3);
+      heuristic = wordAt s (6 * i + 4);
+      chance = wordAt s (6 * i + 5);
     }
 
 -- The number whose 64 bits stand for a signed one.

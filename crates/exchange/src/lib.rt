@@ -24,6 +24,8 @@ pub fn settings_at(settings: &[u8], i: usize) -> Settings
         tries: word(settings, 6 * i + 1),
         flips: word(settings, 6 * i + 2),
         mode: word(settings, 6 * i + 3),
+        heuristic: word(settings, 6 * i + 4),
+        chance: word(settings, 6 * i + 5),
     }
 }
 

@@ -1,6 +1,9 @@
 // The planner's C interface: numbers and byte slices in, numbers out. include/planner.h declares it.
 // Each function promises what the function that it calls promises.
 ghost use mathlib.Core.Path.{_≡_};
+ghost use mathlib.Core.List.{[], _∷_};
+ghost use Prim.Native.Nat.{_/_};
+ghost use lib.ListN.{length};
 ghost use Rattle.counting.specs.Count.{countWords, markedWords};
 ghost use Rattle.tallies.specs.Calls.{openRefusal, openTallies, callRefusal, flipRefusal, flipRules, flipAssignment, flipTallies, countsBreak, countsMake, lent};
 ghost use Rattle.search.specs.Calls.{Searches, HandsOut};
@@ -8,6 +11,10 @@ ghost use Rattle.lending.specs.Lent.{lentAll};
 ghost use Rattle.reports.specs.Calls.{Reports};
 ghost use Rattle.trials.specs.Trials.{trial};
 ghost use Rattle.squeeze.specs.Calls.{Answers, outcome};
+ghost use Rattle.division.specs.Split.{refusalAfter, partsAfter};
+ghost use Rattle.races.specs.Races.{stakesIn, partsPut};
+ghost use Rattle.festival.specs.Own.{works};
+ghost use Rattle.festival.specs.Festival.{given, buffers, raced, roomRefusal};
 ghost use Rattle.tables.specs.Load.{refusalOf, offsetOf, loading, tablesAfter, termsAfter};
 use answers::Answer as Searched;
 use calls::counts::Counted;
@@ -15,6 +22,7 @@ use calls::counts::counts;
 use calls::flip::Flipped;
 use calls::flip::flip;
 use calls::open::open;
+use festival::plan_races;
 use figures::Figures;
 use reports::report;
 use search::search;
@@ -211,4 +219,81 @@ pub extern "C" fn planner_squeeze(file: &mut [u8], old: &mut [u8]) -> Squeezed
     ensures { λ _. ⌜ now (old .exit) ≡ outcome (now (file .entry)) (now (old .entry)) .old ⌝ }
 {
     squeeze(file, old)
+}
+
+// A festival of up to 8 races from one list of numbers. The races stand in the list as records of three numbers: stake, first place and length.
+#[no_mangle]
+pub extern "C" fn planner_races<'a>(
+    races: &mut [usize],
+    numbers: &[u8],
+    settings: &[u8],
+    t1: &'a [u8],
+    e1: &'a [u8],
+    t2: &'a [u8],
+    e2: &'a [u8],
+    t3: &'a [u8],
+    e3: &'a [u8],
+    t4: &'a [u8],
+    e4: &'a [u8],
+    t5: &'a [u8],
+    e5: &'a [u8],
+    t6: &'a [u8],
+    e6: &'a [u8],
+    t7: &'a [u8],
+    e7: &'a [u8],
+    t8: &'a [u8],
+    e8: &'a [u8],
+    assignments: &mut [u8],
+    answers: &mut [u8],
+    work_tables: &mut [u8],
+    work_terms: &mut [u8],
+    work_assignment: &mut [u8],
+    work_tallies: &mut [u8],
+    work_marks: &mut [u8],
+) -> u32
+    ensures { λ r. ⌜ r ≡ refusalAfter (roomRefusal (length (now (settings .entry))) (length (now (assignments .entry))) (length (now (answers .entry))))
+        (stakesIn (now (races .entry))) ⌝ }
+    ensures { λ _. ⌜ now (races .exit)
+        ≡ partsPut (partsAfter (roomRefusal (length (now (settings .entry))) (length (now (assignments .entry))) (length (now (answers .entry))))
+        (length (now (numbers .entry)) / 4) (stakesIn (now (races .entry))))
+        (now (races .entry)) ⌝ }
+    ensures { λ r. ⌜ buffers (now (assignments .exit)) (now (answers .exit))
+        (works (now («work_tables» .exit)) (now («work_terms» .exit)) (now («work_assignment» .exit)) (now («work_tallies» .exit)) (now («work_marks» .exit)))
+        ≡ raced
+        (given (now (numbers .entry)) (now (settings .entry))
+        (now (t1 .entry) ∷ now (t2 .entry) ∷ now (t3 .entry) ∷ now (t4 .entry) ∷ now (t5 .entry) ∷ now (t6 .entry) ∷ now (t7 .entry) ∷ now (t8 .entry) ∷ [])
+        (now (e1 .entry) ∷ now (e2 .entry) ∷ now (e3 .entry) ∷ now (e4 .entry) ∷ now (e5 .entry) ∷ now (e6 .entry) ∷ now (e7 .entry) ∷ now (e8 .entry) ∷ []))
+        (partsAfter (roomRefusal (length (now (settings .entry))) (length (now (assignments .entry))) (length (now (answers .entry))))
+        (length (now (numbers .entry)) / 4) (stakesIn (now (races .entry))))
+        (buffers (now (assignments .entry)) (now (answers .entry))
+        (works (now («work_tables» .entry)) (now («work_terms» .entry)) (now («work_assignment» .entry)) (now («work_tallies» .entry)) (now («work_marks» .entry)))) ⌝ }
+{
+    plan_races(
+        races,
+        numbers,
+        settings,
+        t1,
+        e1,
+        t2,
+        e2,
+        t3,
+        e3,
+        t4,
+        e4,
+        t5,
+        e5,
+        t6,
+        e6,
+        t7,
+        e7,
+        t8,
+        e8,
+        assignments,
+        answers,
+        work_tables,
+        work_terms,
+        work_assignment,
+        work_tallies,
+        work_marks,
+    )
 }

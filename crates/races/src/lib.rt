@@ -2,9 +2,11 @@
 // it back, and leave the rest to functions on values.
 ghost use mathlib.Core.Path.{_≡_};
 ghost use mathlib.Core.List.{[]};
+ghost use Prim.Native.Nat.{_+_, _*_, _≤_};
+ghost use lib.ListN.{length};
 ghost use Rattle.division.specs.Split.{refusalAfter, partsAfter};
 ghost use Rattle.division.specs.Eight.{kept, partsIn};
-ghost use Rattle.races.specs.Races.{stakesOf, withStake, placedAt, placed};
+ghost use Rattle.races.specs.Races.{stakesOf, withStake, placedAt, placed, stakesIn, putAt, partsPut};
 use division::Parts;
 use division::Stakes;
 use division::divide;
@@ -84,15 +86,60 @@ fn put_parts(races: &mut [Race], p: Parts)
     }
 }
 
-// Splits `numbers` numbers among the races by their stakes, and writes each race's part into its record. Where the races are turned away, by `before`,
-// which was found before and is 0 for none, 61 or 62, nothing is written.
-pub fn share(races: &mut [Race], before: u32, numbers: usize) -> Parts
-    ensures { λ r. ⌜ (r .refusal ≡ refusalAfter before (stakesOf (now (races .entry))))
-        × (partsIn r ≡ partsAfter before numbers (stakesOf (now (races .entry))))
-        × (now (races .exit) ≡ placed (partsAfter before numbers (stakesOf (now (races .entry)))) (now (races .entry))) ⌝ }
+// The split alone, for any length of the list: each race's part is written into its record, and no number is read. 61 and 62 are answered, and then nothing
+// is written.
+#[no_mangle]
+pub extern "C" fn planner_share(races: &mut [Race], numbers: usize) -> u32
+    ensures { λ r. ⌜ (r ≡ refusalAfter 0 (stakesOf (now (races .entry))))
+        × (now (races .exit) ≡ placed (partsAfter 0 numbers (stakesOf (now (races .entry)))) (now (races .entry))) ⌝ }
 {
     let s = stakes_of(&*races);
-    let p = divide(before, s, numbers);
+    let p = divide(0, s, numbers);
     put_parts(races, p);
-    p
+    p.refusal
+}
+
+// The same records as plain numbers, three for each race.
+pub fn stakes_in(races: &[usize]) -> Stakes
+    ensures { λ r. ⌜ r ≡ kept (stakesIn (now (races .entry))) ⌝ }
+{
+    let count = races.len() / 3;
+    let mut s = no_stakes();
+    let mut i = 0;
+    while i < count {
+        s = with_race(s, race_of(races[3 * i], 0, 0));
+        i += 1;
+    }
+    s
+}
+
+fn race_of(stake: usize, first: usize, length: usize) -> Race
+    ensures { λ r. ⌜ r ≡ record { stake = stake; first = first; length = length } ⌝ }
+{
+    Race {
+        stake,
+        first,
+        length,
+    }
+}
+
+// Writes one race's part, where there is one for it.
+fn put_part(races: &mut [usize], i: usize, p: Parts)
+    requires { ⌜ 3 * i + 3 ≤ length (now races) ⌝ }
+    ensures { λ _. ⌜ now (races .exit) ≡ putAt (partsIn p) i (now (races .entry)) ⌝ }
+{
+    let r = with_part(p, i, race_of(0, races[3 * i + 1], races[3 * i + 2]));
+    races[3 * i + 1] = r.first;
+    races[3 * i + 2] = r.length;
+}
+
+pub fn put_in(races: &mut [usize], p: Parts)
+    ensures { λ _. ⌜ now (races .exit) ≡ partsPut (partsIn p) (now (races .entry)) ⌝ }
+{
+    let count = races.len() / 3;
+    let mut i = 0;
+    while i < count {
+        put_part(races, i, p);
+        i += 1;
+    }
 }

@@ -55,7 +55,7 @@ front-within n k xs s t l h e =
 -- ---- a find
 
 -- It has a byte for each variable.
-abbrev Whole : ℕ → Reached → Type 0
+abbrev pub Whole : ℕ → Reached → Type 0
 Whole n failed = Unit {0}
 Whole n (reached a) = length a ≡ n
 
@@ -64,7 +64,7 @@ unfolding lastFind all
 last-whole n [] h = tt
 last-whole n (a ∷ fs) h = eqb-true (length a) n (is-true _ (and-left _ _ h))
 
-find-whole : (s : Settings) (p : Plan) (ns : List ℕ) → Whole (p .variables) (search s p ns .assignment)
+pub find-whole : (s : Settings) (p : Plan) (ns : List ℕ) → Whole (p .variables) (search s p ns .assignment)
 find-whole s p ns = let o = search-sound s p ns in subst (Whole (p .variables)) (sym (o .handed-out)) (last-whole (p .variables) (findsOf s p ns) (o .each-complete))
 
 find-within : (n k : ℕ) (r : Reached) (s t : List ℕ) → Whole n r → n ≤ k → SameWithin k s t → SameWithin k (withFind r n s) (withFind r n t)

@@ -35,6 +35,10 @@ desk: plans for the box in the start tent, as text (see docs/DESK.md)
       writes the plan without its locked variables, and prints what an
       assignment of the old plan costs more than one of the new, and
       which old variable each new one was
+  desk festival FOLDER SEED COUNT STAKE PLAN.txt [STAKE PLAN.txt ..]
+      writes a festival of up to 8 races: numbers.bin, races.txt with
+      each race's stake, 1 to 100, and subfolder, and in the subfolder,
+      called race1, race2, .., plan.bin, walk.bin, names.txt, clauses.txt
   desk help
 
 Exit code: 0 done; 1 a text, file or assignment is at fault;
@@ -103,45 +107,97 @@ fn names_and_clauses(text: &Text) -> [String; 2] {
 fn write_files(path: &str, folder: &str, seed: &str, count: &str) -> Done {
     let seed = number("SEED", seed, u64::MAX)?;
     let count = number("COUNT", count, MOST_NUMBERS as u64)? as usize;
-    let text = text_of(path)?;
-    let Some(settings) = text.settings else {
-        return faulty(format!(
-            "{path}:{}: there is no walk statement",
-            text.last_line
-        ));
-    };
+    let (text, settings) = searchable(path)?;
     let words = names_and_clauses(&text);
     write_folder(folder, &text.plan, &settings, seed, count, words)
 }
 
-/// Writes the three files and the two for the screen.
+/// Writes files into a folder, and says which.
+fn write_all(folder: &Path, files: &[(&str, Vec<u8>, String)]) -> Result<String, Stop> {
+    let mut out = String::new();
+    for (name, bytes, more) in files {
+        let file = folder.join(name);
+        if let Err(error) = fs::write(&file, bytes) {
+            return unable(format!("cannot write {}: {error}", file.display()));
+        }
+        let size = counted(bytes.len(), "byte");
+        out += &format!("wrote {}: {size}{more}\n", file.display());
+    }
+    Ok(out)
+}
+
+/// The files of a plan, its settings and its words.
+fn plan_files(
+    plan: &Plan,
+    settings: &Settings,
+    [names, clauses]: [String; 2],
+) -> Vec<(&'static str, Vec<u8>, String)> {
+    vec![
+        ("plan.bin", write(plan), String::new()),
+        ("walk.bin", write_settings(settings), String::new()),
+        ("names.txt", names.into_bytes(), String::new()),
+        ("clauses.txt", clauses.into_bytes(), String::new()),
+    ]
+}
+
+/// The file of numbers drawn from a seed.
+fn numbers_file(seed: u64, count: usize) -> (&'static str, Vec<u8>, String) {
+    let bytes = write_numbers(&Random::new(seed).numbers(count));
+    let more = format!(", {} from seed {seed}", counted(count, "number"));
+    ("numbers.bin", bytes, more)
+}
+
 fn write_folder(
     folder: &str,
     plan: &Plan,
     settings: &Settings,
     seed: u64,
     count: usize,
-    [names, clauses]: [String; 2],
+    words: [String; 2],
 ) -> Done {
-    let files = [
-        ("plan.bin", write(plan), String::new()),
-        ("walk.bin", write_settings(settings), String::new()),
-        (
-            "numbers.bin",
-            write_numbers(&Random::new(seed).numbers(count)),
-            format!(", {} from seed {seed}", counted(count, "number")),
-        ),
-        ("names.txt", names.into_bytes(), String::new()),
-        ("clauses.txt", clauses.into_bytes(), String::new()),
-    ];
-    let mut out = String::new();
-    for (name, bytes, more) in files {
-        let file = Path::new(folder).join(name);
-        if let Err(error) = fs::write(&file, &bytes) {
-            return unable(format!("cannot write {}: {error}", file.display()));
+    let mut files = plan_files(plan, settings, words);
+    files.insert(2, numbers_file(seed, count));
+    Ok((write_all(Path::new(folder), &files)?, true))
+}
+
+/// A plan's text that has its settings too.
+fn searchable(path: &str) -> Result<(Text, Settings), Stop> {
+    let text = text_of(path)?;
+    match text.settings {
+        Some(settings) => Ok((text, settings)),
+        None => faulty(format!(
+            "{path}:{}: there is no walk statement",
+            text.last_line
+        )),
+    }
+}
+
+/// Writes a festival: the races are pairs of a stake and a plan's text.
+fn write_festival(folder: &str, seed: &str, count: &str, races: &[&str]) -> Done {
+    let seed = number("SEED", seed, u64::MAX)?;
+    let count = number("COUNT", count, MOST_NUMBERS as u64)? as usize;
+    let folder = Path::new(folder);
+    let (mut list, mut subfolders) = (String::new(), Vec::new());
+    for (i, race) in races.chunks_exact(2).enumerate() {
+        let stake = number("STAKE", race[0], 100)?;
+        if stake == 0 {
+            return unable("STAKE is a number from 1 to 100, not '0'".to_string());
         }
-        let size = counted(bytes.len(), "byte");
-        out += &format!("wrote {}: {size}{more}\n", file.display());
+        let (text, settings) = searchable(race[1])?;
+        let files = plan_files(&text.plan, &settings, names_and_clauses(&text));
+        list += &format!("{stake} race{}\n", i + 1);
+        subfolders.push((folder.join(format!("race{}", i + 1)), files));
+    }
+    let whole = [
+        numbers_file(seed, count),
+        ("races.txt", list.into_bytes(), String::new()),
+    ];
+    let mut out = write_all(folder, &whole)?;
+    for (path, files) in subfolders {
+        if let Err(error) = fs::create_dir_all(&path) {
+            return unable(format!("cannot make {}: {error}", path.display()));
+        }
+        out += &write_all(&path, &files)?;
     }
     Ok((out, true))
 }
@@ -317,6 +373,11 @@ pub fn run(arguments: &[&str]) -> Outcome {
         ["write", text, folder, seed, count] => write_files(text, folder, seed, count),
         ["map", sites, zones, folder, seed, count] => {
             map_lists([sites, zones], folder, seed, count)
+        }
+        ["festival", folder, seed, count, races @ ..]
+            if (2..=16).contains(&races.len()) && races.len() % 2 == 0 =>
+        {
+            write_festival(folder, seed, count, races)
         }
         ["show", path] => show_files(path, None),
         ["show", path, text] => show_files(path, Some(text)),

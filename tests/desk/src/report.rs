@@ -44,7 +44,7 @@ pub fn counted(count: usize, what: &str) -> String {
 
 /// Every refusal in plain words, by its number: those of the files, of the settings, and of what a
 /// program lends. include/planner.h and docs/REFUSALS.md have the same words.
-pub const REFUSALS: [(u32, &str); 27] = [
+pub const REFUSALS: [(u32, &str); 29] = [
     (1, "the file ends in the middle of a field"),
     (2, "a field of this kind may not stand here"),
     (3, "no field of this kind has this length"),
@@ -82,6 +82,8 @@ pub const REFUSALS: [(u32, &str); 27] = [
     (41, "the five words of the generator's state are all 0"),
     (42, "the number of runs is not from 1 to 1,000"),
     (43, "the numbers of a run are not from 1 to 16,384"),
+    (61, "there is no race, or there are more than 8"),
+    (62, "a race's stake is not from 1 to 100"),
     (71, "the plan has locked every variable"),
     (72, "the locks leave a clause with no rule that can be met"),
 ];

@@ -7,6 +7,7 @@ use reference::counts::Count;
 use reference::file::{parse, parse_numbers, parse_settings, Refusal};
 use reference::plan::Plan;
 use reference::program::{contents, MOST_BYTES};
+use reference::races::{split, RACES};
 use reference::tallies::Tallies;
 use reference::walk::{self, Ending, Settings};
 use std::path::Path;
@@ -235,6 +236,24 @@ impl Screen<'_> {
                 "With {part} of {count} numbers: {so_far} so far.\n"
             ));
         };
+        self.tell(answer);
+    }
+
+    /// Searches with the whole list at once.
+    fn search_whole(&mut self) {
+        let Files {
+            plan,
+            settings,
+            numbers,
+        } = self.files;
+        let answer = walk::search(plan, settings, numbers).unwrap();
+        self.tell(answer);
+    }
+
+    /// What a search came to.
+    fn tell(&mut self, answer: walk::Answer) {
+        let plan = &self.files.plan;
+        let count = self.files.numbers.len();
         self.say(&format!("{}.\n", ending(answer.ending)));
         if answer.found().is_some() {
             self.say(&format!("Cost {}. ", answer.cost));
@@ -340,8 +359,88 @@ impl Screen<'_> {
     }
 }
 
+/// The stake and the subfolder of a race.
+fn race(line: &[u8]) -> (usize, String) {
+    let digits = line.iter().take_while(|byte| byte.is_ascii_digit()).count();
+    let stake = line[..digits].iter().fold(0, |stake: usize, digit| {
+        if stake > 100 {
+            return stake;
+        }
+        10 * stake + usize::from(digit - b'0')
+    });
+    let name = String::from_utf8_lossy(&line[digits..]);
+    (stake, name.trim_start_matches(' ').to_string())
+}
+
+/// A race's plan and settings, once no file is refused.
+fn read_race(folder: &Path, name: &str) -> Result<(Plan, Settings), Vec<u8>> {
+    let files = ["plan.bin", "walk.bin"];
+    let [plan, walk] =
+        files.map(|file| contents(&folder.join(name).join(file)).unwrap_or_default());
+    if plan.len() > MOST_BYTES || walk.len() > MOST_BYTES {
+        return Err(plainly(name, 9));
+    }
+    let plan = parse(&plan).map_err(|refusal| refused(name, refusal))?;
+    let settings = parse_settings(&walk).map_err(|refusal| refused(name, refusal))?;
+    Ok((plan, settings))
+}
+
+fn plainly(what: &str, number: u32) -> Vec<u8> {
+    refused(what, Refusal { number, offset: 0 })
+}
+
+/// A festival: every race of races.txt with its part of the folder's numbers.
+fn festival(folder: &Path, list: &[u8]) -> Result<Vec<u8>, Vec<u8>> {
+    let mut left = list;
+    let mut lines = Vec::new();
+    while lines.len() <= RACES {
+        let Some(line) = line(&mut left, LINE) else {
+            break;
+        };
+        lines.push(race(&line));
+    }
+    let numbers = contents(&folder.join("numbers.bin")).unwrap_or_default();
+    if numbers.len() > MOST_BYTES {
+        return Err(plainly("numbers.bin", 9));
+    }
+    let numbers = parse_numbers(&numbers).map_err(|refusal| refused("numbers.bin", refusal))?;
+    let mut read = Vec::new();
+    for (_, name) in lines.iter().take(RACES) {
+        read.push(read_race(folder, name)?);
+    }
+    let stakes: Vec<usize> = lines.iter().map(|(stake, _)| *stake).collect();
+    let parts = split(&stakes, numbers.len()).map_err(|number| plainly("The festival", number))?;
+    let mut shown = Vec::new();
+    for (((_, name), (plan, settings)), part) in lines.iter().zip(read).zip(parts) {
+        let end = part.first + part.length;
+        shown.extend(format!("{name}: numbers {} to {end}. ", part.first).into_bytes());
+        let subfolder = folder.join(name);
+        let files = Files {
+            plan,
+            settings,
+            numbers: numbers[part.first..end].to_vec(),
+        };
+        let mut screen = Screen {
+            names: lines_of(&subfolder.join("names.txt"), files.plan.variables, NAME),
+            clauses: Vec::new(),
+            files: &files,
+            bits: Vec::new(),
+            shown: Vec::new(),
+        };
+        screen.search_whole();
+        shown.extend(screen.shown);
+    }
+    Ok(shown)
+}
+
 /// What is shown, and the exit code.
 pub fn session(folder: &Path, mut input: &[u8]) -> (Vec<u8>, u8) {
+    if let Ok(list) = std::fs::read(folder.join("races.txt")) {
+        return match festival(folder, &list) {
+            Ok(shown) => (shown, 0),
+            Err(refused) => (refused, 1),
+        };
+    }
     let files = match read(folder) {
         Ok(files) => files,
         Err(refused) => return (refused, 1),

@@ -6,6 +6,7 @@ pub mod mapper;
 pub mod planner;
 pub mod probe;
 pub mod program;
+pub mod races;
 pub mod replay;
 pub mod running;
 pub mod searching;

@@ -19,6 +19,7 @@ pub mod mapper;
 pub mod novelty;
 pub mod plan;
 pub mod program;
+pub mod races;
 pub mod random;
 pub mod squeeze;
 pub mod tallies;

@@ -1,0 +1,4 @@
+-- The laws of a festival.
+pub mod Apart
+pub mod InTurn
+pub mod Racing
