@@ -25,7 +25,7 @@ rank-marked-requires c κs =
     (at .pre .0, c .before .before .before .before .before .before .index .ensures ∙ sym (variables-word _ _ (at .pre .0 .laid)), at .pre .2)
 
 choose-ranked-requires : tie.Need-choose-ranked-requires
-choose-ranked-requires c κs = let at = c .before .before .before .before .before .before .before .before .before .before .before .before .before in listed-after (at .args .numbers .now) _ (picked-at (c .before .before .before .before .before .before .pick .ensures) (c .before .before .before .before .p .given .1))
+choose-ranked-requires c κs = let at = c .before .before .before .before .before .before .before .before .before .before .before .before .before in omega (arith, at .pre .1 .listed, listed-after (at .args .numbers .now) _ (picked-at (c .before .before .before .before .before .before .pick .ensures) (c .before .before .before .before .p .given .1)))
 
 returns : tie.Need-returns
 returns c =
