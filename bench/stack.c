@@ -7,7 +7,7 @@
 #include <string.h>
 #include <ucontext.h>
 
-enum { SIZE = 1 << 20, PAINT = 0xa5, CALLS = 8, LISTED = 4 * 200 };
+enum { SIZE = 1 << 20, PAINT = 0xa5, CALLS = 9, LISTED = 4 * 200 };
 
 static uint8_t file[PLANNER_INPUT_SIZE], numbers[LISTED];
 static planner_plan plan;
@@ -31,6 +31,12 @@ static void runs(void) {
     planner_settings settings = planner_settings_of(500, 10, 1000, PLANNER_LBS);
     planner_xorwow from = {1, 2, 3, 4, 5, 6};
     refusal = planner_plan_runs(&plan, settings, from, 2, 100, &scratch, &work).refusal;
+}
+static void races(void) {
+    planner_settings settings = planner_settings_of(500, 10, 1000, PLANNER_LBS);
+    planner_race race = {.stake = 1, .plan = &plan, .settings = settings, .state = &state};
+    refusal = planner_plan_races(&race, 1, numbers, listed, &work);
+    if (!refusal) refusal = race.answer.refusal;
 }
 static void squeeze(void) { refusal = planner_file_squeeze(file, length, &old).refusal; }
 
@@ -57,8 +63,8 @@ static size_t contents(const char *name, uint8_t *bytes, size_t most) {
 }
 
 int main(int count, char **names) {
-    void (*calls[CALLS])(void) = {nothing, load, search, runs, open, flip, counts, squeeze};
-    const char *called[CALLS] = {"nothing", "load", "search", "runs", "open", "flip", "counts", "squeeze"};
+    void (*calls[CALLS])(void) = {nothing, load, search, runs, races, open, flip, counts, squeeze};
+    const char *called[CALLS] = {"nothing", "load", "search", "runs", "races", "open", "flip", "counts", "squeeze"};
     size_t deepest[CALLS] = {0};
     if (count < 3) {
         printf("usage: stack NUMBERS PLAN...\n");

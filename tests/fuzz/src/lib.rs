@@ -9,6 +9,7 @@ pub mod figures;
 pub mod loading;
 pub mod making;
 pub mod mapping;
+pub mod racing;
 pub mod searching;
 pub mod squeezing;
 pub mod trials;
@@ -17,8 +18,8 @@ use figures::Figures;
 use reference::random::Random;
 
 /// The calls, in the order in which the figures show them.
-pub const CALLS: [&str; 8] = [
-    "load", "open", "flip", "counts", "search", "squeeze", "map", "runs",
+pub const CALLS: [&str; 9] = [
+    "load", "open", "flip", "counts", "search", "squeeze", "map", "runs", "races",
 ];
 
 /// One call. It panics where the library and the reference differ.
@@ -28,6 +29,7 @@ fn case(random: &mut Random, figures: &mut Figures) {
         "load" => figures.count(call, loading::case(random)),
         "squeeze" => figures.count(call, squeezing::case(random)),
         "runs" => figures.count(call, trials::case(random).refusal),
+        "races" => figures.count(call, racing::case(random)),
         "map" => figures.count(call, mapping::case(random)),
         "search" => {
             let answer = searching::case(random, figures);

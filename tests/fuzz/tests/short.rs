@@ -4,16 +4,17 @@ use fuzz::figures::CASES;
 
 #[test]
 fn a_short_run() {
-    let figures = fuzz::run(2026, |number| number < 96_000);
-    let calls: [(&str, &[u32]); 8] = [
+    let figures = fuzz::run(2026, |number| number < 108_000);
+    let calls: [(&str, &[u32]); 9] = [
         ("load", &[0, 1, 2, 3, 4, 5, 6, 7, 10, 21]),
         ("open", &[0, 21, 22, 24]),
         ("flip", &[0, 21, 22, 23, 24, 25, 26]),
         ("counts", &[0, 21, 22, 23, 24, 25]),
-        ("search", &[0, 11, 12, 13, 14, 21, 22]),
+        ("search", &[0, 11, 12, 13, 14, 15, 16, 21, 22]),
         ("squeeze", &[0, 1, 2, 3, 4, 5, 6, 7, 10, 21, 71, 72]),
         ("map", &[0, 21, 51, 52, 53, 54, 55]),
         ("runs", &[0, 11, 12, 13, 14, 15, 16, 21, 22, 41, 42, 43]),
+        ("races", &[0, 21, 61, 62]),
     ];
     for (call, refusals) in calls {
         for &refusal in refusals {

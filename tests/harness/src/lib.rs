@@ -1,5 +1,6 @@
 //! The proved library as Rust sees it: each exported function declared once, in a safe wrapper.
 
+pub mod festivals;
 pub mod guarded;
 pub mod layout;
 pub mod mapper;

@@ -1,5 +1,5 @@
 //! include/planner.h against what this harness declares of the library: every size, offset, limit
-//! and ending, and the seven prototypes, word for word.
+//! and ending, and the eight prototypes, word for word.
 
 use harness::layout::{self, ASSIGNMENT, MARKS, SECTIONS, TABLES, TALLIES, TERM_TABLE};
 use harness::planner::{Counted, Figures, Flipped, Loaded, Searched, Squeezed};

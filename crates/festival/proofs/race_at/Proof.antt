@@ -48,7 +48,7 @@ part-race-one-start c = search needs
 
 -- src/lib.rt:181:9
 part-race-one-end : tie.Need-part-race-one-end
-part-race-one-end c = search needs
+part-race-one-end c = let s = c .before .before .before .before .before .before .before .before .before .before .before .before .before .before .before .before .before .before .before .before .before .before .before .before .before .before .before .before in search (needs, s .pre .part)
 
 -- src/lib.rt:177:5
 race-one-requires : tie.Need-race-one-requires
