@@ -12,10 +12,10 @@
  *     planner_flipped flipped = planner_state_flip(&state, &plan, 7);
  *
  * There are two layers. The archive exports eight calls on pointers and lengths: planner_load, planner_open,
- * planner_flip, planner_counts, planner_search, planner_runs, planner_squeeze and planner_races. What the comments
- * say of them is proved. The structs and the inline functions after them are plain C, which is tested and not proved: they lend buffers
- * of the right sizes, so that none is mixed up, and read what the calls leave. A program that uses these alone need not
- * change when a call gains an argument or an answer a field.
+ * planner_flip, planner_counts, planner_search, planner_runs, planner_squeeze and planner_races. What the comments say
+ * of them is proved. The structs and the inline functions after them are plain C, which is tested and not proved: they
+ * lend buffers of the right sizes, so that none is mixed up, and read what the calls leave. A program that uses these
+ * alone need not change when a call gains an argument or an answer a field.
  *
  * What holds of every call:
  * - It may be made with anything at all. It returns, and gives what it was asked for or one of the refusals below.
@@ -251,7 +251,7 @@ static inline const char *planner_ending_text(uint32_t ending) {
     }
 }
 
-/* ---- the seven calls; the refusals of each stand in the order in which they are tried */
+/* ---- the eight calls; the refusals of each stand in the order in which they are tried */
 
 /* Loads a plan file of any length and content into the two tables.
  * PLANNER_BUFFER_TOO_SMALL, then the file's own: PLANNER_CUT_SHORT to PLANNER_BYTES_AFTER_END and PLANNER_WRONG_LOCK,
