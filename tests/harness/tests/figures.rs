@@ -135,10 +135,8 @@ fn fractions_are_reduced_and_keep_their_sign() {
         if reported.found == 1 {
             assert_eq!((reported.cost_top, reported.cost_bottom), (-7, 1));
         }
-        assert_eq!(
-            reported.flips[1] == 1,
-            reported.flips[0] % reported.flips[1] == 0
-        );
+        let remainder = reported.flips[0] % reported.flips[1];
+        assert_eq!(reported.flips[1] == 1, remainder == 0);
     }
 }
 
@@ -228,11 +226,11 @@ fn every_refusal_and_their_order() {
     let mut random = Random::new(115);
     let (lent, trial, settings) = faulty(&mut random, &[]);
     assert_eq!(lent.check_runs(&trial, &settings).refusal, 0);
-    for first in 0..ORDER.len() {
-        for second in first..ORDER.len() {
-            let (lent, trial, settings) = faulty(&mut random, &[ORDER[first], ORDER[second]]);
+    for (place, &first) in ORDER.iter().enumerate() {
+        for &second in &ORDER[place..] {
+            let (lent, trial, settings) = faulty(&mut random, &[first, second]);
             let reported = lent.check_runs(&trial, &settings);
-            assert_eq!(reported, Figures::refused(ORDER[first].0));
+            assert_eq!(reported, Figures::refused(first.0));
         }
     }
 }
