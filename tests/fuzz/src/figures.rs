@@ -10,9 +10,9 @@ pub struct Figures {
     cases: [u64; CASES.len()],
 }
 
-/// What a fuzz run is to come upon: cases of locks, of the order, of flips, of picks, of counts and
-/// of the least among them.
-pub const CASES: [&str; 24] = [
+/// What a fuzz run is to come upon: cases of locks, of the order, of flips, of picks, of counts, of
+/// the least among them, and of the choice by Novelty+.
+pub const CASES: [&str; 32] = [
     "stuck",
     "found with locks",
     "opened against locks",
@@ -37,6 +37,14 @@ pub const CASES: [&str; 24] = [
     "least uncut at the cap",
     "uncut at the cap beside cut",
     "uncut beside cut",
+    "novelty walk",
+    "novelty alone",
+    "novelty first",
+    "novelty first again",
+    "novelty second",
+    "novelty tie by age",
+    "novelty tie by number",
+    "novelty cut",
 ];
 
 /// By the numbers of the C interface.
@@ -114,7 +122,7 @@ impl fmt::Display for Figures {
         for (name, count) in ENDINGS.iter().zip(self.endings) {
             write!(f, " {name}: {count}")?;
         }
-        write!(f, "\nlocks, order, flips, picks and counts:")?;
+        write!(f, "\nlocks, order, flips, picks, counts and choices:")?;
         for (name, count) in CASES.iter().zip(self.cases) {
             write!(f, " {name}: {count}")?;
         }

@@ -297,7 +297,7 @@ fn refusals_of_walk_bin() {
     for length in 3..15 {
         assert_eq!(check_walk(&long[..length]), refusal(1, 0));
     }
-    assert_eq!(check_walk(&long), SHORT_NONE);
+    assert!(!check_walk(&long).starts_with("refused"));
     for length in [16, 17, 300] {
         assert_eq!(check_walk(&resized(&long, length)), refusal(7, 15));
     }
