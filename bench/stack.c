@@ -32,11 +32,20 @@ static void runs(void) {
     planner_xorwow from = {1, 2, 3, 4, 5, 6};
     refusal = planner_plan_runs(&plan, settings, from, 2, 100, &scratch, &work).refusal;
 }
+/* The call itself: what its inline function holds for 8 races would be counted with it. */
 static void races(void) {
-    planner_settings settings = planner_settings_of(500, 10, 1000, PLANNER_LBS);
-    planner_race race = {.stake = 1, .plan = &plan, .settings = settings, .state = &state};
-    refusal = planner_plan_races(&race, 1, numbers, listed, &work);
-    if (!refusal) refusal = race.answer.refusal;
+    static size_t race[3] = {1, 0, 0};
+    static uint32_t settings[8][6] = {{500, 10, 1000, PLANNER_LBS, PLANNER_SKC, 0}};
+    static uint8_t assignments[8][PLANNER_ASSIGNMENT_SIZE];
+    static planner_searched answers[8];
+#define NONE NULL, 0, NULL, 0
+    refusal = planner_races(race, 3, numbers, listed, (const uint8_t *)settings, sizeof settings,
+                            PLANNER_LEND(plan.tables), PLANNER_LEND(plan.terms), NONE, NONE, NONE, NONE, NONE, NONE,
+                            NONE, assignments[0], sizeof assignments, (uint8_t *)answers, sizeof answers,
+                            PLANNER_LEND(work.tables), PLANNER_LEND(work.terms), PLANNER_LEND(work.assignment),
+                            PLANNER_LEND(work.tallies), PLANNER_LEND(work.marks));
+#undef NONE
+    if (!refusal) refusal = answers[0].refusal;
 }
 static void squeeze(void) { refusal = planner_file_squeeze(file, length, &old).refusal; }
 

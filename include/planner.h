@@ -21,8 +21,8 @@
  * - It may be made with anything at all. It returns, and gives what it was asked for or one of the refusals below.
  *   A refused call changes no byte of what it was lent.
  * - It touches nothing but the buffers it is lent, keeps no pointer, allocates nothing, has no state of its own and
- *   takes up to one and a half kilobytes of stack, planner_squeeze two and a half. It is reentrant: threads may call
- *   at once, each with buffers of its own.
+ *   takes up to two kilobytes of stack, planner_squeeze and planner_races two and a half. It is reentrant: threads may
+ *   call at once, each with buffers of its own.
  * - The caller lends the memory that it says it lends, and no byte twice in one call. This cannot be tested by the
  *   call; it is assumed.
  * - NULL is fine where the length is 0: a file or a list of numbers may be empty, and any other buffer is then too
@@ -499,7 +499,8 @@ typedef struct {
     planner_searched answer;
 } planner_race;
 
-/* planner_races: every race of a festival, from one list of numbers. With a refusal no race is written. */
+/* planner_races: every race of a festival, from one list of numbers. With a refusal no race is written. What it copies
+ * takes five kilobytes of stack. */
 static inline uint32_t planner_plan_races(planner_race *races, size_t count, const uint8_t *numbers,
                                           size_t numbers_length, planner_work *work) {
     size_t records[PLANNER_MOST_RACES + 1][3];
