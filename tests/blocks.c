@@ -92,6 +92,39 @@ static void squeeze(uint32_t refusal, const uint8_t *file, size_t length, size_t
     free(old);
 }
 
+/* A festival of so many races in blocks of these sizes for the settings, assignments and answers of 8. The first race
+ * has a plan, the others have none. */
+static void races(uint32_t refusal, size_t count, const size_t *size, const uint8_t *file, size_t length,
+                  const uint8_t *numbers, size_t listed) {
+    uint8_t *tables = block(PLANNER_TABLES_SIZE), *terms = block(PLANNER_TERMS_SIZE), *lent[3], *work[BUFFERS];
+    size_t *records = count ? malloc(3 * count * sizeof *records) : NULL;
+    for (size_t i = 0; i < 3 * count && records; i += 3) records[i] = 1;
+    for (int i = 0; i < 3; i++) lent[i] = block(size[i]);
+    for (int i = 0; i < BUFFERS; i++) work[i] = block(sizes[i]);
+    const uint32_t settings[6] = {500, 10, 1000, PLANNER_LBS, PLANNER_SKC, 0};
+    for (size_t at = 0; at + sizeof settings <= size[0]; at += sizeof settings) {
+        memcpy(lent[0] + at, settings, sizeof settings);
+    }
+    expect("load", planner_load(file, length, tables, PLANNER_TABLES_SIZE, terms, PLANNER_TERMS_SIZE).refusal, 0);
+#define NONE NULL, 0, NULL, 0
+    expect("races",
+           planner_races(records, 3 * count, numbers, listed, lent[0], size[0], tables, PLANNER_TABLES_SIZE, terms,
+                         PLANNER_TERMS_SIZE, NONE, NONE, NONE, NONE, NONE, NONE, NONE, lent[1], size[1], lent[2],
+                         size[2], work[0], sizes[0], work[1], sizes[1], work[2], sizes[2], work[3], sizes[3], work[4],
+                         sizes[4]),
+           refusal);
+#undef NONE
+    for (uint32_t i = 0; i < count && !refusal; i++) {
+        expect("a race", planner_word(lent[2] + PLANNER_ALL_ANSWERS_SIZE / PLANNER_MOST_RACES * i),
+               i ? PLANNER_BUFFER_TOO_SMALL : 0);
+    }
+    for (int i = 0; i < 3; i++) free(lent[i]);
+    for (int i = 0; i < BUFFERS; i++) free(work[i]);
+    free(records);
+    free(tables);
+    free(terms);
+}
+
 int main(int count, char **arguments) {
     if (count != 4) return 2;
     size_t length, listed, size[BUFFERS];
@@ -113,6 +146,18 @@ int main(int count, char **arguments) {
     squeeze(small, file, length, 0);
     squeeze(PLANNER_CUT_SHORT, file, length - 1, PLANNER_LIST_SIZE);
     squeeze(PLANNER_CUT_SHORT, NULL, 0, PLANNER_LIST_SIZE);
+    const size_t eight[3] = {PLANNER_ALL_SETTINGS_SIZE, PLANNER_ALL_ASSIGNMENTS_SIZE, PLANNER_ALL_ANSWERS_SIZE};
+    races(0, 1, eight, file, length, numbers, listed);
+    races(0, PLANNER_MOST_RACES, eight, file, length, numbers, listed);
+    races(PLANNER_WRONG_RACES, 0, eight, file, length, numbers, listed);
+    races(PLANNER_WRONG_RACES, PLANNER_MOST_RACES + 1, eight, file, length, numbers, listed);
+    for (int cut = 0; cut < CUTS; cut++) {
+        for (int shortened = 0; shortened < 3; shortened++) {
+            size_t fewer[3] = {eight[0], eight[1], eight[2]};
+            fewer[shortened] = cut ? 0 : eight[shortened] - 1;
+            races(small, 2, fewer, file, length, numbers, listed);
+        }
+    }
     printf("%s: exact and short blocks\n", arguments[1]);
     free(file);
     free(numbers);

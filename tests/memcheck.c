@@ -79,6 +79,22 @@ static void runs(const planner_plan *plan, planner_settings settings, planner_wo
     free(scratch);
 }
 
+/* A festival of two races, of which the second has no plan: it is refused, and the first is as a search of its own. */
+static void races(const planner_plan *plan, planner_settings settings, const uint8_t *numbers, size_t listed,
+                  planner_work *work) {
+    planner_state *states = block(2 * sizeof *states);
+    planner_race entered[2] = {{.stake = 3, .plan = plan, .settings = settings, .state = &states[0]},
+                               {.stake = 1, .plan = NULL, .settings = settings, .state = &states[1]}};
+    expect("races", planner_plan_races(entered, 2, numbers, listed, work));
+    expect("a race", entered[0].answer.refusal);
+    if (entered[1].answer.refusal != PLANNER_BUFFER_TOO_SMALL) exit(1);
+    if (entered[1].first != entered[0].length || entered[0].length + entered[1].length != listed / 4) exit(1);
+    planner_searched alone = planner_plan_search(plan, settings, numbers, 4 * entered[0].length, &states[1], work);
+    if (alone.ending != entered[0].answer.ending || alone.used != entered[0].answer.used) exit(1);
+    if (alone.finds && memcmp(states[0].assignment, states[1].assignment, planner_plan_variables(plan)) != 0) exit(1);
+    free(states);
+}
+
 int main(int count, char **arguments) {
     if (count != 4) return 2;
     size_t length, listed;
@@ -93,6 +109,7 @@ int main(int count, char **arguments) {
     planner_searched found = planner_plan_search(plan, settings, numbers, listed, state, work);
     expect("search", found.refusal);
     runs(plan, settings, work);
+    races(plan, settings, numbers, listed, work);
     uint32_t variables = planner_plan_variables(plan);
     if (found.finds == 0) memset(state->assignment, 0, variables);
     expect("open", planner_state_open(state, plan).refusal);
