@@ -1,5 +1,5 @@
 //! include/planner.h against what this harness declares of the library: every size, offset, limit
-//! and ending, and the eight prototypes, word for word.
+//! and ending, and the eight prototypes, word for word; and the prototype of include/races.h.
 
 use harness::layout::{self, ASSIGNMENT, MARKS, SECTIONS, TABLES, TALLIES, TERM_TABLE};
 use harness::planner::{Counted, Figures, Flipped, Loaded, Searched, Squeezed};
@@ -259,6 +259,8 @@ fn c_type(words: &str) -> &'static str {
         "const uint8_t *" => "*const u8",
         "uint8_t *" => "*mut u8",
         "size_t" => "usize",
+        "size_t *" => "*mut usize",
+        "planner_share_of *" => "*mut Race",
         "uint32_t" => "u32",
         "planner_loaded" => "Loaded",
         "planner_flipped" => "Flipped",
@@ -290,7 +292,7 @@ fn prototype_in_c(header: &str, name: &str) -> Prototype {
 }
 
 fn prototype_in_rust(source: &str, name: &str) -> Prototype {
-    let function = between(source, &format!("pub fn {name}("), ";");
+    let function = between(source, &format!("fn {name}("), ";");
     let (parameters, answer) = function.split_once(") -> ").unwrap();
     let parameters = parameters
         .split(',')
@@ -306,7 +308,10 @@ fn prototype_in_rust(source: &str, name: &str) -> Prototype {
 #[test]
 fn prototypes() {
     let header = fs::read_to_string(root().join("include/planner.h")).unwrap();
-    let source = include_str!("../src/planner.rs");
+    let source = concat!(
+        include_str!("../src/planner.rs"),
+        include_str!("../src/races.rs")
+    );
     for (name, parameters) in [
         ("planner_load", 6),
         ("planner_open", 8),
@@ -315,9 +320,15 @@ fn prototypes() {
         ("planner_search", 24),
         ("planner_runs", 32),
         ("planner_squeeze", 4),
+        ("planner_races", 52),
     ] {
         let declared = prototype_in_c(&header, name);
         assert_eq!(declared.1.len(), parameters, "{name}");
         assert_eq!(declared, prototype_in_rust(source, name), "{name}");
     }
+    let share = fs::read_to_string(root().join("include/races.h")).unwrap();
+    assert_eq!(
+        prototype_in_c(&share, "planner_share"),
+        prototype_in_rust(source, "planner_share")
+    );
 }
