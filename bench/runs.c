@@ -59,17 +59,22 @@ int main(int count, char **names) {
         planner_xorwow g = from;
         uint64_t found = 0, flips = 0;
         int64_t cost = 0;
-        double searched = 0;
+        double searched = 0, all = 0;
+        planner_figures f = {0};
         for (uint32_t run = 0; run < runs; run++) {
-            list(&g, drawn);
             double begin = now();
+            /* In the middle of the searches, so that a machine that becomes slower or faster does so for both. */
+            if (run == runs / 2) {
+                f = planner_plan_runs(&plan, settings, from, runs, drawn, &scratch, &work);
+                all = now() - begin;
+            }
+            list(&g, drawn);
+            begin = now();
             planner_searched r = planner_plan_search(&plan, settings, numbers, 4 * (size_t)drawn, &state, &work);
             searched += now() - begin;
             found += r.finds > 0, flips += r.flips, cost += r.cost;
         }
-        double begin = now();
-        planner_figures f = planner_plan_runs(&plan, settings, from, runs, drawn, &scratch, &work);
-        double all = now() - begin, one = searched / runs;
+        double one = searched / runs;
         if (f.refusal || f.share_top * runs != found * f.share_bottom || f.flips_top * runs != flips * f.flips_bottom ||
             f.cost_top * (int64_t)found != cost * (int64_t)f.cost_bottom) {
             printf("the figures of %s are not those of its searches\n", names[i]);
