@@ -4,7 +4,7 @@ use fuzz::figures::CASES;
 
 #[test]
 fn a_short_run() {
-    let figures = fuzz::run(2026, |number| number < 108_000);
+    let figures = fuzz::run(2026, |number| number < 250_000);
     let calls: [(&str, &[u32]); 9] = [
         ("load", &[0, 1, 2, 3, 4, 5, 6, 7, 10, 21]),
         ("open", &[0, 21, 22, 24]),
@@ -27,7 +27,7 @@ fn a_short_run() {
         assert!(met > 0, "no search came to {ending}");
     }
     for case in CASES {
-        assert!(figures.noted(case) > 5, "{case}: {}", figures.noted(case));
+        assert!(figures.noted(case) > 20, "{case}: {}", figures.noted(case));
     }
     // Counts know no 26.
     assert_eq!(figures.met("counts", 26), 0);
