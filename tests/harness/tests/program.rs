@@ -297,7 +297,11 @@ fn refusals_of_walk_bin() {
     for length in 3..15 {
         assert_eq!(check_walk(&long[..length]), refusal(1, 0));
     }
-    assert!(!check_walk(&long).starts_with("refused"));
+    // By hand: finds at 01 (cost 2) and 10 (cost 1). For O ≤ 0 from 00 the clause is picked by 5, 900
+    // is no walk, x1 makes 1 and breaks 1, x2 makes 1 and breaks 2: x1 is flipped, the one flip. Then
+    // O ≤ 0 from 11: picked by 0, 5 is below 10 and 100 takes x1. Two flips, nine numbers.
+    assert_eq!(check_walk(&long), "ended 1 2 2 9\n10\n");
+    assert_eq!(check(&EXAMPLE_PLAN, &long, &[]), SHORT_NONE);
     for length in [16, 17, 300] {
         assert_eq!(check_walk(&resized(&long, length)), refusal(7, 15));
     }
