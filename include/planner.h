@@ -54,7 +54,8 @@ extern "C" {
 #define PLANNER_TERMS_SIZE 52096
 #define PLANNER_ASSIGNMENT_SIZE 512
 #define PLANNER_TALLIES_SIZE 6156
-#define PLANNER_MARKS_SIZE 2560
+#define PLANNER_KEPT_SIZE 26656 /* the tallies of a search, and what it keeps behind them */
+#define PLANNER_MARKS_SIZE 60804
 #define PLANNER_LIST_SIZE 2048
 
 /* A festival has at most so many races. Each has a place in the buffers that hold one for each: 24 bytes of settings, an
@@ -385,12 +386,12 @@ typedef struct {
     uint8_t tallies[PLANNER_TALLIES_SIZE];
 } planner_state;
 
-/* What a search works in: five buffers, each below 64 KiB; 118,140 bytes in all. Nothing of it is of use after. */
+/* What a search works in: five buffers, each below 64 KiB; 196,884 bytes in all. Nothing of it is of use after. */
 typedef struct {
     uint8_t tables[PLANNER_TABLES_SIZE];
     uint8_t terms[PLANNER_TERMS_SIZE];
     uint8_t assignment[PLANNER_ASSIGNMENT_SIZE];
-    uint8_t tallies[PLANNER_TALLIES_SIZE];
+    uint8_t tallies[PLANNER_KEPT_SIZE];
     uint8_t marks[PLANNER_MARKS_SIZE];
 } planner_work;
 
@@ -641,14 +642,19 @@ PLANNER_GUARD(offsetof(planner_squeezed, length) == 16 && offsetof(planner_squee
 PLANNER_GUARD(PLANNER_LIST_SIZE == 4 * PLANNER_MOST_VARIABLES && sizeof(planner_list) == PLANNER_LIST_SIZE);
 PLANNER_GUARD(sizeof(planner_plan) == PLANNER_TABLES_SIZE + PLANNER_TERMS_SIZE);
 PLANNER_GUARD(sizeof(planner_state) == PLANNER_ASSIGNMENT_SIZE + PLANNER_TALLIES_SIZE);
-PLANNER_GUARD(sizeof(planner_work) == sizeof(planner_plan) + sizeof(planner_state) + PLANNER_MARKS_SIZE);
+PLANNER_GUARD(sizeof(planner_work) ==
+              sizeof(planner_plan) + PLANNER_ASSIGNMENT_SIZE + PLANNER_KEPT_SIZE + PLANNER_MARKS_SIZE);
 PLANNER_GUARD(PLANNER_LOCKS_PLACE ==
               4 * (4 + PLANNER_MOST_VARIABLES + 2 * (PLANNER_MOST_CLAUSES + 1) + 5 * (PLANNER_MOST_RULES + 1)));
 PLANNER_GUARD(PLANNER_TABLES_SIZE ==
               PLANNER_LOCKS_PLACE + 4 * (3 * PLANNER_MOST_VARIABLES + 1 + PLANNER_MOST_TERMS));
 PLANNER_GUARD(PLANNER_TERMS_SIZE == 8 * (PLANNER_MOST_TERMS + PLANNER_MOST_VARIABLES));
 PLANNER_GUARD(PLANNER_TALLIES_SIZE == 4 * (PLANNER_MOST_RULES + 1 + PLANNER_MOST_CLAUSES + 1 + 1));
-PLANNER_GUARD(PLANNER_TABLES_SIZE <= 65536 && PLANNER_TERMS_SIZE <= 65536 && PLANNER_TALLIES_SIZE <= 65536);
+PLANNER_GUARD(PLANNER_KEPT_SIZE == PLANNER_TALLIES_SIZE + 20 * (PLANNER_MOST_RULES + 1));
+PLANNER_GUARD(PLANNER_MARKS_SIZE == 13 * PLANNER_MOST_VARIABLES + 4 * (PLANNER_MOST_CLAUSES + 1) +
+                                        8 * (PLANNER_MOST_TERMS + PLANNER_MOST_VARIABLES));
+PLANNER_GUARD(PLANNER_TABLES_SIZE <= 65536 && PLANNER_TERMS_SIZE <= 65536 && PLANNER_KEPT_SIZE <= 65536 &&
+              PLANNER_MARKS_SIZE <= 65536);
 
 #undef PLANNER_GUARD
 

@@ -9,9 +9,9 @@
 #include <stdlib.h>
 #include <string.h>
 
-enum { BUFFERS = 5, CUTS = 2 };
+enum { BUFFERS = 6, CUTS = 2 };
 static const size_t sizes[BUFFERS] = {PLANNER_TABLES_SIZE, PLANNER_TERMS_SIZE, PLANNER_ASSIGNMENT_SIZE,
-                                      PLANNER_TALLIES_SIZE, PLANNER_MARKS_SIZE};
+                                      PLANNER_TALLIES_SIZE, PLANNER_KEPT_SIZE, PLANNER_MARKS_SIZE};
 
 /* A block that holds nothing yet; NULL for one of no bytes. */
 static uint8_t *block(size_t size) {
@@ -54,13 +54,13 @@ static void run(uint32_t load, uint32_t call, uint32_t search, const size_t *siz
     expect("load", planner_load(file, length, lent[0], size[0], lent[1], size[1]).refusal, load);
     planner_searched found =
         planner_search(lent[0], size[0], lent[1], size[1], numbers, listed, 500, 10, 1000, 1, 0, 0, lent[2], size[2],
-                       work[0], size[0], work[1], size[1], work[2], size[2], work[3], size[3], work[4], size[4]);
+                       work[0], size[0], work[1], size[1], work[2], size[2], work[4], size[4], work[5], size[5]);
     expect("search", found.refusal, search);
     uint8_t *drawn = block(PLANNER_INPUT_SIZE), *tried = block(size[2]);
     planner_figures figures =
         planner_runs(lent[0], size[0], lent[1], size[1], 1, 2, 3, 4, 5, 6, 2, 9, 500, 10, 1000, 1, 0, 0, drawn,
-                     PLANNER_INPUT_SIZE, tried, size[2], work[0], size[0], work[1], size[1], work[2], size[2], work[3],
-                     size[3], work[4], size[4]);
+                     PLANNER_INPUT_SIZE, tried, size[2], work[0], size[0], work[1], size[1], work[2], size[2], work[4],
+                     size[4], work[5], size[5]);
     expect("runs", figures.refusal, search);
     free(drawn);
     free(tried);
@@ -110,8 +110,8 @@ static void races(uint32_t refusal, size_t count, const size_t *size, const uint
     expect("races",
            planner_races(records, 3 * count, numbers, listed, lent[0], size[0], tables, PLANNER_TABLES_SIZE, terms,
                          PLANNER_TERMS_SIZE, NONE, NONE, NONE, NONE, NONE, NONE, NONE, lent[1], size[1], lent[2],
-                         size[2], work[0], sizes[0], work[1], sizes[1], work[2], sizes[2], work[3], sizes[3], work[4],
-                         sizes[4]),
+                         size[2], work[0], sizes[0], work[1], sizes[1], work[2], sizes[2], work[4], sizes[4], work[5],
+                         sizes[5]),
            refusal);
 #undef NONE
     for (uint32_t i = 0; i < count && !refusal; i++) {
@@ -138,7 +138,7 @@ int main(int count, char **arguments) {
         for (int shortened = 0; shortened < BUFFERS; shortened++) {
             memcpy(size, sizes, sizeof size);
             size[shortened] = cut ? 0 : sizes[shortened] - 1;
-            run(shortened < 2 ? small : 0, shortened < 4 ? small : 0, small, size, file, length, numbers, listed);
+            run(shortened < 2 ? small : 0, shortened < 4 ? small : 0, shortened == 3 ? 0 : small, size, file, length, numbers, listed);
         }
     }
     squeeze(0, file, length, PLANNER_LIST_SIZE);

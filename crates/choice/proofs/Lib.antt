@@ -1,3 +1,3 @@
--- The laws behind the choice, in reading order.
-pub mod Least
+-- The laws behind the marks and the pick among them, in reading order.
+pub mod Marking
 pub mod Choosing

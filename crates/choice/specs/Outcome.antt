@@ -1,36 +1,12 @@
--- What a choice answers, as the walk has it, and what its picks need.
+-- What a pick among marked variables needs, and what marking leaves.
 -- Assumes nothing.
 use Prim.Native.Nat.{ℕ, _/_, _≤_, _<_}
 use mathlib.Core.Path.{_≡_}
 use mathlib.Core.List.{List}
 use lib.ListN.{length, drop}
-use Rattle.plpb.specs.Plan.{Clause, Plan, Assignment}
-use Rattle.plpb.specs.Walk.{Walk, at, Outcome, ends, short, run}
+use Rattle.plpb.specs.Plan.{Clause, Plan}
 use Rattle.plpb.specs.Choice.{choosable}
 use Rattle.numbers.specs.Finding.{marked}
-use Rattle.choice.specs.declared.choose.Chosen.{Chosen}
-use Rattle.choice.specs.declared.choose.Chosen.the-variants as chosen
-
--- The outcome that a Chosen of the code says, with the flips and finds before it.
-unfoldable pub outcomeOf : Chosen → ℕ → List Assignment → Outcome ℕ
-outcomeOf (chosen.At x used) f fs = ends x (at used f fs)
-outcomeOf (chosen.Short used) f fs = short (at used f fs)
-
-unfoldable pub usedBy : Chosen → ℕ
-usedBy (chosen.At x used) = used
-usedBy (chosen.Short used) = used
-
--- A variable that is chosen is one of n.
-unfoldable pub Among : ℕ → Chosen → Type 0
-Among n (chosen.At x used) = (1 ≤ x) × (x ≤ n)
-Among n (chosen.Short used) = Unit {0}
-
--- A walk comes to this answer, whatever flips and finds were made before it.
-pub record Chooses (w : Walk ℕ) (ns : List ℕ) (used n : ℕ) (r : Chosen) : Type 0 where
-  pub outcome : (f : ℕ) (fs : List Assignment) → run w ns (at used f fs) ≡ outcomeOf r f fs
-  pub among : Among n r
-  pub uses : used ≤ usedBy r
-  pub within : usedBy r ≤ length ns
 
 -- What a pick among the m variables of a mark needs.
 pub record PickMarked (numbers : List ℕ) (used : ℕ) (marks : List ℕ) (n value m : ℕ) : Type 0 where

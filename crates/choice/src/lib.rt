@@ -1,3 +1,3 @@
-// The choice of a variable of an unsatisfied clause: whether its flip breaks anything, marks for those to pick from, and the pick.
+// Marks for the variables of a clause that may be chosen, and a pick among them: the choice by Novelty+ ranks what is marked.
 pub mod choose;
 pub mod marks;

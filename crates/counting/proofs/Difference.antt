@@ -2,12 +2,13 @@
 -- Assumes nothing.
 use Prim.Native.Nat.{ℕ, zero, suc, _+_, _-_, _≤_, _<_}
 use native.Mathlib.Nat.{add-zero, add-suc, le-trans}
+use native.Mathlib.Decide.{decLe}
 use native.Mathlib.Omega.{arith}
 use mathlib.Core.Path.{_≡_, sym, _∙_, ap}
 use Rattle.plpb.specs.Count.{cap, capped}
 use Rattle.plpb.specs.Equations.{binom}
-use Rattle.plpb.proofs.Binomial.{binom-vanishes, binom-mono-upper, binom-gain}
-use Rattle.plpb.proofs.Capped.{capped-zero, capped-small, capped-large, capped-exact, capped-passes}
+use Rattle.plpb.proofs.Binomial.{binom-vanishes, binom-full, binom-one, symmetric, binom-mono-upper, binom-mono-lower, binom-gain, past-cap}
+use Rattle.plpb.proofs.Capped.{capped-zero, capped-one, capped-small, capped-large, capped-exact, capped-passes}
 
 nothing : (a b : ℕ) → a ≤ b → 0 ≡ capped (a - b)
 nothing a b h =
@@ -33,6 +34,35 @@ gain-below m (suc w) (suc k) p q =
     let row : m + suc w - 1 ≡ m + w = omega arith in
     let less : suc k - 1 ≡ k = omega arith in
     rw (row, less, add-suc m w) (omega (arith, binom-gain m w k))
+
+-- All are taken: there is one choice, and none without those added.
+pub all-taken : (m w k : ℕ) → 0 < w → m + w ≡ k → 1 ≡ capped (binom (m + w) k - binom m k)
+all-taken m w k p e =
+    let whole : binom (m + w) k ≡ 1 = ap (λ n. binom n k) e ∙ binom-full k in
+    let one : binom (m + w) k - binom m k ≡ 1 = omega (arith, whole, binom-vanishes m k (omega arith)) in
+    sym (ap capped one ∙ capped-one)
+
+-- One is taken: there are as many choices as are added.
+pub one-taken : (m w k : ℕ) → k ≡ 1 → capped w ≡ capped (binom (m + w) k - binom m k)
+one-taken m w k e =
+    let as-many : w ≡ binom (m + w) 1 - binom m 1 = omega (arith, binom-one (m + w), binom-one m) in
+    rw e (ap capped as-many)
+
+-- An entry that is 17 or more from both ends of a row above the triangle is past the cap.
+pub middle-past : (m k : ℕ) → 35 ≤ m → 17 ≤ k → k + 17 ≤ m → cap < binom m k
+middle-past m k h l u = by (decLe k (m - k))
+  where
+    by : Dec (k ≤ m - k) → cap < binom m k
+    by (yes d) = omega (arith, past-cap m h, binom-mono-lower m 17 k l d)
+    by (no d) = omega (arith, past-cap m h, symmetric m k (omega arith), binom-mono-lower m 17 (m - k) (omega arith) (omega arith))
+
+pub middle-cut : (m k : ℕ) → 35 ≤ m → 17 ≤ k → k ≤ m - 17 → suc cap ≡ capped (binom m k)
+middle-cut m k h l u = sym (capped-large (binom m k) (middle-past m k h l (omega arith)))
+
+-- So is the difference where what it is at least is such an entry.
+pub far-apart : (m w k : ℕ) → 19 ≤ k → 0 < w → k ≤ m + w → 17 ≤ m + w - k → cap < binom (m + w) k - binom m k
+far-apart m w k l p u d =
+    le-trans (middle-past (m + w - 1) (k - 1) (omega arith) (omega arith) (omega arith)) (gain-below m w k p (omega arith))
 
 -- Where what it gains is cut, so is the difference ..
 pub gain-cut : (m w k gain : ℕ) → 0 < w → 0 < k → gain ≡ capped (binom (m + w - 1) (k - 1)) → cap < gain → suc cap ≡ capped (binom (m + w) k - binom m k)

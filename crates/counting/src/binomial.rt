@@ -1,7 +1,8 @@
 // Binomials as capped counts: of m over k, and the difference of two with the same lower number.
 ghost use mathlib.Core.Path.{_≡_};
+ghost use mathlib.Core.Bool.{true};
 ghost use Prim.Native.Nat.{_+_, _-_, _≤_, _<_, min};
-ghost use Rattle.plpb.specs.Count.{capped};
+ghost use Rattle.plpb.specs.Count.{cap, capped};
 ghost use Rattle.plpb.specs.Equations.{binom};
 ghost use Rattle.plpb.specs.Factors.{triangleRows, passesAt, factors};
 ghost use Rattle.counting.specs.Count.{number};
@@ -65,7 +66,7 @@ fn by_factors(m: u64, k: u64) -> Report
     lower_half(m, nearer(m, k))
 }
 
-// m over k.
+// m over k. Above the triangle an entry that is 17 or more from both ends of its row is past the cap.
 pub fn binomial(m: u64, k: u64) -> Count
     requires { ⌜ m < 4294967296 ⌝ }
     ensures { λ r. ⌜ number r ≡ capped (binom m k) ⌝ }
@@ -78,6 +79,11 @@ pub fn binomial(m: u64, k: u64) -> Count
             value: tabled(m, k),
             cut: false,
         };
+    }
+    if 17 <= k {
+        if k <= m - 17 {
+            return Count::CUT;
+        }
     }
     by_factors(m, k).count
 }
@@ -129,6 +135,7 @@ fn exact_difference(gain: u64, m: u64, w: u64, k: u64) -> Count
 
 // m + w over k less m over k. Both may be past the cap where their difference is not, so neither is cut first:
 // the difference is at least m + w − 1 over k − 1, and both come exactly from such entries while these are not cut.
+// All taken, or one, needs no division.
 pub fn difference(m: u64, w: u64, k: u64) -> Count
     requires { ⌜ m + w < 4294967296 ⌝ }
     ensures { λ r. ⌜ number r ≡ capped (binom (m + w) k - binom m k) ⌝ }
@@ -142,9 +149,35 @@ pub fn difference(m: u64, w: u64, k: u64) -> Count
     if m + w < k {
         return Count::ZERO;
     }
+    if m + w == k {
+        return Count::ONE;
+    }
+    if k == 1 {
+        return Count::of(w);
+    }
     let gain = binomial(m + w - 1, k - 1);
     if gain.cut {
         return Count::CUT;
     }
     exact_difference(gain.value as u64, m, w, k)
+}
+
+// Whether that difference is past the cap for sure, told without a binomial: what it is at least stands 17 or more from both ends of its row.
+pub fn surely_past(m: u64, w: u64, k: u64) -> bool
+    requires { ⌜ m + w < 4294967296 ⌝ }
+    ensures { λ r. ⌜ (r ≡ true → cap < binom (m + w) k - binom m k) ⌝ }
+{
+    if k < 19 {
+        return false;
+    }
+    if w == 0 {
+        return false;
+    }
+    if m + w < k {
+        return false;
+    }
+    if m + w - k < 17 {
+        return false;
+    }
+    true
 }

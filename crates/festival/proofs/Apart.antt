@@ -11,7 +11,8 @@ use lib.ListN.{length, drop, replicate, length-append, length-drop, length-repli
 use lib.Seq.{drop-at}
 use borrow.Author.Tests.{eqb-true}
 use Rattle.plpb.specs.Lists.{_or_, any}
-use Rattle.format.specs.Layout.{tableSize, termSize, tallySize, markSize}
+use Rattle.format.specs.Layout.{tableSize, termSize}
+use Rattle.columns.specs.Layout.{columnSize, keptSize}
 use Rattle.format.specs.Assignment.{assignmentSize}
 use Rattle.lending.specs.Lent.{Lent, tooSmall, searchRefusal}
 use Rattle.search.specs.Calls.{answer, searchAssignment, cleared, unless}
@@ -50,7 +51,7 @@ cleared-twice : (w : Works) → clear (clear w) ≡ clear w
 unfolding clear
 cleared-twice w =
     same-works (clear-again tableSize (w .tables)) (clear-again termSize (w .terms)) (clear-again assignmentSize (w .assignment))
-    (clear-again tallySize (w .tallies)) (clear-again markSize (w .marks))
+    (clear-again keptSize (w .tallies)) (clear-again columnSize (w .marks))
 
 pub leaves-is : (w : Works) (e : Entry) → leaves w e ≡ cond (accepts w e) (clear w) w
 unfolding leaves cleared accepts clear
@@ -61,16 +62,16 @@ leaves-is w e = by (eqb (searchRefusal (lentTo w e) (e .asked)) 0)
           tables = cond b (replicate tableSize 0 ++ drop tableSize (w .tables)) (w .tables);
           terms = cond b (replicate termSize 0 ++ drop termSize (w .terms)) (w .terms);
           assignment = cond b (replicate assignmentSize 0 ++ drop assignmentSize (w .assignment)) (w .assignment);
-          tallies = cond b (replicate tallySize 0 ++ drop tallySize (w .tallies)) (w .tallies);
-          marks = cond b (replicate markSize 0 ++ drop markSize (w .marks)) (w .marks);
+          tallies = cond b (replicate keptSize 0 ++ drop keptSize (w .tallies)) (w .tallies);
+          marks = cond b (replicate columnSize 0 ++ drop columnSize (w .marks)) (w .marks);
         }
         ≡ cond b
         (record {
           tables = replicate tableSize 0 ++ drop tableSize (w .tables);
           terms = replicate termSize 0 ++ drop termSize (w .terms);
           assignment = replicate assignmentSize 0 ++ drop assignmentSize (w .assignment);
-          tallies = replicate tallySize 0 ++ drop tallySize (w .tallies);
-          marks = replicate markSize 0 ++ drop markSize (w .marks);
+          tallies = replicate keptSize 0 ++ drop keptSize (w .tallies);
+          marks = replicate columnSize 0 ++ drop columnSize (w .marks);
         })
         w
     by true = refl
@@ -87,8 +88,8 @@ same-room w e = subst (λ (v : Works). SameRoom v w) (sym (leaves-is w e)) (by (
           tables = clear-length tableSize (w .tables) (s .work-long);
           terms = clear-length termSize (w .terms) (s .work-long-terms);
           assignment = clear-length assignmentSize (w .assignment) (s .work .assignment);
-          tallies = clear-length tallySize (w .tallies) (s .work .tallies);
-          marks = clear-length markSize (w .marks) (s .work .marks);
+          tallies = clear-length keptSize (w .tallies) (s .work .tallies);
+          marks = clear-length columnSize (w .marks) (s .work .marks);
         }
     by false h = record { tables = refl; terms = refl; assignment = refl; tallies = refl; marks = refl }
 

@@ -9,7 +9,8 @@ use lib.Dec.{eqb}
 use lib.IntN.{pos}
 use lib.ListN.{length, drop, replicate}
 use Rattle.plpb.specs.Lists.{any}
-use Rattle.format.specs.Layout.{tableSize, termSize, tallySize, markSize}
+use Rattle.format.specs.Layout.{tableSize, termSize}
+use Rattle.columns.specs.Layout.{columnSize, keptSize}
 use Rattle.format.specs.Assignment.{assignmentSize}
 use Rattle.settings.specs.declared.Settings.{Settings as Asked}
 use Rattle.answers.specs.declared.Answer.{Answer as Answered}
@@ -70,8 +71,8 @@ leaves w e =
       tables = cleared l k tableSize (w .tables);
       terms = cleared l k termSize (w .terms);
       assignment = cleared l k assignmentSize (w .assignment);
-      tallies = cleared l k tallySize (w .tallies);
-      marks = cleared l k markSize (w .marks);
+      tallies = cleared l k keptSize (w .tallies);
+      marks = cleared l k columnSize (w .marks);
     }
 
 -- Races one after another, each lent the work tables that the one before it left; and the work tables in the end.
@@ -94,8 +95,8 @@ clear w =
       tables = replicate tableSize 0 ++ drop tableSize (w .tables);
       terms = replicate termSize 0 ++ drop termSize (w .terms);
       assignment = replicate assignmentSize 0 ++ drop assignmentSize (w .assignment);
-      tallies = replicate tallySize 0 ++ drop tallySize (w .tallies);
-      marks = replicate markSize 0 ++ drop markSize (w .marks);
+      tallies = replicate keptSize 0 ++ drop keptSize (w .tallies);
+      marks = replicate columnSize 0 ++ drop columnSize (w .marks);
     }
 
 -- Work tables of the same lengths.

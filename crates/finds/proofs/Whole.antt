@@ -205,8 +205,7 @@ module _ {tables terms numbers : List ℕ} {used flips : ℕ} {assignment : List
                   find = long;
                   tried = bytes;
                   tallies = h .work .tallies;
-                  marks = omega (arith, few, h .work .marks);
-                  stamps = h .work .marks;
+                  marks = h .work .marks;
                 },
                 record {
                   bits = kept-areBits;
@@ -412,8 +411,7 @@ module _ {plan planTerms tables terms : List ℕ} {w : Work} (h : Copyable plan 
         record {
           ready = record { laid = laid; bytes = omega (arith, small, h .work .assignment) };
           room = h .work .tallies;
-          marks = record { laid = laid; bytes = omega (arith, small, h .work .marks) };
-          stamps = h .work .marks;
+          columns = h .work .marks;
         }
 
 -- What the first call leaves, and the whole from there.

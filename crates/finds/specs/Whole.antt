@@ -14,12 +14,12 @@ use Rattle.plpb.specs.Search.{Reached, failed, reached, call, gap, tighten, con
 use Rattle.plpb.specs.Walk.{at}
 use Rattle.format.specs.Limits.{lawful}
 use Rattle.format.specs.Tables.{Holds, planOfTables, tableSize, termSize, isLoaded}
-use Rattle.tallies.specs.Layout.{assignmentSize, tallySize, bitsOf, areBits}
+use Rattle.tallies.specs.Layout.{assignmentSize, bitsOf, areBits}
 use Rattle.numbers.specs.Numbers.{numbersOf}
 use Rattle.progress.specs.declared.Ending.{Ending as EndingOf}
 use Rattle.progress.specs.declared.Ending.the-variants as code
 use Rattle.progress.specs.declared.Searched.{Searched}
-use Rattle.format.specs.Layout.{markSize}
+use Rattle.columns.specs.Layout.{columnSize, keptSize}
 use Rattle.format.specs.Assignment.{bitBytes}
 use Rattle.tries.specs.declared.Tried.{Tried}
 use Rattle.tries.specs.declared.Tried.the-variants as tried
@@ -50,8 +50,8 @@ Empty (tried.Short used flips) r = Unfound code.ShortNone used flips r
 -- The walk's buffers have room for any plan.
 pub record Roomy (w : Work) : Type 0 where
   pub assignment : assignmentSize ≤ length (w .assignment)
-  pub tallies : tallySize ≤ length (w .tallies)
-  pub marks : markSize ≤ length (w .marks)
+  pub tallies : keptSize ≤ length (w .tallies)
+  pub marks : columnSize ≤ length (w .marks)
 
 -- Tables of a lawful plan, and the first assignment found for it.
 pub record FirstFind (tables terms numbers : List ℕ) (used flips : ℕ) (assignment : List ℕ) (w : Work) : Type 0 where

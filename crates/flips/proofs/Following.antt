@@ -18,13 +18,14 @@ use Rattle.plpb.proofs.Normal.{P-at-most-K}
 use Rattle.plpb.proofs.Flip.{flip-twice, length-flip}
 use Rattle.words.specs.Words.{wordAt}
 use Rattle.words.proofs.Words.{Below}
-use Rattle.order.specs.Order.{Place, occurrences, runEnd, ruleAt, termAt, isPlace, namesAt, placeWord, wordPlace}
+use Rattle.order.specs.Order.{Place, occurrences, runEnd, ruleAt, termAt, termCount, isPlace, namesAt, placeWord, wordPlace}
 use Rattle.order.specs.Along.{holdsBy, moved, exchanged, passed, along}
 use Rattle.order.proofs.Occurrences.{occurrences-length}
 use Rattle.order.proofs.Runs.{Named, named-of, named-below, first-within, first-next, occurrences-run, occurrences-places}
 use Rattle.order.proofs.Tested.{end-next, ends-ordered, last-end}
 use Rattle.order.proofs.Along.{holds-by-P, flip-along}
 use Rattle.order.proofs.Midway.{Midway, along-next, midway-at}
+use Rattle.order.proofs.Words.{Small}
 use Rattle.format.specs.Layout.{clauseRoom, endAt, entryAt, holdingAt, ruleRoom, tallySize, tallyWordCount, unsatisfiedAt}
 use Rattle.format.specs.Tables.{planOfTables, ruleOf}
 use Rattle.format.proofs.Lawful.{RoomyPlan}
@@ -155,7 +156,7 @@ module _ (p : Plan) (a : Assignment) (x : ℕ) {s : Tallies} {t : List ℕ} (q :
         ∙ sym (getD-set-other (set W (q .rule) (wordAt u (q .rule))) (holdingAt (q .clause)) i (wordAt u (holdingAt (q .clause))) 0 f)
         ∙ sym (getD-set-other (set (set W (q .rule) (wordAt u (q .rule))) (holdingAt (q .clause)) (wordAt u (holdingAt (q .clause)))) unsatisfiedAt i (wordAt u unsatisfiedAt) 0 e)
     told i h (no e) (no f) (no g) =
-        d .others i g f e
+        d .others i h g f e
         ∙ k .words i h
         ∙ sym (getD-set-other W (q .rule) i (wordAt u (q .rule)) 0 g)
         ∙ sym (getD-set-other (set W (q .rule) (wordAt u (q .rule))) (holdingAt (q .clause)) i (wordAt u (holdingAt (q .clause))) 0 f)
@@ -174,12 +175,22 @@ module _ (p : Plan) (a : Assignment) (x : ℕ) {s : Tallies} {t : List ℕ} (q :
 -- ---- the whole run
 
 -- What stands after i places of the run of x, the bits being those after the flip.
-pub record Going (tables terms bits t₀ : List ℕ) (x i : ℕ) (t : List ℕ) : Type 0 where
+pub record Going (tables terms bits : List ℕ) (x i : ℕ) (t : List ℕ) : Type 0 where
   pub tells : Tells (along (planOfTables tables terms) (flip (bitsIn bits) x) (freshCount (planOfTables tables terms) (flip (bitsIn bits) x)) (take i (occurrences (planOfTables tables terms) x))) t
-  pub inside : Inside t₀ t
 
-pub going-at : {tables terms bits t₀ t : List ℕ} {x i j : ℕ} → i ≡ j → Going tables terms bits t₀ x i t → Going tables terms bits t₀ x j t
-going-at {tables} {terms} {bits} {t₀} {t} {x} e g = subst (λ k. Going tables terms bits t₀ x k t) e g
+pub going-at : {tables terms bits t : List ℕ} {x i j : ℕ} → i ≡ j → Going tables terms bits x i t → Going tables terms bits x j t
+going-at {tables} {terms} {bits} {t} {x} e g = subst (λ k. Going tables terms bits x k t) e g
+
+unfoldable pub nowhere : Place
+nowhere = record { clause = 0; rule = 0; term = 0 }
+
+-- What the word w of place i of the run of x says, the bits before the flip being a.
+pub record Visit (p : Plan) (a : Assignment) (x i w : ℕ) : Type 0 where
+  pub place : wordPlace w ≡ getD (occurrences p x) i nowhere
+  pub spelt : w ≡ placeWord p (wordPlace w)
+  pub small : Small (wordPlace w)
+  pub named : Named p x (wordPlace w)
+  pub midway : Midway p a x (along p a (freshCount p a) (take i (occurrences p x))) (wordPlace w)
 
 module _ {tables terms bits t₀ : List ℕ} {x : ℕ} (y : Followable tables terms bits t₀ x) where
   abbrev p : Plan
@@ -204,15 +215,12 @@ module _ {tables terms bits t₀ : List ℕ} {x : ℕ} (y : Followable tables te
   rise : T (numbersRise p)
   rise = rises tables terms laid
 
-  inside-bits : x ≤ length a
+  pub inside-bits : x ≤ length (flip (bitsIn bits) x)
   unfolding bitsIn
   inside-bits = rw (length-flip (bitsIn bits) x ∙ length-map bits (λ b. eqb b 1)) (omega (arith, y .high, y .ready .bytes))
 
-  nowhere : Place
-  nowhere = record { clause = 0; rule = 0; term = 0 }
-
-  room : tallySize ≤ length t₀
-  room = omega (arith, sym (length-take tallySize t₀) ∙ ap length (y .fresh) ∙ length-fresh p (roomy-fits p (laid .room)) a)
+  pub follow-room : tallySize ≤ length t₀
+  follow-room = omega (arith, sym (length-take tallySize t₀) ∙ ap length (y .fresh) ∙ length-fresh p (roomy-fits p (laid .room)) a)
 
   rules-count : length (freshCount p a .trueWeights) ≡ length (rulesOf p)
   unfolding freshCount
@@ -222,7 +230,7 @@ module _ {tables terms bits t₀ : List ℕ} {x : ℕ} (y : Followable tables te
   unfolding freshCount
   clauses-count = length-map (p .clauses) (countOf (ruleHolds a))
 
-  pub going-start : Going tables terms bits t₀ x 0 t₀
+  pub going-start : Going tables terms bits x 0 t₀
   unfolding along
   going-start = record {
     tells = record {
@@ -230,23 +238,28 @@ module _ {tables terms bits t₀ : List ℕ} {x : ℕ} (y : Followable tables te
       clauses = omega (arith, clauses-count, l .clauseCount);
       words = λ i h. unfold tallyWord in fresh-words p (laid .room) a t₀ (y .fresh) i h;
     };
-    inside = record { size = refl; beyond = refl };
   }
 
   -- How long the run is, and where it stands.
+  pub run-start : wordAt tables (endAt (x - 1)) ≡ runEnd (planOfTables tables terms) (x - 1)
+  run-start = arranged .ends (x - 1) (omega (arith, y .high))
+
   pub run-size : wordAt tables (endAt x) ≡ wordAt tables (endAt (x - 1)) + length (occurrences (planOfTables tables terms) x)
-  run-size = arranged .ends x (y .high) ∙ end-next p x (y .low) ∙ ap (λ n. n + length run) (sym (arranged .ends (x - 1) (omega (arith, y .high))))
+  run-size = arranged .ends x (y .high) ∙ end-next p x (y .low) ∙ ap (λ n. n + length run) (sym run-start)
 
   pub run-named : length (occurrences (planOfTables tables terms) x) ≡ rulesNamed (planOfTables tables terms) x
   run-named = occurrences-length p x rise
 
+  pub run-terms : wordAt tables (endAt x) ≤ termCount (planOfTables tables terms)
+  run-terms = omega (arith, arranged .ends x (y .high), ends-ordered p x (p .variables) (y .high), last-end p (numbers-within p l))
+
   pub run-few : wordAt tables (endAt x) ≤ 6_512
-  run-few = omega (arith, arranged .ends x (y .high), ends-ordered p x (p .variables) (y .high), last-end p (numbers-within p l), l .terms)
+  run-few = omega (arith, run-terms, l .terms)
 
   pub places-few : x ≤ 512
   places-few = omega (arith, y .high, l .high)
 
-  module _ {i w : ℕ} {t : List ℕ} (g : Going tables terms bits t₀ x i t) (h : i < length (occurrences (planOfTables tables terms) x)) (e : w ≡ wordAt tables (entryAt (wordAt tables (endAt (x - 1)) + i))) where
+  module _ {i w : ℕ} (h : i < length (occurrences (planOfTables tables terms) x)) (e : w ≡ wordAt tables (entryAt (wordAt tables (endAt (x - 1)) + i))) where
     q : Place
     q = getD run i nowhere
 
@@ -258,25 +271,39 @@ module _ {tables terms bits t₀ : List ℕ} {x : ℕ} (y : Followable tables te
     unfolding q
     named = named-of p x q (all-at (namesAt p x) run i nowhere (occurrences-run p x rise .names) h)
 
-    place-here : wordPlace w ≡ q
+    small : Small q
+    small = place-small p l q there
+
+    word-here : w ≡ placeWord p q
     unfolding q
-    place-here =
-        ap wordPlace
-        (e ∙ ap (λ n. wordAt tables (entryAt (n + i))) (arranged .ends (x - 1) (omega (arith, y .high)))
+    word-here =
+        e ∙ ap (λ n. wordAt tables (entryAt (n + i))) run-start
         ∙ ap (wordAt tables) assoc
         ∙ spells-at (wordAt tables) (entryAt (runEnd p (x - 1))) (map (placeWord p) run) (run-words p l (wordAt tables) arranged x (y .low) (y .high)) (placeWord p nowhere) i (rw (length-map run (placeWord p)) h)
-        ∙ List·getD-map (placeWord p) run i nowhere)
-        ∙ word-back p q (place-small p l q there)
+        ∙ List·getD-map (placeWord p) run i nowhere
       where
         assoc : entryAt (runEnd p (x - 1) + i) ≡ entryAt (runEnd p (x - 1)) + i
         assoc = omega arith
 
-    abbrev s : Tallies
-    s = along p a (freshCount p a) (take i run)
+    place-here : wordPlace w ≡ q
+    place-here = ap wordPlace word-here ∙ word-back p q small
 
-    midway : Midway p a x s q
+    midway : Midway p a x (along p a (freshCount p a) (take i run)) q
     unfolding q
     midway = midway-at p a x rise (y .low) inside-bits run i nowhere (occurrences-run p x rise) h
+
+    pub visit : Visit (planOfTables tables terms) (flip (bitsIn bits) x) x i w
+    unfolding q
+    visit = record {
+      place = place-here;
+      spelt = rw place-here word-here;
+      small = rw place-here small;
+      named = rw place-here named;
+      midway = rw place-here midway;
+    }
+
+    abbrev s : Tallies
+    s = along p a (freshCount p a) (take i run)
 
     hr : q .rule < length (s .trueWeights)
     hr = rw (along-rules p a (freshCount p a) (take i run) ∙ rules-count) (named-below p x q named)
@@ -294,25 +321,40 @@ module _ {tables terms bits t₀ : List ℕ} {x : ℕ} (y : Followable tables te
     unfolding rulesOf
     clause-few = omega (arith, first-next (p .clauses) (q .clause) (named .clause-there), first-within (p .clauses) (suc (q .clause)), l .ruleCount)
 
-    pub pass-ready : Ready tables terms bits × (wordPlace w .rule < wordAt tables 2) × Passable (ruleOf (wordAt tables) (wordAt terms) (wordPlace w .rule)) (wordPlace w .rule) (wordPlace w .clause) t
-    pass-ready =
-        rw (place-here, rule-same)
-        (y .ready, rule-there, midway-passable p a x q (g .tells) midway hr hc (rw (g .inside .size) room) clause-few (l .clauseCount))
+    module _ {t : List ℕ} (g : Going tables terms bits x i t) where
+      -- P of the rule is still that of the bits before.
+      pub place-weight : wordAt t (wordPlace w .rule) ≡ P (flip (bitsIn bits) x) (ruleAt (planOfTables tables terms) (wordPlace w .rule) .terms)
+      place-weight = rw place-here (before p a x q (g .tells) midway hr hc)
 
-    pub pass-step : {u : List ℕ} → Passed (ruleOf (wordAt tables) (wordAt terms) (wordPlace w .rule)) (bitsIn bits) (wordPlace w .rule) (wordPlace w .clause) t u → Going tables terms bits t₀ x (i + 1) u
-    unfolding q
-    pass-step {u} d =
-        let d′ : Passed (ruleAt p (q .rule)) (flip a x) (q .rule) (q .clause) t u = rw (place-here, rule-same, ← flip-twice (bitsIn bits) x) at d in
-        record {
-          tells = rw (add-one i, along-next p a (freshCount p a) run i nowhere h) (tells-passed p a x q (g .tells) midway hr hc d′);
-          inside = record { size = d′ .inside .size ∙ g .inside .size; beyond = d′ .inside .beyond ∙ g .inside .beyond };
-        }
+      pub place-moved :
+          moved (literalTrue (flip (bitsIn bits) x) (literal (termAt (planOfTables tables terms) (wordPlace w)))) (size (termAt (planOfTables tables terms) (wordPlace w))) (wordAt t (wordPlace w .rule))
+          ≡ P (bitsIn bits) (ruleAt (planOfTables tables terms) (wordPlace w .rule) .terms)
+      place-moved =
+          ap (moved (literalTrue a (literal (termAt p (wordPlace w)))) (size (termAt p (wordPlace w)))) (place-weight ∙ sym (visit .midway .before))
+          ∙ visit .midway .after
+          ∙ ap (λ b. P b (ruleAt p (wordPlace w .rule) .terms)) (flip-twice (bitsIn bits) x)
+
+      pub place-passable : tallySize ≤ length t → Passable (ruleAt (planOfTables tables terms) (wordPlace w .rule)) (wordPlace w .rule) (wordPlace w .clause) t
+      place-passable room = rw place-here (midway-passable p a x q (g .tells) midway hr hc room clause-few (l .clauseCount))
+
+      pub pass-ready : tallySize ≤ length t → Ready tables terms bits × (wordPlace w .rule < wordAt tables 2) × Passable (ruleOf (wordAt tables) (wordAt terms) (wordPlace w .rule)) (wordPlace w .rule) (wordPlace w .clause) t
+      pass-ready room =
+          rw (place-here, rule-same)
+          (y .ready, rule-there, midway-passable p a x q (g .tells) midway hr hc room clause-few (l .clauseCount))
+
+      -- Once the place is passed, one more is.
+      pub place-step : {u : List ℕ} → Passed (ruleAt (planOfTables tables terms) (wordPlace w .rule)) (bitsIn bits) (wordPlace w .rule) (wordPlace w .clause) t u → Going tables terms bits x (i + 1) u
+      unfolding q
+      place-step {u} d =
+          let d′ : Passed (ruleAt p (q .rule)) (flip a x) (q .rule) (q .clause) t u = rw (place-here, ← flip-twice (bitsIn bits) x) at d in
+          record { tells = rw (add-one i, along-next p a (freshCount p a) run i nowhere h) (tells-passed p a x q (g .tells) midway hr hc d′) }
+
+      pub pass-step : {u : List ℕ} → Passed (ruleOf (wordAt tables) (wordAt terms) (wordPlace w .rule)) (bitsIn bits) (wordPlace w .rule) (wordPlace w .clause) t u → Going tables terms bits x (i + 1) u
+      pass-step d = place-step (rw (ap (ruleOf (wordAt tables) (wordAt terms)) (ap (λ z. z .rule) place-here) ∙ rule-same ∙ ap (λ z. ruleAt p (z .rule)) (sym place-here)) at d)
 
   -- Behind the last place they are those of the flipped bits.
-  pub going-end : {i : ℕ} {t : List ℕ} → Going tables terms bits t₀ x i t → i ≡ length (occurrences (planOfTables tables terms) x) → Below 256 t → t ≡ withTallies (planOfTables tables terms) (bitsIn bits) t₀
-  going-end {i} {t} g e b =
-      sym (take-append-drop tallySize t)
-      ∙ ap₂ _++_ (words-fresh p (laid .room) (bitsIn bits) t b (rw (g .inside .size) room) words) (g .inside .beyond)
+  pub going-end : {i : ℕ} {t : List ℕ} → Going tables terms bits x i t → i ≡ length (occurrences (planOfTables tables terms) x) → Below 256 t → tallySize ≤ length t → take tallySize t ≡ tallyBytes (freshCount (planOfTables tables terms) (bitsIn bits))
+  going-end {i} {t} g e b room = words-fresh p (laid .room) (bitsIn bits) t b room words
     where
       last : along p a (freshCount p a) (take i run) ≡ freshCount p (bitsIn bits)
       last =
@@ -324,6 +366,9 @@ module _ {tables terms bits t₀ : List ℕ} {x : ℕ} (y : Followable tables te
       words : (j : ℕ) → j < tallyWordCount → wordAt t j ≡ tallyWord p (bitsIn bits) j
       words j h = unfold tallyWord in g .tells .words j h ∙ ap (λ z. getD (tallyWords z) j 0) last
 
+  pub going-whole : {i : ℕ} {t : List ℕ} → Going tables terms bits x i t → Inside t₀ t → i ≡ length (occurrences (planOfTables tables terms) x) → Below 256 t → t ≡ withTallies (planOfTables tables terms) (bitsIn bits) t₀
+  going-whole {i} {t} g n e b = sym (take-append-drop tallySize t) ∙ ap₂ _++_ (going-end g e b (rw (n .size) follow-room)) (n .beyond)
+
 -- ---- a flip
 
 module _ (tables terms assignment tallies : List ℕ) (x : ℕ) (f : Flippable tables terms assignment tallies x) {w : List ℕ} {n : ℕ} (e : w ≡ turned assignment x) (d : n ≡ wordAt tables 0) where
@@ -333,10 +378,13 @@ module _ (tables terms assignment tallies : List ℕ) (x : ℕ) (f : Flippable t
   pub turned-first : n ≡ length (take n w)
   turned-first = first-length tables terms w turned-ready n d
 
+  -- The first bytes are the flipped bits.
+  pub turned-here : bitsIn (take n w) ≡ bitsOf (planOfTables tables terms .variables) (turned assignment x)
+  turned-here = first-bits-of tables terms w turned-ready n d ∙ ap (bitsOf (planOfTables tables terms .variables)) e
+
   flipped-bits : bitsIn (take n w) ≡ flip (bitsOf (planOfTables tables terms .variables) assignment) x
   flipped-bits =
-      first-bits-of tables terms w turned-ready n d
-      ∙ ap (bitsOf (planOfTables tables terms .variables)) e
+      turned-here
       ∙ turned-bits _ assignment x (f .bits) (f .ready .bytes) (f .low) (f .high)
 
   pub turned-long : n ≤ length w

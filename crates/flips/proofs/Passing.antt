@@ -23,7 +23,7 @@ use Rattle.rules.proofs.Tables.{rule-at}
 use Rattle.recount.specs.Core.{Wrote}
 use Rattle.flips.specs.Passing.{Countable, Inside, ClausePassed, Passable, Passed}
 
-inside-more : {s t u : List ℕ} → Inside s t → Inside t u → Inside s u
+pub inside-more : {s t u : List ℕ} → Inside s t → Inside t u → Inside s u
 inside-more a b = record { size = b .size ∙ a .size; beyond = b .beyond ∙ a .beyond }
 
 wrote-inside : {i v : ℕ} {s t : List ℕ} → Wrote i v s t → Inside s t
@@ -75,14 +75,16 @@ still-countable {q} {r} {c} {v} {held} {s} {t} k l e w = record {
     total : wordAt t unsatisfiedAt ≡ wordAt s unsatisfiedAt
     total = w .others unsatisfiedAt (λ z. omega arith)
 
-pub rule-passed : {b : Assignment} {q : Rule} {r c : ℕ} {held holds : Bool} {z : State} {s a t : List ℕ} → StateOf b 0 q z → Passable q r c s → r < ruleRoom → held ≡ holdsBy q (wordAt s r) → holds ≡ holdsIn z → Wrote r (z .p) s a → ClausePassed c held holds a t → Passed q b r c s t
-rule-passed {b} {q} {r} {c} {held} {holds} {z} {s} {a} {t} k n l e f w d = record {
-  weight = d .others r (λ m. omega arith) (λ m. omega (arith, n .countable .clause)) ∙ w .here ∙ k .trues;
-  holding = d .holding ∙ ap₂ (λ x y. exchanged x y (wordAt a (holdingAt c))) e (f ∙ holds-rule k) ∙ ap (exchanged (holdsBy q (wordAt s r)) (ruleHolds b q)) count;
-  total = d .total ∙ ap₂ (λ x y. exchanged (eqb x 0) (eqb (wordAt t (holdingAt c)) 0) y) count total;
-  others = λ i m o u. d .others i o u ∙ w .others i m;
-  inside = inside-more (wrote-inside w) (d .inside);
-}
+pub rule-passed : {b : Assignment} {q : Rule} {r c : ℕ} {held holds : Bool} {z : State} {s a t : List ℕ} → StateOf b 0 q z → Passable q r c s → r < ruleRoom → held ≡ holdsBy q (wordAt s r) → holds ≡ holdsIn z → Wrote r (z .p) s a → ClausePassed c held holds a t → Passed q b r c s t × Inside s t
+rule-passed {b} {q} {r} {c} {held} {holds} {z} {s} {a} {t} k n l e f w d = (
+  record {
+    weight = d .others r (λ m. omega arith) (λ m. omega (arith, n .countable .clause)) ∙ w .here ∙ k .trues;
+    holding = d .holding ∙ ap₂ (λ x y. exchanged x y (wordAt a (holdingAt c))) e (f ∙ holds-rule k) ∙ ap (exchanged (holdsBy q (wordAt s r)) (ruleHolds b q)) count;
+    total = d .total ∙ ap₂ (λ x y. exchanged (eqb x 0) (eqb (wordAt t (holdingAt c)) 0) y) count total;
+    others = λ i j m o u. d .others i o u ∙ w .others i m;
+  },
+  inside-more (wrote-inside w) (d .inside),
+)
   where
     count : wordAt a (holdingAt c) ≡ wordAt s (holdingAt c)
     count = w .others (holdingAt c) (λ m. omega arith)
@@ -114,5 +116,5 @@ module _ (tables terms : List ℕ) {b : Assignment} {z : State} {r k : ℕ} (e :
         pub clause-ready : {j : ℕ} → j ≡ c → Countable j held u
         clause-ready q = rw q (still-countable n (rw e at few) held-here there)
 
-        pub place-passed : {j : ℕ} {holds : Bool} {v : List ℕ} → j ≡ c → holds ≡ holdsIn z → ClausePassed j held holds u v → Passed (ruleOf (wordAt tables) (wordAt terms) k) b k c t v
+        pub place-passed : {j : ℕ} {holds : Bool} {v : List ℕ} → j ≡ c → holds ≡ holdsIn z → ClausePassed j held holds u v → Passed (ruleOf (wordAt tables) (wordAt terms) k) b k c t v × Inside t v
         place-passed q f a = rule-passed state-read n (rw e at few) held-here f there (rw q at a)

@@ -12,7 +12,7 @@ use Rattle.plpb.specs.Normal.{K, P}
 use Rattle.plpb.specs.Tallies.{freshCount}
 use Rattle.words.specs.Words.{wordAt}
 use Rattle.order.specs.Along.{holdsBy, exchanged}
-use Rattle.format.specs.Layout.{clauseRoom, holdingAt, ruleRoom, tallySize, unsatisfiedAt}
+use Rattle.format.specs.Layout.{clauseRoom, holdingAt, ruleRoom, tallySize, tallyWordCount, unsatisfiedAt}
 use Rattle.format.specs.Tables.{planOfTables}
 use Rattle.rules.specs.Terms.{bitsIn}
 use Rattle.tallies.specs.Layout.{tallyBytes}
@@ -48,8 +48,7 @@ pub record Passed (q : Rule) (b : Assignment) (r c : ℕ) (s t : List ℕ) : Typ
   pub weight : wordAt t r ≡ P b (q .terms)
   pub holding : wordAt t (holdingAt c) ≡ exchanged (holdsBy q (wordAt s r)) (ruleHolds b q) (wordAt s (holdingAt c))
   pub total : wordAt t unsatisfiedAt ≡ exchanged (eqb (wordAt s (holdingAt c)) 0) (eqb (wordAt t (holdingAt c)) 0) (wordAt s unsatisfiedAt)
-  pub others : (i : ℕ) → i ≢ r → i ≢ holdingAt c → i ≢ unsatisfiedAt → wordAt t i ≡ wordAt s i
-  pub inside : Inside s t
+  pub others : (i : ℕ) → i < tallyWordCount → i ≢ r → i ≢ holdingAt c → i ≢ unsatisfiedAt → wordAt t i ≡ wordAt s i
 
 -- What the tallies' following of x needs: the bits are those after its flip, and the tallies those before it.
 pub record Followable (tables terms bits tallies : List ℕ) (x : ℕ) : Type 0 where

@@ -17,7 +17,7 @@ ghost use Rattle.rules.specs.State.{Balanced};
 ghost use Rattle.tallies.specs.Layout.{withTallies};
 ghost use Rattle.tallies.specs.Calls.{turned};
 ghost use Rattle.recount.specs.Core.{Ready, Flippable, recounted};
-ghost use Rattle.flips.specs.Passing.{Countable, ClausePassed, Passable, Passed, Followable};
+ghost use Rattle.flips.specs.Passing.{Countable, ClausePassed, Passable, Passed, Inside, Followable};
 use format::ENDS;
 use format::HOLDING;
 use format::ORDER;
@@ -40,7 +40,7 @@ fn opposite(b: u8) -> u8
 }
 
 // Turns a variable's byte over.
-fn turn(assignment: &mut [u8], x: u32)
+pub fn turn(assignment: &mut [u8], x: u32)
     requires { ⌜ (0 < x) × (x ≤ length (now assignment)) ⌝ }
     ensures { λ _. ⌜ now (assignment .exit) ≡ turned (now (assignment .entry)) x ⌝ }
 {
@@ -75,7 +75,7 @@ fn held_with(s: State, p: u32) -> bool
 }
 
 // How many rules of a clause hold, and how many clauses hold none, once one rule of it does not hold any more, or does again.
-fn pass_clause(tallies: &mut [u8], c: usize, held: bool, holds: bool)
+pub fn pass_clause(tallies: &mut [u8], c: usize, held: bool, holds: bool)
     requires { ⌜ Countable c held (now tallies) ⌝ }
     ensures { λ _. ⌜ ClausePassed c held holds (now (tallies .entry)) (now (tallies .exit)) ⌝ }
 {
@@ -95,7 +95,8 @@ fn pass(tables: &[u8], terms: &[u8], bits: &[u8], tallies: &mut [u8], w: u32)
     requires { ⌜ Ready (now tables) (now terms) (now bits) × (wordPlace w .rule < wordAt (now tables) 2)
         × Passable (ruleOf (wordAt (now tables)) (wordAt (now terms)) (wordPlace w .rule)) (wordPlace w .rule) (wordPlace w .clause) (now tallies) ⌝ }
     ensures { λ _. ⌜ Passed (ruleOf (wordAt (now (tables .entry))) (wordAt (now (terms .entry))) (wordPlace w .rule)) (bitsIn (now (bits .entry)))
-        (wordPlace w .rule) (wordPlace w .clause) (now (tallies .entry)) (now (tallies .exit)) ⌝ }
+        (wordPlace w .rule) (wordPlace w .clause) (now (tallies .entry)) (now (tallies .exit))
+        × Inside (now (tallies .entry)) (now (tallies .exit)) ⌝ }
 {
     let r = rule_in(w);
     let s = read_state(tables, terms, bits, RULES + 5 * r);

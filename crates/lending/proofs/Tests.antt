@@ -14,7 +14,8 @@ use Rattle.settings.specs.declared.Settings.{Settings as Asked}
 use Rattle.settings.specs.Settings.{settingsRefusal}
 use Rattle.lending.specs.Lent.{Lent, tablesSmall, workSmall, tooSmall, searchRefusal}
 use Rattle.lending.specs.Work.{Work}
-use Rattle.format.specs.Layout.{markSize, tableSize, tallySize, termSize}
+use Rattle.format.specs.Layout.{tableSize, termSize}
+use Rattle.columns.specs.Layout.{columnSize, keptSize}
 
 -- ---- room
 
@@ -36,13 +37,13 @@ module _ (tables terms : List ℕ) (w : Work) {r : Bool} (e : r ≡ tablesSmall 
   unfolding workSmall _or_
   small-first t = rw (sym e ∙ t)
 
-  pub small-tallies : r ≡ false → length (w .tallies) < tallySize → true ≡ workSmall tables terms w
+  pub small-tallies : r ≡ false → length (w .tallies) < keptSize → true ≡ workSmall tables terms w
   unfolding workSmall _or_
-  small-tallies t h = rw (sym e ∙ t, lt-ltb (length (w .tallies)) tallySize h)
+  small-tallies t h = rw (sym e ∙ t, lt-ltb (length (w .tallies)) keptSize h)
 
-  pub small-marks : r ≡ false → tallySize ≤ length (w .tallies) → ltb (length (w .marks)) markSize ≡ workSmall tables terms w
+  pub small-marks : r ≡ false → keptSize ≤ length (w .tallies) → ltb (length (w .marks)) columnSize ≡ workSmall tables terms w
   unfolding workSmall _or_
-  small-marks t h = rw (sym e ∙ t, le-ltb (length (w .tallies)) tallySize h)
+  small-marks t h = rw (sym e ∙ t, le-ltb (length (w .tallies)) keptSize h)
 
 -- ---- the tests one after another
 

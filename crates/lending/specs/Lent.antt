@@ -8,7 +8,7 @@ use lib.ListN.{length}
 use Rattle.plpb.specs.Lists.{_or_}
 use Rattle.format.specs.File.{refuse}
 use Rattle.format.specs.Tables.{tableSize, termSize, isLoaded}
-use Rattle.format.specs.Layout.{markSize, tallySize}
+use Rattle.columns.specs.Layout.{columnSize, keptSize}
 use Rattle.format.specs.Assignment.{assignmentSize}
 use Rattle.lending.specs.Work.{Work}
 use Rattle.settings.specs.declared.Settings.{Settings as Asked}
@@ -45,7 +45,7 @@ unfoldable pub tooSmall : Lent → Bool
 tooSmall l =
     ltb (length (l .tables)) tableSize or ltb (length (l .terms)) termSize or ltb (length (l .assignment)) assignmentSize
     or ltb (length (l .workTables)) tableSize or ltb (length (l .workTerms)) termSize or ltb (length (l .workAssignment)) assignmentSize
-    or ltb (length (l .workTallies)) tallySize or ltb (length (l .workMarks)) markSize
+    or ltb (length (l .workTallies)) keptSize or ltb (length (l .workMarks)) columnSize
 
 -- Whether three tables have less room than the full limits need, and whether the work tables do.
 unfoldable pub tablesSmall : List ℕ → List ℕ → List ℕ → Bool
@@ -54,7 +54,7 @@ tablesSmall tables terms assignment =
 
 unfoldable pub workSmall : List ℕ → List ℕ → Work → Bool
 workSmall tables terms w =
-    tablesSmall tables terms (w .assignment) or ltb (length (w .tallies)) tallySize or ltb (length (w .marks)) markSize
+    tablesSmall tables terms (w .assignment) or ltb (length (w .tallies)) keptSize or ltb (length (w .marks)) columnSize
 
 -- "Search: 21, 22, 11, 12, 13, 14."
 unfoldable pub searchRefusal : Lent → Asked → ℕ

@@ -4,7 +4,7 @@ use Prim.Native.Nat.{ℕ}
 use mathlib.Core.Path.{_≡_}
 use mathlib.Core.List.{List}
 use lib.ListN.{drop}
-use Rattle.format.specs.Layout.{markSize, tallySize}
+use Rattle.columns.specs.Layout.{columnSize, keptSize}
 
 -- What the walk writes: an assignment, its tallies, and the choice's marks with the numbers of the last flips.
 pub record Work : Type 0 where
@@ -18,5 +18,5 @@ work assignment tallies marks = record { assignment = assignment; tallies = tall
 -- Nothing past the bytes that the walk uses has changed.
 pub record Beyond (n : ℕ) (w v : Work) : Type 0 where
   pub assignment : drop n (v .assignment) ≡ drop n (w .assignment)
-  pub tallies : drop tallySize (v .tallies) ≡ drop tallySize (w .tallies)
-  pub marks : drop markSize (v .marks) ≡ drop markSize (w .marks)
+  pub tallies : drop keptSize (v .tallies) ≡ drop keptSize (w .tallies)
+  pub marks : drop columnSize (v .marks) ≡ drop columnSize (w .marks)

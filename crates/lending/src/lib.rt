@@ -3,7 +3,8 @@ ghost use mathlib.Core.Path.{_≡_};
 ghost use mathlib.Core.List.{_++_};
 ghost use Prim.Native.Nat.{_≤_};
 ghost use lib.ListN.{length, drop, replicate};
-ghost use Rattle.format.specs.Layout.{markSize, tableSize, tallySize, termSize};
+ghost use Rattle.format.specs.Layout.{tableSize, termSize};
+ghost use Rattle.columns.specs.Layout.{columnSize, keptSize};
 ghost use Rattle.format.specs.Assignment.{assignmentSize};
 ghost use Rattle.lending.specs.Lent.{searchRefusal, lentAll, tablesSmall, workSmall};
 ghost use Rattle.lending.specs.Work.{work};
@@ -32,10 +33,10 @@ fn work_small(tables: &[u8], terms: &[u8], assignment: &[u8], tallies: &[u8], ma
     if tables_small(tables, terms, assignment) {
         return true;
     }
-    if tallies.len() < format::TALLIES {
+    if tallies.len() < columns::KEPT {
         return true;
     }
-    marks.len() < format::MARKS
+    marks.len() < columns::COLUMNS
 }
 
 pub fn search_refusal(
@@ -90,16 +91,16 @@ pub fn clear_work(
     marks: &mut [u8],
 )
     requires { ⌜ (tableSize ≤ length (now tables)) × (termSize ≤ length (now terms)) × (assignmentSize ≤ length (now tried))
-        × (tallySize ≤ length (now tallies)) × (markSize ≤ length (now marks)) ⌝ }
+        × (keptSize ≤ length (now tallies)) × (columnSize ≤ length (now marks)) ⌝ }
     ensures { λ _. ⌜ now (tables .exit) ≡ replicate tableSize 0 ++ drop tableSize (now (tables .entry)) ⌝ }
     ensures { λ _. ⌜ now (terms .exit) ≡ replicate termSize 0 ++ drop termSize (now (terms .entry)) ⌝ }
     ensures { λ _. ⌜ now (tried .exit) ≡ replicate assignmentSize 0 ++ drop assignmentSize (now (tried .entry)) ⌝ }
-    ensures { λ _. ⌜ now (tallies .exit) ≡ replicate tallySize 0 ++ drop tallySize (now (tallies .entry)) ⌝ }
-    ensures { λ _. ⌜ now (marks .exit) ≡ replicate markSize 0 ++ drop markSize (now (marks .entry)) ⌝ }
+    ensures { λ _. ⌜ now (tallies .exit) ≡ replicate keptSize 0 ++ drop keptSize (now (tallies .entry)) ⌝ }
+    ensures { λ _. ⌜ now (marks .exit) ≡ replicate columnSize 0 ++ drop columnSize (now (marks .entry)) ⌝ }
 {
     clear_first(tables, format::TABLES);
     clear_first(terms, format::TERMS);
     clear_first(tried, format::ASSIGNMENT);
-    clear_first(tallies, format::TALLIES);
-    clear_first(marks, format::MARKS);
+    clear_first(tallies, columns::KEPT);
+    clear_first(marks, columns::COLUMNS);
 }

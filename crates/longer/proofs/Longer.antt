@@ -16,7 +16,8 @@ use Rattle.format.proofs.Lists.{row-split}
 use Rattle.finds.specs.Whole.{withFind}
 use lib.IntN.{pos}
 use Rattle.format.specs.Tables.{planOfTables}
-use Rattle.format.specs.Layout.{tableSize, termSize, tallySize, markSize}
+use Rattle.format.specs.Layout.{tableSize, termSize}
+use Rattle.columns.specs.Layout.{columnSize, keptSize}
 use Rattle.format.specs.Assignment.{assignmentSize}
 use Rattle.numbers.specs.Numbers.{numbersOf}
 use Rattle.settings.specs.declared.Settings.{Settings as Asked}
@@ -125,8 +126,8 @@ module _ (l : Lent) (more : List ℕ) (k : Asked) (r r′ : Answered) (left left
         workTables = q′ .workTables ∙ cleared-alike l more k tableSize (l .workTables) ∙ sym (q .workTables);
         workTerms = q′ .workTerms ∙ cleared-alike l more k termSize (l .workTerms) ∙ sym (q .workTerms);
         workAssignment = q′ .workAssignment ∙ cleared-alike l more k assignmentSize (l .workAssignment) ∙ sym (q .workAssignment);
-        workTallies = q′ .workTallies ∙ cleared-alike l more k tallySize (l .workTallies) ∙ sym (q .workTallies);
-        workMarks = q′ .workMarks ∙ cleared-alike l more k markSize (l .workMarks) ∙ sym (q .workMarks);
+        workTallies = q′ .workTallies ∙ cleared-alike l more k keptSize (l .workTallies) ∙ sym (q .workTallies);
+        workMarks = q′ .workMarks ∙ cleared-alike l more k columnSize (l .workMarks) ∙ sym (q .workMarks);
       }
 
   never-hurts : NeverHurts r r′ left left′

@@ -1,14 +1,14 @@
 -- Laws of a move: the tallies say which clause a pick takes, what a flip needs and what it leaves.
 -- Assumes nothing.
-use Prim.Native.Nat.{ℕ, _+_, _-_, _/_, _≤_, _<_}
+use Prim.Native.Nat.{ℕ, zero, suc, _+_, _/_, _≤_, _<_}
 use native.Mathlib.Omega.{arith}
 use mathlib.Core.Path.{_≡_, refl, sym, ap, _∙_, subst}
 use mathlib.Core.Bool.{true, false}
 use mathlib.Core.List.{List, [], _∷_}
 use lib.ListN.{length, getD, drop}
-use lib.Seq.{drop-drop}
+use lib.Dec.{T, ltb, lt→ltb}
 use borrow.Author.Tests.{eq-eqb, ne-eqb}
-use Rattle.plpb.specs.Lists.{count, keep, isEmpty}
+use Rattle.plpb.specs.Lists.{_and_, all, count, keep, isEmpty, row}
 use Rattle.plpb.specs.Plan.{Clause, Plan, Assignment, flip, isVariable, ruleHolds}
 use Rattle.plpb.specs.Tallies.{unsatisfied}
 use Rattle.plpb.specs.Numbers.{takePick}
@@ -22,18 +22,16 @@ use Rattle.words.specs.Words.{wordAt}
 use Rattle.format.specs.Tables.{planOfTables}
 use Rattle.tallies.specs.Layout.{tallySize, bitsOf}
 use Rattle.tallies.specs.Calls.{turned}
-use Rattle.recount.specs.Core.{Flippable, recounted}
 use Rattle.tallies.proofs.Bits.{length-turned, turned-bits, turned-areBits, turned-beyond}
-use Rattle.tallies.proofs.TallyBytes.{roomy-fits, length-fresh, take-fresh, drop-fresh}
+use Rattle.tallies.proofs.TallyBytes.{roomy-fits, length-fresh}
 use Rattle.tallies.proofs.Tallied.{fresh-words, clause-word, total-word}
 use Rattle.recount.proofs.Laid.{parts, clauses-word, clauses-few}
-use Rattle.plpb.proofs.Lists.{count-le, is-true}
+use Rattle.plpb.proofs.Lists.{all-still, and-both, count-le, is-true}
 use Rattle.plpb.proofs.Locks.{variable-range}
 use Rattle.plpb.proofs.Novelty.{Agree, agree-all, choices-agree}
 use Rattle.words.specs.Writes.{Wrote}
 use Rattle.stamps.specs.Stamps.{stampIn, Stamped}
-use Rattle.stamps.proofs.Stamping.{stamped-more, stamped-kept}
-use Rattle.novelty.proofs.Choosing.{marked-within}
+use Rattle.stamps.proofs.Stamping.{stamped-more}
 use Rattle.costs.proofs.Costs.{room-of}
 use Rattle.numbers.specs.declared.Picked.{Picked}
 use Rattle.numbers.specs.declared.Picked.the-variants as picked
@@ -43,21 +41,29 @@ use Rattle.numbers.specs.Finding.{zeroWords}
 use Rattle.numbers.proofs.Taking.{length-numbersOf, picked-at, picked-short, place-below, pick-uses, pick-gone}
 use Rattle.numbers.proofs.Finding.{clause-found, clause-within}
 use Rattle.numbers.proofs.Runs.{bind-ends, bind-short, pickFrom-taken, pickFrom-short, empty-by-length, turning-stuck, turning-made, turning-short}
-use Rattle.choice.specs.declared.choose.Chosen.{Chosen}
-use Rattle.choice.specs.declared.choose.Chosen.the-variants as chosen
-use Rattle.choice.specs.Outcome.{outcomeOf, usedBy, Among, Chooses, MarksChoosable, ToChoose}
-use Rattle.numbers.specs.Finding.{marked}
+use Rattle.picking.specs.declared.Chosen.{Chosen}
+use Rattle.picking.specs.declared.Chosen.the-variants as chosen
+use Rattle.picking.specs.Outcome.{outcomeOf, usedBy, Among, Chooses}
+use Rattle.columns.specs.Layout.{columnSize, keptSize, listCountAt}
+use Rattle.columns.proofs.Marks.{Behind, behind-more, wrote-behind, weighed-behind, listed-behind}
+use Rattle.keeping.specs.Flip.{Keepable, Kept}
+use Rattle.skc.specs.Choosing.{ToChoose}
+use Rattle.choosing.specs.Spared.{Spared}
 use Rattle.moves.specs.declared.Moved.{Moved}
 use Rattle.moves.specs.declared.Moved.the-variants as moved
 use Rattle.lending.specs.Work.{Work}
-use Rattle.moves.specs.Moves.{bitsIn, tryIn, Walking, movedOf, usedIn, IfMade, InClause, Moves}
-use Rattle.format.specs.Layout.{clauseRoom, holdingAt, ruleRoom, unsatisfiedAt, markSize, stampAt}
+use Rattle.moves.specs.Moves.{bitsIn, tryIn, Prepared, Walking, movedOf, usedIn, IfMade, InClause, Moves}
+use Rattle.format.specs.Layout.{clauseRoom, holdingAt, ruleRoom, unsatisfiedAt, stampAt}
 
--- What is the same behind a place is the same behind a later one.
-pub drop-more : {n m : ℕ} (s t : List ℕ) → n ≤ m → drop n s ≡ drop n t → drop m s ≡ drop m t
-drop-more {n} {m} s t h e =
-    let k : n + (m - n) ≡ m = omega arith in
-    ap (λ i. drop i s) (sym k) ∙ sym (drop-drop (m - n) n s) ∙ ap (drop (m - n)) e ∙ drop-drop (m - n) n t ∙ ap (λ i. drop i t) k
+-- The variables that may be chosen are the plan's.
+rows-within : (p : Plan) (i k : ℕ) → 1 ≤ i → i + k ≤ suc (p .variables) → T (all (isVariable p) (row i k))
+unfolding row all isVariable
+rows-within p i zero l h = tt
+rows-within p i (suc k) l h = and-both _ _ (and-both (ltb 0 i) (ltb i (suc (p .variables))) (lt→ltb 0 i l) (lt→ltb i (suc (p .variables)) (omega arith))) (rows-within p (suc i) k (omega arith) (omega arith))
+
+choosable-variables : (p : Plan) (c : Clause) → T (all (isVariable p) (choosable p c))
+unfolding choosable
+choosable-variables p c = all-still _ (isVariable p) (row 1 (p .variables)) (rows-within p 1 (p .variables) (omega arith) (omega arith))
 
 -- ---- a variable of the clause is chosen and flipped
 
@@ -85,125 +91,122 @@ module _ {walk : Walk ℕ} {ns : List ℕ} {used n : ℕ} {r : Chosen} (h : Choo
     gone-short f fs = h .outcome f fs ∙ ap (λ q. outcomeOf q f fs) e
 
 module _ {tables terms : List ℕ} {w : Work} (k : Walking tables terms w) where
-  pub flippable : {x : ℕ} → (1 ≤ x) × (x ≤ planOfTables tables terms .variables) → Flippable tables terms (w .assignment) (w .tallies) x
-  flippable b = record { ready = k .ready; bits = k .bits; low = b .0; high = b .1; fresh = k .fresh }
+  pub keepable : {x : ℕ} {marks : List ℕ} → (1 ≤ x) × (x ≤ planOfTables tables terms .variables) → Spared (w .marks) marks → Keepable tables terms marks (w .assignment) (w .tallies) x
+  keepable b o = record {
+    flip = record { ready = k .ready; bits = k .bits; low = b .0; high = b .1; fresh = k .fresh };
+    sized = k .prepared .sized;
+    needed = k .needed;
+    weighed = weighed-behind (record { size = o .size; same = o .behind }) (k .prepared .weighed);
+  }
 
-  -- The walk goes on after a flip.
-  pub flipped-walking : {x : ℕ} {v : Work} → (1 ≤ x) × (x ≤ planOfTables tables terms .variables)
-      → v .assignment ≡ turned (w .assignment) x
-      → v .tallies ≡ recounted tables terms (turned (w .assignment) x) (w .tallies)
-      → length (v .marks) ≡ length (w .marks)
-      → Walking tables terms v
-  flipped-walking {x} {v} b a y l =
-      let p = planOfTables tables terms in
-      let fits = roomy-fits p (k .ready .laid .room) in
-      record {
-        ready = record { laid = k .ready .laid; bytes = omega (arith, k .ready .bytes, ap length a, length-turned (w .assignment) x) };
-        bits = rw a (turned-areBits (p .variables) (w .assignment) x (k .bits) (k .ready .bytes) (b .0) (b .1));
-        fresh = rw (y, a) (take-fresh p fits _ _);
-        marks = record { laid = k .marks .laid; bytes = omega (arith, k .marks .bytes) };
-        stamps = omega (arith, k .stamps);
-      }
+  -- How many variables of the clause may be chosen.
+  pub some-listed : {c some : ℕ} → c < wordAt tables 1 → some ≡ wordAt (w .marks) (listCountAt c) → some ≡ length (choosable (planOfTables tables terms) (getD (planOfTables tables terms .clauses) c []))
+  some-listed {c} h e = e ∙ k .prepared .listed .each c (rw (← clauses-word tables terms (k .ready .laid)) h) .counted
 
-module _ {tables terms : List ℕ} (numbers : List ℕ) (used c : ℕ) {w : Work} (k : Walking tables terms w) {marks : List ℕ} {some : ℕ}
-    (m : MarksChoosable (planOfTables tables terms) (getD (planOfTables tables terms .clauses) c []) (w .marks) marks some) where
+  -- There is one.
+  pub to-choose : {numbers : List ℕ} {c some used : ℕ} → c < wordAt tables 1 → some ≡ wordAt (w .marks) (listCountAt c) → (some ≡ 0 → ⊥) → used ≤ length numbers / 4 → ToChoose tables terms (w .assignment) (w .tallies) (w .marks) c numbers used
+  to-choose {c = c} h e n l = record {
+    pickable = record {
+      kept = record { ready = k .ready; bits = k .bits; fresh = k .fresh; sized = k .prepared .sized; needed = k .needed; weighed = k .prepared .weighed };
+      listed = k .prepared .listed;
+      there = rw (← clauses-word tables terms (k .ready .laid)) h;
+    };
+    some = omega (arith, some-listed h e, n);
+    listed = l;
+  }
+
+module _ {tables terms : List ℕ} (numbers : List ℕ) (used c : ℕ) {w : Work} (k : Walking tables terms w) {some : ℕ}
+    (m : some ≡ length (choosable (planOfTables tables terms) (getD (planOfTables tables terms .clauses) c []))) where
   abbrev q : Plan
   q = planOfTables tables terms
 
   abbrev among : List ℕ
   among = choosable q (getD (q .clauses) c [])
 
-  -- There is a variable to choose.
-  pub to-choose : used ≤ length numbers / 4 → length marks ≡ length (w .marks) → (some ≡ 0 → ⊥) → ToChoose numbers used (planOfTables tables terms .variables) marks
-  to-choose l z n =
-      record {
-        few = parts tables terms (k .ready .laid) .high;
-        bytes = omega (arith, k .marks .bytes);
-        some = rw (m .marks) (omega (arith, m .counted, n));
-        listed = l;
-      }
-
-  -- The marks lie before what is to stay.
-  marks-beyond : (u : List ℕ) → drop (q .variables) u ≡ drop (q .variables) marks → drop markSize u ≡ drop markSize (w .marks)
-  marks-beyond u g = drop-more {n = q .variables} {m = markSize} u (w .marks) (omega (arith, parts tables terms (k .ready .laid) .high)) (g ∙ m .beyond)
-
   -- There is none.
-  pub stuck-in : (s : Settings) {turn : ℕ} {v : Work} → used ≤ length numbers / 4 → some ≡ 0
-      → v .assignment ≡ w .assignment → v .tallies ≡ w .tallies
-      → drop (planOfTables tables terms .variables) (v .marks) ≡ drop (planOfTables tables terms .variables) marks
-      → InClause s tables terms numbers used turn c (moved.Stuck used) w v
+  pub stuck-in : (s : Settings) {turn : ℕ} → used ≤ length numbers / 4 → some ≡ 0 → InClause s tables terms numbers used turn c (moved.Stuck used) w w
   unfolding movedOf usedIn IfMade
-  stuck-in s l n a y g =
+  stuck-in s l n =
       record {
         reaches = λ h t e. record {
           next = h;
           outcome = λ f fs. turning-stuck s q (tryIn tables terms h w) among (numbersOf numbers) (at used f fs)
-              (empty-by-length among ∙ eq-eqb (length among) 0 (omega (arith, m .counted)));
+              (empty-by-length among ∙ eq-eqb (length among) 0 (omega (arith, m)));
           stamped = tt;
         };
         walking = tt;
+        prepared = k .prepared;
         uses = omega arith;
         within = l;
-        beyond = record { assignment = ap (drop (q .variables)) a; tallies = ap (drop tallySize) y; marks = marks-beyond _ g };
+        beyond = record { assignment = refl; tallies = refl; marks = refl };
       }
 
   module _ (s : Settings) (n : some ≡ 0 → ⊥) {r : Chosen}
-      (h : Chooses (choiceBy (s .heuristic) s (planOfTables tables terms) (tryIn tables terms [] w) (stampIn marks) (marked marks (planOfTables tables terms .variables) 1)) (numbersOf numbers) used (planOfTables tables terms .variables) r) where
+      (h : Chooses (choiceBy (s .heuristic) s (planOfTables tables terms) (tryIn tables terms [] w) (stampIn (w .marks)) (choosable (planOfTables tables terms) (getD (planOfTables tables terms .clauses) c []))) (numbersOf numbers) used (planOfTables tables terms .variables) r)
+      {marks : List ℕ} (o : Spared (w .marks) marks) where
     filled : isEmpty among ≡ false
-    filled = empty-by-length among ∙ ne-eqb (length among) 0 (λ e. n (omega (arith, m .counted)))
+    filled = empty-by-length among ∙ ne-eqb (length among) 0 (λ e. n (omega (arith, m)))
 
     -- The stamps of those to choose from are the numbers of their last flips.
-    agreed : (flips : List ℕ) → Stamped (q .variables) flips (w .marks) → Agree (stampIn marks) (lastFlip flips) (marked marks (q .variables) 1)
-    agreed flips t =
-        let kept = stamped-kept (parts tables terms (k .ready .laid) .high) (m .beyond) t in
-        agree-all (stampIn marks) (lastFlip flips) (isVariable q) (λ x v. let b = variable-range q x (is-true _ v) in kept .last x (b .0) (b .1)) _ (marked-within q marks 1)
+    agreed : (flips : List ℕ) → Stamped (q .variables) flips (w .marks) → Agree (stampIn (w .marks)) (lastFlip flips) among
+    agreed flips t = agree-all (stampIn (w .marks)) (lastFlip flips) (isVariable q) (λ x v. let b = variable-range q x (is-true _ v) in t .last x (b .0) (b .1)) among (choosable-variables q (getD (q .clauses) c []))
 
     chose : (flips : List ℕ) → Stamped (q .variables) flips (w .marks)
         → (f : ℕ) (fs : List Assignment) → run (choice s q (tryIn tables terms flips w) among) (numbersOf numbers) (at used f fs) ≡ outcomeOf r f fs
     unfolding choice
     chose flips t f fs =
-        ap (λ xs. run (choice s q (tryIn tables terms flips w) xs) (numbersOf numbers) (at used f fs)) (sym (m .marks))
-        ∙ ap (λ c. run c (numbersOf numbers) (at used f fs)) (sym (choices-agree q _ (stampIn marks) (lastFlip flips) (s .heuristic) s [] flips _ (agreed flips t)))
+        ap (λ c. run c (numbersOf numbers) (at used f fs)) (sym (choices-agree q _ (stampIn (w .marks)) (lastFlip flips) (s .heuristic) s [] flips _ (agreed flips t)))
         ∙ h .outcome f fs
 
-    pub turned-in : {x after turn : ℕ} (m′ : List ℕ) {v : Work} → r ≡ chosen.At x after
+    behind : Behind (w .marks) marks
+    behind = record { size = o .size; same = o .behind }
+
+    pub turned-in : {x after turn : ℕ} {v : Work} → r ≡ chosen.At x after
         → v .assignment ≡ turned (w .assignment) x
-        → v .tallies ≡ recounted tables terms (turned (w .assignment) x) (w .tallies)
-        → drop (planOfTables tables terms .variables) m′ ≡ drop (planOfTables tables terms .variables) marks
-        → length m′ ≡ length (w .marks)
-        → Wrote (stampAt x) (turn + 1) m′ (v .marks)
+        → Kept (planOfTables tables terms) (bitsOf (planOfTables tables terms .variables) (turned (w .assignment) x)) (w .tallies) (v .tallies)
+        → Wrote (stampAt x) (turn + 1) marks (v .marks)
         → InClause s tables terms numbers used turn c (moved.Made after) w v
     unfolding movedOf usedIn IfMade turnOver outcomeOf
-    turned-in {x} {after} {turn} m′ {v} e a y g l o =
+    turned-in {x} {after} {turn} {v} e a y g =
         let b = chosen-among h e in
         let u = chosen-uses h e in
-        let fits = roomy-fits q (k .ready .laid .room) in
+        let few = parts tables terms (k .ready .laid) .high in
         let bits : bitsIn tables terms v ≡ flip (bitsIn tables terms w) x =
         ap (bitsOf (q .variables)) a ∙ turned-bits (q .variables) (w .assignment) x (k .bits) (k .ready .bytes) (b .0) (b .1) in
-        let few = parts tables terms (k .ready .laid) .high in
+        let on : Behind (w .marks) (v .marks) = behind-more behind (wrote-behind (omega (arith, b .1, few)) g) in
+        let kept : Prepared tables terms v = record { sized = y .sized; weighed = weighed-behind on (k .prepared .weighed); listed = listed-behind on (k .prepared .listed) } in
         record {
           reaches = λ flips t made. record {
             next = x ∷ flips;
             outcome = λ f fs. turning-made s q (tryIn tables terms flips w) among (numbersOf numbers) (at used f fs) filled (chose flips t f fs ∙ ap (λ d. outcomeOf d f fs) e)
                 ∙ ap (λ d. ends (turnedTo (record { bits = d; flips = x ∷ flips })) (at after (f + 1) fs)) (sym bits);
-            stamped = (stamped-more (stamped-kept few (g ∙ m .beyond) t) x o (omega (arith, made)), refl);
+            stamped = (stamped-more (record { last = λ y l z. o .stamps y l (omega (arith, z, few)) ∙ t .last y l z }) x g (omega (arith, made)), refl);
           };
-          walking = (flipped-walking k b a y (o .size ∙ l), omega (arith, u .0));
+          walking = (
+            record {
+              ready = record { laid = k .ready .laid; bytes = omega (arith, k .ready .bytes, ap length a, length-turned (w .assignment) x) };
+              bits = rw a (turned-areBits (q .variables) (w .assignment) x (k .bits) (k .ready .bytes) (b .0) (b .1));
+              fresh = rw a (y .fresh);
+              prepared = kept;
+              needed = y .needed;
+            },
+            omega (arith, u .0),
+          );
+          prepared = kept;
           uses = u .0;
           within = omega (arith, u .1, length-numbersOf numbers);
           beyond = record {
             assignment = ap (drop (q .variables)) a ∙ turned-beyond (q .variables) (w .assignment) x (k .bits) (k .ready .bytes) (b .0) (b .1);
-            tallies = ap (drop tallySize) y ∙ drop-fresh q fits _ _;
-            marks = o .beyond markSize (omega (arith, b .1, few)) (omega (arith, l, k .stamps)) ∙ marks-beyond m′ g;
+            tallies = y .beyond;
+            marks = g .beyond columnSize (omega (arith, b .1, few)) (omega (arith, o .size, k .prepared .weighed .room)) ∙ o .beyond;
           };
         }
 
     pub gone-in : {after turn : ℕ} {v : Work} → r ≡ chosen.Short after
-        → v .assignment ≡ w .assignment → v .tallies ≡ w .tallies
-        → drop (planOfTables tables terms .variables) (v .marks) ≡ drop (planOfTables tables terms .variables) marks
+        → v .assignment ≡ w .assignment → v .tallies ≡ w .tallies → v .marks ≡ marks
         → InClause s tables terms numbers used turn c (moved.Short after) w v
     unfolding movedOf usedIn IfMade outcomeOf
-    gone-in e a y g =
+    gone-in {v = v} e a y g =
         let u = gone-uses h e in
         record {
           reaches = λ flips t made. record {
@@ -212,9 +215,10 @@ module _ {tables terms : List ℕ} (numbers : List ℕ) (used c : ℕ) {w : Work
             stamped = tt;
           };
           walking = tt;
+          prepared = record { sized = rw y (k .prepared .sized); weighed = rw g (weighed-behind behind (k .prepared .weighed)); listed = rw g (listed-behind behind (k .prepared .listed)) };
           uses = u .0;
           within = omega (arith, u .1, length-numbersOf numbers);
-          beyond = record { assignment = ap (drop (q .variables)) a; tallies = ap (drop tallySize) y; marks = marks-beyond _ g };
+          beyond = record { assignment = ap (drop (q .variables)) a; tallies = ap (drop keptSize) y; marks = ap (drop columnSize) g ∙ o .beyond };
         }
 
 -- ---- a clause is picked by the tallies
@@ -292,16 +296,16 @@ module _ {tables terms : List ℕ} {w : Work} (k : Walking tables terms w) where
                   stamped = r .stamped;
                 };
             walking = made-more q _ _ _ (picked-uses .0) (h .walking);
+            prepared = h .prepared;
             uses = omega (arith, picked-uses .0, h .uses);
             within = h .within;
             beyond = h .beyond;
           }
 
-    pub gone-moves : (s : Settings) {after turn : ℕ} {v : Work} → used ≤ length numbers / 4 → r ≡ picked.Short after
-        → v .assignment ≡ w .assignment → v .tallies ≡ w .tallies → v .marks ≡ w .marks
-        → Moves s tables terms numbers used turn (moved.Short after) w v
+    pub gone-moves : (s : Settings) {after turn : ℕ} → used ≤ length numbers / 4 → r ≡ picked.Short after
+        → Moves s tables terms numbers used turn (moved.Short after) w w
     unfolding move movedOf usedIn IfMade
-    gone-moves s l t a y m =
+    gone-moves s l t =
         let p = planOfTables tables terms in
         let b = bitsIn tables terms w in
         let u = pick-gone _ (numbersOf numbers) used (picked-short e t) in
@@ -313,7 +317,8 @@ module _ {tables terms : List ℕ} {w : Work} (k : Walking tables terms w) where
             stamped = tt;
           };
           walking = tt;
+          prepared = k .prepared;
           uses = u .0;
           within = rw (length-numbersOf numbers) at (u .1 (rw (length-numbersOf numbers) l));
-          beyond = record { assignment = ap (drop (p .variables)) a; tallies = ap (drop tallySize) y; marks = ap (drop markSize) m };
+          beyond = record { assignment = refl; tallies = refl; marks = refl };
         }

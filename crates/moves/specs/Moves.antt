@@ -13,11 +13,11 @@ use Rattle.plpb.specs.Try.{Try}
 use Rattle.plpb.specs.Choice.{choosable}
 use Rattle.plpb.specs.Search.{Turn, stuck, turned, turning, move}
 use Rattle.format.specs.Tables.{planOfTables}
-use Rattle.format.specs.Layout.{markSize}
 use Rattle.stamps.specs.Stamps.{Stamped}
 use Rattle.lending.specs.Work.{Work, Beyond}
 use Rattle.tallies.specs.Layout.{tallySize, bitsOf, areBits, tallyBytes}
 use Rattle.recount.specs.Core.{Ready}
+use Rattle.columns.specs.Columns.{Listed, Needed, Sized, Weighed}
 use Rattle.numbers.specs.Numbers.{numbersOf}
 use Rattle.moves.specs.declared.Moved.{Moved}
 use Rattle.moves.specs.declared.Moved.the-variants as moved
@@ -30,13 +30,19 @@ bitsIn tables terms w = bitsOf (planOfTables tables terms .variables) (w .assign
 abbrev pub tryIn : List ℕ → List ℕ → List ℕ → Work → Try
 tryIn tables terms flips w = record { bits = bitsIn tables terms w; flips = flips }
 
--- A try has begun: the tallies are those of the assignment.
+-- What the walk keeps of the plan alone.
+pub record Prepared (tables terms : List ℕ) (w : Work) : Type 0 where
+  pub sized : Sized (planOfTables tables terms) (w .tallies)
+  pub weighed : Weighed (planOfTables tables terms) (w .marks)
+  pub listed : Listed (planOfTables tables terms) (w .marks)
+
+-- A try has begun: the tallies are those of the assignment, and what is kept is right.
 pub record Walking (tables terms : List ℕ) (w : Work) : Type 0 where
   pub ready : Ready tables terms (w .assignment)
   pub bits : T (areBits (planOfTables tables terms .variables) (w .assignment))
   pub fresh : take tallySize (w .tallies) ≡ tallyBytes (freshCount (planOfTables tables terms) (bitsIn tables terms w))
-  pub marks : Ready tables terms (w .marks)
-  pub stamps : markSize ≤ length (w .marks)
+  pub prepared : Prepared tables terms w
+  pub needed : Needed (planOfTables tables terms) (w .tallies)
 
 -- A move's outcome, with the try that it reaches and the flips and finds before it.
 unfoldable pub movedOf : Moved → Try → ℕ → List Assignment → Outcome Turn
@@ -68,6 +74,7 @@ pub record Turns (walk : Try → Walk Turn) (tables terms numbers : List ℕ) (u
   pub reaches : (flips : List ℕ) → Stamped (planOfTables tables terms .variables) flips (w .marks) → length flips ≡ turn
       → Reaches walk tables terms numbers used flips r w v
   pub walking : IfMade r (Walking tables terms v × (used + least ≤ usedIn r))
+  pub prepared : Prepared tables terms v
   pub uses : used ≤ usedIn r
   pub within : usedIn r ≤ length numbers / 4
   pub beyond : Beyond (planOfTables tables terms .variables) w v

@@ -6,13 +6,13 @@ ghost use Rattle.format.specs.Layout.{unsatisfiedAt};
 ghost use Rattle.settings.specs.Settings.{settingsOf};
 ghost use Rattle.moves.specs.Moves.{Walking, Moves, InClause};
 ghost use Rattle.lending.specs.Work.{work};
-use choice::choose::Chosen;
-use choice::marks::mark_choosable;
-use flips::flip_core;
-use novelty::choose_by;
+use choosing::choose_in;
+use columns::LIST_COUNTS;
+use keeping::flip_kept;
 use numbers::Picked;
 use numbers::nth_zero;
 use numbers::pick;
+use picking::Chosen;
 use settings::Settings;
 use stamps::stamp;
 use words::index;
@@ -43,14 +43,24 @@ fn flip_in(
         (work (now (assignment .entry)) (now (tallies .entry)) (now (marks .entry)))
         (work (now (assignment .exit)) (now (tallies .exit)) (now (marks .exit))) ⌝ }
 {
-    let some = mark_choosable(tables, terms, c, marks);
+    let some = index(marks, LIST_COUNTS + c);
     if some == 0 {
         return Moved::Stuck(used);
     }
-    let v = choose_by(tables, terms, assignment, numbers, used, s, marks);
+    let v = choose_in(
+        tables,
+        terms,
+        assignment,
+        tallies,
+        marks,
+        c,
+        numbers,
+        used,
+        s,
+    );
     match v {
         Chosen::At(x, after) => {
-            flip_core(tables, terms, assignment, tallies, x);
+            flip_kept(tables, terms, marks, assignment, tallies, x);
             stamp(marks, x, turn + 1);
             Moved::Made(after)
         }

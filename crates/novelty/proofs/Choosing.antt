@@ -13,13 +13,11 @@ use Rattle.plpb.specs.Plan.{Plan, Assignment, isVariable}
 use Rattle.plpb.specs.Numbers.{takePick, taken, tooFew}
 use Rattle.plpb.specs.Walk.{Walk, done, pick, _>>=_, Mark, at, drawn, ends, short, run}
 use Rattle.plpb.specs.Settings.{Settings}
-use Rattle.plpb.specs.Try.{Try}
 use Rattle.plpb.specs.Novelty.{ranked, latest, isNewest}
-use Rattle.plpb.specs.Choice.{pickFrom, skcChoice, rankedChoice, noveltyChoice, choiceBy}
+use Rattle.plpb.specs.Choice.{pickFrom, rankedChoice, noveltyChoice}
 use Rattle.plpb.proofs.Lists.{and-left, and-right, and-both, T-true, is-true}
 use Rattle.plpb.proofs.Locks.{all-in-row, variable-range}
 use Rattle.plpb.proofs.Novelty.{length-ranked, all-ranked}
-use Rattle.settings.specs.Settings.{heuristicOf}
 use Rattle.numbers.specs.declared.Picked.{Picked}
 use Rattle.numbers.specs.declared.Picked.the-variants as picked
 use Rattle.numbers.specs.Numbers.{numbersOf}
@@ -27,10 +25,10 @@ use Rattle.numbers.specs.Taking.{takenOf}
 use Rattle.numbers.specs.Finding.{marked}
 use Rattle.numbers.proofs.Taking.{length-numbersOf, picked-at, picked-short, pick-uses, pick-gone}
 use Rattle.numbers.proofs.Runs.{bind-ends, bind-short, run-pick-taken, run-pick-short, run-true, run-false}
-use Rattle.choice.specs.declared.choose.Chosen.{Chosen}
-use Rattle.choice.specs.declared.choose.Chosen.the-variants as chosen
-use Rattle.choice.specs.Outcome.{outcomeOf, usedBy, Among, Chooses}
-use Rattle.choice.proofs.Choosing.{later}
+use Rattle.picking.specs.declared.Chosen.{Chosen}
+use Rattle.picking.specs.declared.Chosen.the-variants as chosen
+use Rattle.picking.specs.Outcome.{outcomeOf, usedBy, Among, Chooses}
+use Rattle.picking.proofs.Picking.{later}
 use Rattle.ranking.specs.declared.Top.{Top}
 use Rattle.ranking.specs.Ranking.{Stands, Tops, Ranks}
 use Rattle.novelty.specs.Noise.{asksNoise}
@@ -180,14 +178,3 @@ rows-within p = all-in-row _ 1 (p .variables) (λ x l u. and-both _ _ (T-true (l
 pub marked-within : (p : Plan) (marks : List ℕ) (v : ℕ) → T (all (isVariable p) (marked marks (p .variables) v))
 unfolding marked
 marked-within p marks v = all-kept (isVariable p) _ (row 1 (p .variables)) (rows-within p)
-
--- ---- the heuristic that is set
-
-module _ (s : Settings) (p : Plan) (t : Try) (last : ℕ → ℕ) (xs : List ℕ) {ns : List ℕ} {used n : ℕ} (h : ℕ) {r : Chosen} where
-  pub set-skc : h ≡ 0 → Chooses (skcChoice s p t xs) ns used n r → Chooses (choiceBy (heuristicOf h) s p t last xs) ns used n r
-  unfolding heuristicOf choiceBy
-  set-skc e c = rw e c
-
-  pub set-novelty : (h ≡ 0 → ⊥) → Chooses (noveltyChoice s p (t .bits) last xs) ns used n r → Chooses (choiceBy (heuristicOf h) s p t last xs) ns used n r
-  unfolding heuristicOf choiceBy
-  set-novelty e c = let one : h ≡ suc (h - 1) = omega (arith, e) in rw one c

@@ -1,32 +1,32 @@
-// The choice of a variable by Novelty+ (T-09), and the choice that the settings name.
+// The choice of a variable by Novelty+ (T-09).
 ghost use mathlib.Core.Path.{_≡_};
 ghost use mathlib.Core.Bool.{cond};
 ghost use mathlib.Core.List.{List};
 ghost use Prim.Native.Nat.{ℕ, _/_, _≤_, _<_};
 ghost use lib.Dec.{T};
-ghost use lib.ListN.{length, drop};
+ghost use lib.ListN.{length};
 ghost use Rattle.plpb.specs.Lists.{all};
 ghost use Rattle.plpb.specs.Plan.{Plan, Assignment, isVariable};
 ghost use Rattle.plpb.specs.Settings.{Settings as Set};
 ghost use Rattle.plpb.specs.Novelty.{ranked};
-ghost use Rattle.plpb.specs.Choice.{rankedChoice, noveltyChoice, choiceBy};
+ghost use Rattle.plpb.specs.Choice.{rankedChoice, noveltyChoice};
 ghost use Rattle.format.specs.Tables.{planOfTables};
 ghost use Rattle.format.specs.Layout.{markSize};
 ghost use Rattle.recount.specs.Core.{Ready};
 ghost use Rattle.numbers.specs.Numbers.{numbersOf};
 ghost use Rattle.numbers.specs.Finding.{marked};
-ghost use Rattle.settings.specs.Settings.{heuristicOf, settingsOf};
+ghost use Rattle.settings.specs.Settings.{settingsOf};
 ghost use Rattle.stamps.specs.Stamps.{stampIn};
-ghost use Rattle.breaks.specs.Breaks.{lentBits, lentTry};
+ghost use Rattle.effects.specs.Kept.{lentBits};
 ghost use Rattle.ranking.specs.Ranking.{Ranks};
-ghost use Rattle.choice.specs.Outcome.{Chooses, ToChoose};
+ghost use Rattle.picking.specs.Outcome.{Chooses};
+ghost use Rattle.choice.specs.Outcome.{ToChoose};
 ghost use Rattle.novelty.specs.Noise.{asksNoise};
-use choice::choose::Chosen;
-use choice::choose::choose;
 use choice::choose::choose_any;
-use choice::choose::is_below;
 use numbers::Picked;
 use numbers::pick;
+use picking::Chosen;
+use picking::is_below;
 use ranking::Top;
 use ranking::rank_marked;
 use settings::Settings;
@@ -77,7 +77,7 @@ fn choose_ranked(top: Top, numbers: &[u8], used: usize, noise: u32) -> Chosen
 }
 
 // "One number under the walk chance, per 1,000, leads to a pick among the clause's unlocked variables. Otherwise rank them"
-fn choose_novelty(
+pub fn choose_novelty(
     tables: &[u8],
     terms: &[u8],
     assignment: &[u8],
@@ -111,30 +111,4 @@ fn choose_novelty(
         }
         Picked::Short(after) => Chosen::Short(after),
     }
-}
-
-// Among the variables marked 1, by SKC or by Novelty+. Of the marks only those of the plan's variables change.
-pub fn choose_by(
-    tables: &[u8],
-    terms: &[u8],
-    assignment: &[u8],
-    numbers: &[u8],
-    used: usize,
-    s: Settings,
-    marks: &mut [u8],
-) -> Chosen
-    requires { ⌜ Ready (now tables) (now terms) (now assignment)
-        × ToChoose (now numbers) used (planOfTables (now tables) (now terms) .variables) (now marks) × (markSize ≤ length (now marks)) ⌝ }
-    ensures { λ r. ⌜ Chooses
-        (choiceBy (heuristicOf (s .heuristic)) (settingsOf s) (planOfTables (now (tables .entry)) (now (terms .entry)))
-        (lentTry (now (tables .entry)) (now (terms .entry)) (now (assignment .entry))) (stampIn (now (marks .entry)))
-        (marked (now (marks .entry)) (planOfTables (now (tables .entry)) (now (terms .entry)) .variables) 1)) (numbersOf (now (numbers .entry))) used
-        (planOfTables (now (tables .entry)) (now (terms .entry)) .variables) r
-        × (drop (planOfTables (now (tables .entry)) (now (terms .entry)) .variables) (now (marks .exit))
-        ≡ drop (planOfTables (now (tables .entry)) (now (terms .entry)) .variables) (now (marks .entry))) ⌝ }
-{
-    if s.heuristic == 0 {
-        return choose(tables, terms, assignment, numbers, used, s, marks);
-    }
-    choose_novelty(tables, terms, assignment, numbers, used, s, marks)
 }

@@ -41,7 +41,7 @@ rising-at v (suc j) (u ∷ ts) t h =
     omega (arith, head, tail)
 
 -- How a variable stands in a rule is told by the one term that names it.
-standing-at : (a : Assignment) (x v j : ℕ) (ts : List Term) → T (risingAbove v ts) → j < length ts → getD ts j noTerm .variable ≡ x → standing a x ts ≡ cond (literalTrue a (literal (getD ts j noTerm))) (on (size (getD ts j noTerm))) (off (size (getD ts j noTerm)))
+pub standing-at : (a : Assignment) (x v j : ℕ) (ts : List Term) → T (risingAbove v ts) → j < length ts → getD ts j noTerm .variable ≡ x → standing a x ts ≡ cond (literalTrue a (literal (getD ts j noTerm))) (on (size (getD ts j noTerm))) (off (size (getD ts j noTerm)))
 unfolding risingAbove standing
 standing-at a x v j [] t h e = absurd (omega arith)
 standing-at a x v zero (u ∷ ts) t h e = rw (eq-eqb (u .variable) x e) refl

@@ -11,3 +11,5 @@ pub mod Words
 pub mod Terms
 pub mod Grouped
 pub mod Thresholds
+pub mod Blocks
+pub mod Groups

@@ -3,4 +3,5 @@ pub mod Order
 pub mod Along
 pub mod Mentions
 pub mod Grouped
+pub mod Blocks
 pub mod Breaks

@@ -165,8 +165,7 @@ module _ {p : Plan} {tables terms assignment : List ℕ} {w : Work} (room : Room
         record {
           ready = record { laid = l; bytes = omega (arith, n, room .tried) };
           room = room .tallies;
-          marks = record { laid = l; bytes = omega (arith, n, room .marks) };
-          stamps = room .stamps;
+          columns = room .marks;
         }
 
     module _ (s : Settings) {numbers : List ℕ} {from : Progress} (st : Tracks p numbers assignment from) {v : Work} where

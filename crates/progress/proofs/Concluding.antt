@@ -262,7 +262,6 @@ room-after r b l =
       tried = omega (arith, r .tried, l .tried);
       tallies = omega (arith, r .tallies, l .tallies);
       marks = omega (arith, r .marks, l .marks);
-      stamps = omega (arith, r .stamps, l .marks);
     }
 
 -- The plan searched stays the one that the tables gave at first.

@@ -22,7 +22,7 @@ use Rattle.progress.specs.declared.Ending.{Ending as EndingOf}
 use Rattle.progress.specs.declared.Ending.the-variants as code
 use Rattle.progress.specs.declared.Searched.{Searched}
 use Rattle.lending.specs.Work.{Work, Beyond}
-use Rattle.format.specs.Layout.{markSize, tallySize}
+use Rattle.columns.specs.Layout.{columnSize, keptSize}
 
 -- A plan without the added last clause.
 unfoldable pub untightened : Plan → Plan
@@ -55,9 +55,8 @@ pub record Room (p : Plan) (tables terms assignment : List ℕ) (w : Work) : Typ
   pub bounded : Bounded p tables terms
   pub find : p .variables ≤ length assignment
   pub tried : p .variables ≤ length (w .assignment)
-  pub tallies : tallySize ≤ length (w .tallies)
-  pub marks : p .variables ≤ length (w .marks)
-  pub stamps : markSize ≤ length (w .marks)
+  pub tallies : keptSize ≤ length (w .tallies)
+  pub marks : columnSize ≤ length (w .marks)
 
 -- .. and what it leaves as it was.
 pub record Leaves (p : Plan) (tables terms tables' assignment assignment' : List ℕ) (w w' : Work) : Type 0 where

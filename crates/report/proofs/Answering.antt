@@ -20,13 +20,13 @@ use Rattle.format.specs.Tables.{tableSize, termSize, planOfTables, planIn, isLo
 use Rattle.format.proofs.Bools.{T-true}
 use Rattle.format.proofs.Lawful.{plan-parts}
 use Rattle.format.proofs.IsLoaded.{isLoaded-lawful}
-use Rattle.tallies.specs.Layout.{assignmentSize, tallySize, bitBytes}
+use Rattle.tallies.specs.Layout.{assignmentSize, bitBytes}
 use Rattle.numbers.specs.Numbers.{numbersOf}
 use Rattle.settings.specs.declared.Settings.{Settings as Asked}
 use Rattle.settings.specs.Settings.{settingsRefusal, settingsOf}
 use Rattle.answers.specs.declared.Answer.{Answer as Answered}
 use Rattle.finds.specs.Whole.{withFind}
-use Rattle.format.specs.Layout.{markSize}
+use Rattle.columns.specs.Layout.{columnSize, keptSize}
 use Rattle.lending.specs.Lent.{Lent, tooSmall, searchRefusal}
 use Rattle.search.specs.Calls.{answer, searchAssignment, endingNumber, unless, Searches}
 use Rattle.answers.specs.Found.{hasPlan}
@@ -82,7 +82,7 @@ module _ (s : Settings) (p : Plan) (ns : List ℕ) (entry exit : List ℕ) (room
 
 unrefused : (l : Lent) (k : Asked) → T (isLoaded (l .tables) (l .terms)) → tableSize ≤ length (l .tables) → termSize ≤ length (l .terms)
     → assignmentSize ≤ length (l .assignment) → tableSize ≤ length (l .workTables) → termSize ≤ length (l .workTerms)
-    → assignmentSize ≤ length (l .workAssignment) → tallySize ≤ length (l .workTallies) → markSize ≤ length (l .workMarks) → settingsRefusal k ≡ 0
+    → assignmentSize ≤ length (l .workAssignment) → keptSize ≤ length (l .workTallies) → columnSize ≤ length (l .workMarks) → settingsRefusal k ≡ 0
     → searchRefusal l k ≡ 0
 unfolding searchRefusal tooSmall refuse _or_
 unrefused l k t a b c d e f g h z =
@@ -142,7 +142,7 @@ pub search-written : (l : Lent) (k : Asked) (r : Answered) (left : Lent) → Sea
     → tableSize ≤ length (l .tables) → termSize ≤ length (l .terms) → settingsRefusal k ≡ 0
     → length (left .assignment) ≡ length (l .assignment) → assignmentSize ≤ length (l .assignment)
     → tableSize ≤ length (l .workTables) → termSize ≤ length (l .workTerms) → assignmentSize ≤ length (l .workAssignment)
-    → tallySize ≤ length (l .workTallies) → markSize ≤ length (l .workMarks)
+    → keptSize ≤ length (l .workTallies) → columnSize ≤ length (l .workMarks)
     → resultLine (endingOf (r .ending)) (r .cost) (r .finds) (r .flips) (r .used) ++ assignmentLine (hasPlan (r .ending)) (wordAt (l .tables) 0) (left .assignment)
     ≡ answerText (search (settingsOf k) (planOfTables (l .tables) (l .terms)) (numbersOf (l .numbers)))
 search-written l k r left h t a b z same c d e f g m =

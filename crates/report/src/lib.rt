@@ -33,8 +33,8 @@ fn search_plan(tables: &[u8], terms: &[u8], numbers: &[u8], s: Settings, out: &m
     let mut work_tables = [0u8; format::TABLES];
     let mut work_terms = [0u8; format::TERMS];
     let mut work_assignment = [0u8; format::ASSIGNMENT];
-    let mut work_tallies = [0u8; format::TALLIES];
-    let mut work_marks = [0u8; format::MARKS];
+    let mut work_tallies = [0u8; columns::KEPT];
+    let mut work_marks = [0u8; columns::COLUMNS];
     let r = search(
         tables,
         terms,

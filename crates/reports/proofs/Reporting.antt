@@ -7,7 +7,7 @@ use lib.ListN.{length, drop, replicate}
 use Rattle.plpb.specs.Plan.{Plan}
 use Rattle.plpb.specs.Settings.{Settings}
 use Rattle.format.specs.Tables.{tableSize, termSize}
-use Rattle.format.specs.Layout.{markSize, tallySize}
+use Rattle.columns.specs.Layout.{columnSize, keptSize}
 use Rattle.format.specs.Assignment.{assignmentSize}
 use Rattle.settings.specs.Settings.{settingsOf}
 use Rattle.lending.specs.Lent.{Lent, lentAll}
@@ -47,8 +47,8 @@ module _ (l : Lent) (t : Trial) (z : runsRefusal l t ≡ 0) {count runs wide : �
         → workTables ≡ replicate tableSize 0 ++ drop tableSize (m .workTables)
         → workTerms ≡ replicate termSize 0 ++ drop termSize (m .workTerms)
         → workAssignment ≡ replicate assignmentSize 0 ++ drop assignmentSize (m .workAssignment)
-        → workTallies ≡ replicate tallySize 0 ++ drop tallySize (m .workTallies)
-        → workMarks ≡ replicate markSize 0 ++ drop markSize (m .workMarks)
+        → workTallies ≡ replicate keptSize 0 ++ drop keptSize (m .workTallies)
+        → workMarks ≡ replicate columnSize 0 ++ drop columnSize (m .workMarks)
         → Reports l t f (lentAll (l .tables) (l .terms) numbers assignment workTables workTerms workAssignment workTallies workMarks)
     unfolding reported zeroed
     reporting e a b c d f g k =

@@ -7,7 +7,7 @@ use mathlib.Core.List.{List, _++_}
 use lib.Dec.{eqb}
 use lib.ListN.{drop, replicate}
 use Rattle.format.specs.Tables.{tableSize, termSize}
-use Rattle.format.specs.Layout.{markSize, tallySize}
+use Rattle.columns.specs.Layout.{columnSize, keptSize}
 use Rattle.format.specs.Assignment.{assignmentSize}
 use Rattle.settings.specs.Settings.{settingsOf}
 use Rattle.lending.specs.Lent.{Lent}
@@ -35,5 +35,5 @@ pub record Reports (l : Lent) (t : Trial) (r : Figures) (left : Lent) : Type 0 w
   pub workTables : left .workTables ≡ zeroed l t tableSize (l .workTables)
   pub workTerms : left .workTerms ≡ zeroed l t termSize (l .workTerms)
   pub workAssignment : left .workAssignment ≡ zeroed l t assignmentSize (l .workAssignment)
-  pub workTallies : left .workTallies ≡ zeroed l t tallySize (l .workTallies)
-  pub workMarks : left .workMarks ≡ zeroed l t markSize (l .workMarks)
+  pub workTallies : left .workTallies ≡ zeroed l t keptSize (l .workTallies)
+  pub workMarks : left .workMarks ≡ zeroed l t columnSize (l .workMarks)

@@ -21,7 +21,7 @@ use Rattle.words.proofs.Words.{Below, length-wordBytes, wordAt-wordBytes}
 use Rattle.words.proofs.Writes.{drop-put}
 use Rattle.format.specs.Assignment.{assignmentSize, bitBytes, bitsOf}
 use Rattle.format.specs.Limits.{lawful}
-use Rattle.format.specs.Layout.{markSize, tallySize}
+use Rattle.columns.specs.Layout.{columnSize, keptSize}
 use Rattle.format.specs.Tables.{planOfTables, isLoaded}
 use Rattle.format.proofs.Lawful.{plan-parts, lawful-roomy}
 use Rattle.format.proofs.IsLoaded.{isLoaded-lawful}
@@ -30,7 +30,7 @@ use Rattle.counting.proofs.Signed.{small-fits}
 use Rattle.tallies.proofs.Bits.{length-bitsOf, length-bitBytes}
 use Rattle.numbers.specs.Numbers.{numbersOf}
 use Rattle.numbers.proofs.Taking.{length-numbersOf, numbersOf-at}
-use Rattle.moves.proofs.Moving.{drop-more}
+use Rattle.columns.proofs.Marks.{dropped-more}
 use Rattle.progress.specs.declared.Searched.{Searched}
 use Rattle.progress.specs.Bounds.{answerOf}
 use Rattle.settings.specs.declared.Settings.{Settings as Asked}
@@ -49,7 +49,7 @@ use Rattle.runs.specs.Repeating.{AsBefore, planIn}
 -- ---- bytes past a place
 
 past : (xs s : List ℕ) (m n : ℕ) → length xs ≡ n → n ≤ m → drop m (xs ++ drop n s) ≡ drop m s
-past xs s m n e h = drop-more (xs ++ drop n s) s h (drop-at xs (drop n s) n e)
+past xs s m n e h = dropped-more n m s (xs ++ drop n s) h (drop-at xs (drop n s) n e)
 
 -- ---- the numbers
 
@@ -148,7 +148,7 @@ module _ (tables terms numbers : List ℕ) (k : Asked) (count : ℕ) (g : Xorwow
         record { size = e; beyond = find-past _ (h .find) (h .last) (omega arith) }
 
     pub tried-past : length (v .assignment) ≡ length (w .assignment) → AsBefore assignmentSize (w .assignment) (v .assignment)
-    tried-past e = record { size = e; beyond = drop-more (v .assignment) (w .assignment) few-here (h .beyond .assignment) }
+    tried-past e = record { size = e; beyond = dropped-more _ assignmentSize (w .assignment) (v .assignment) few-here (h .beyond .assignment) }
 
-    pub marks-past : length (v .marks) ≡ length (w .marks) → AsBefore markSize (w .marks) (v .marks)
+    pub marks-past : length (v .marks) ≡ length (w .marks) → AsBefore columnSize (w .marks) (v .marks)
     marks-past e = record { size = e; beyond = h .beyond .marks }

@@ -7,7 +7,7 @@ use lib.ListN.{length, drop}
 use Rattle.plpb.specs.Plan.{Plan}
 use Rattle.plpb.specs.Search.{search}
 use Rattle.format.specs.Tables.{tableSize, termSize, planOfTables}
-use Rattle.format.specs.Layout.{markSize, tallySize}
+use Rattle.columns.specs.Layout.{columnSize, keptSize}
 use Rattle.format.specs.Assignment.{assignmentSize}
 use Rattle.settings.specs.declared.Settings.{Settings as Asked}
 use Rattle.settings.specs.Settings.{settingsOf}
@@ -38,8 +38,8 @@ pub record WithinLimits (l m : Lent) : Type 0 where
   pub workTables : AsBefore tableSize (l .workTables) (m .workTables)
   pub workTerms : AsBefore termSize (l .workTerms) (m .workTerms)
   pub workAssignment : AsBefore assignmentSize (l .workAssignment) (m .workAssignment)
-  pub workTallies : AsBefore tallySize (l .workTallies) (m .workTallies)
-  pub workMarks : AsBefore markSize (l .workMarks) (m .workMarks)
+  pub workTallies : AsBefore keptSize (l .workTallies) (m .workTallies)
+  pub workMarks : AsBefore columnSize (l .workMarks) (m .workMarks)
 
 abbrev pub planIn : Lent → Plan
 planIn l = planOfTables (l .tables) (l .terms)

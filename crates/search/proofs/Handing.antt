@@ -20,19 +20,19 @@ use Rattle.plpb.proofs.Soundness.{search-sound}
 use Rattle.format.specs.Tables.{planOfTables, tableSize, termSize}
 use Rattle.format.proofs.Lawful.{plan-parts}
 use Rattle.format.proofs.IsLoaded.{isLoaded-lawful}
-use Rattle.tallies.specs.Layout.{assignmentSize, tallySize, bitsOf}
+use Rattle.tallies.specs.Layout.{assignmentSize, bitsOf}
 use Rattle.numbers.specs.Numbers.{numbersOf}
 use Rattle.progress.specs.declared.Searched.{Searched}
 use Rattle.settings.specs.declared.Settings.{Settings as Asked}
 use Rattle.settings.specs.Settings.{settingsOf}
-use Rattle.moves.proofs.Moving.{drop-more}
+use Rattle.columns.proofs.Marks.{dropped-more}
 use Rattle.lending.specs.Work.{Work}
 use Rattle.lending.specs.Lent.{Lent, searchRefusal}
 use Rattle.search.specs.Calls.{answer, searchAssignment, cleared, endingNumber, unless, Searches, HandsOut}
 use Rattle.answers.specs.Found.{hasPlan}
 use Rattle.progress.specs.Bounds.{answerOf, endingOf}
 use Rattle.finds.specs.Whole.{Whole}
-use Rattle.format.specs.Layout.{markSize}
+use Rattle.columns.specs.Layout.{columnSize, keptSize}
 use Rattle.search.proofs.Refusing.{accepted}
 
 -- ---- what is handed out
@@ -87,8 +87,8 @@ module _ (l : Lent) (k : Asked) (z : searchRefusal l k ≡ 0) {r : Searched} {ex
         → a ≡ replicate tableSize 0 ++ drop tableSize (l .workTables)
         → b ≡ replicate termSize 0 ++ drop termSize (l .workTerms)
         → c ≡ replicate assignmentSize 0 ++ drop assignmentSize (v .assignment)
-        → d ≡ replicate tallySize 0 ++ drop tallySize (v .tallies)
-        → m ≡ replicate markSize 0 ++ drop markSize (v .marks)
+        → d ≡ replicate keptSize 0 ++ drop keptSize (v .tallies)
+        → m ≡ replicate columnSize 0 ++ drop columnSize (v .marks)
         → Searches l k (record { refusal = 0; ending = n; cost = toZ w64 (ofZ w64 (r .progress .cost)); finds = r .progress .finds; flips = r .progress .flips; used = r .progress .used })
         (record {
           tables = l .tables;
@@ -113,9 +113,9 @@ module _ (l : Lent) (k : Asked) (z : searchRefusal l k ≡ 0) {r : Searched} {ex
           assignment = rw z (unfold answer in h .find);
           workTables = rw z ea;
           workTerms = rw z eb;
-          workAssignment = rw z (ec ∙ ap (λ s. replicate assignmentSize 0 ++ s) (drop-more (v .assignment) (l .workAssignment) few-here (h .beyond .assignment)));
-          workTallies = rw z (ed ∙ ap (λ s. replicate tallySize 0 ++ s) (h .beyond .tallies));
-          workMarks = rw z (em ∙ ap (λ s. replicate markSize 0 ++ s) (h .beyond .marks));
+          workAssignment = rw z (ec ∙ ap (λ s. replicate assignmentSize 0 ++ s) (dropped-more _ assignmentSize (l .workAssignment) (v .assignment) few-here (h .beyond .assignment)));
+          workTallies = rw z (ed ∙ ap (λ s. replicate keptSize 0 ++ s) (h .beyond .tallies));
+          workMarks = rw z (em ∙ ap (λ s. replicate columnSize 0 ++ s) (h .beyond .marks));
         }
 
     pub hands : HandsOut l (record { refusal = 0; ending = n; cost = toZ w64 (ofZ w64 (r .progress .cost)); finds = r .progress .finds; flips = r .progress .flips; used = r .progress .used }) exit

@@ -24,7 +24,7 @@ use Rattle.format.specs.Assignment.{bitBytes}
 use Rattle.format.proofs.Lawful.{plan-parts}
 use Rattle.format.proofs.IsLoaded.{isLoaded-lawful}
 use Rattle.format.proofs.Within.{short-within, loaded-within, plan-within}
-use Rattle.tallies.specs.Layout.{assignmentSize, tallySize}
+use Rattle.tallies.specs.Layout.{assignmentSize}
 use Rattle.numbers.specs.Numbers.{numbersOf}
 use Rattle.settings.specs.declared.Settings.{Settings as Asked}
 use Rattle.settings.specs.Settings.{settingsRefusal, settingsOf}
@@ -32,7 +32,7 @@ use Rattle.tallies.proofs.Bits.{length-bitBytes}
 use Rattle.lending.specs.Lent.{Lent, tooSmall, searchRefusal}
 use Rattle.search.specs.Calls.{answer, searchAssignment, cleared}
 use Rattle.finds.specs.Whole.{withFind}
-use Rattle.format.specs.Layout.{markSize}
+use Rattle.columns.specs.Layout.{columnSize, keptSize}
 use Rattle.search.specs.Within.{SameLent, SearchesWithin}
 use Rattle.search.proofs.Refusing.{accepted}
 
@@ -85,8 +85,8 @@ module _ (l m : Lent) (k : Asked) (s : SameLent l m) where
       (short-within tableSize (l .workTables) (m .workTables) (s .workTables)))
       (short-within termSize (l .workTerms) (m .workTerms) (s .workTerms)))
       (short-within assignmentSize (l .workAssignment) (m .workAssignment) (s .workAssignment)))
-      (short-within tallySize (l .workTallies) (m .workTallies) (s .workTallies)))
-      (short-within markSize (l .workMarks) (m .workMarks) (s .workMarks))
+      (short-within keptSize (l .workTallies) (m .workTallies) (s .workTallies)))
+      (short-within columnSize (l .workMarks) (m .workMarks) (s .workMarks))
 
   same-refusal : searchRefusal l k ≡ searchRefusal m k
   unfolding searchRefusal
@@ -141,6 +141,6 @@ searches-within l m k s =
       workTables = same-cleared l m k s tableSize (l .workTables) (m .workTables) (s .workTables);
       workTerms = same-cleared l m k s termSize (l .workTerms) (m .workTerms) (s .workTerms);
       workAssignment = same-cleared l m k s assignmentSize (l .workAssignment) (m .workAssignment) (s .workAssignment);
-      workTallies = same-cleared l m k s tallySize (l .workTallies) (m .workTallies) (s .workTallies);
-      workMarks = same-cleared l m k s markSize (l .workMarks) (m .workMarks) (s .workMarks);
+      workTallies = same-cleared l m k s keptSize (l .workTallies) (m .workTallies) (s .workTallies);
+      workMarks = same-cleared l m k s columnSize (l .workMarks) (m .workMarks) (s .workMarks);
     }

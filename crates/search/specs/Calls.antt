@@ -10,7 +10,7 @@ use lib.ListN.{drop, replicate}
 use Rattle.plpb.specs.Plan.{obeys, satisfies, cost}
 use Rattle.plpb.specs.Search.{Ending, floor, ended, none, short-found, short-none, Answer, search}
 use Rattle.format.specs.Tables.{tableSize, termSize, planOfTables}
-use Rattle.format.specs.Layout.{markSize, tallySize}
+use Rattle.columns.specs.Layout.{columnSize, keptSize}
 use Rattle.format.specs.Assignment.{assignmentSize, bitsOf}
 use Rattle.finds.specs.Whole.{withFind}
 use Rattle.numbers.specs.Numbers.{numbersOf}
@@ -58,8 +58,8 @@ pub record Searches (l : Lent) (k : Asked) (r : Answered) (left : Lent) : Type 0
   pub workTables : left .workTables ≡ cleared l k tableSize (l .workTables)
   pub workTerms : left .workTerms ≡ cleared l k termSize (l .workTerms)
   pub workAssignment : left .workAssignment ≡ cleared l k assignmentSize (l .workAssignment)
-  pub workTallies : left .workTallies ≡ cleared l k tallySize (l .workTallies)
-  pub workMarks : left .workMarks ≡ cleared l k markSize (l .workMarks)
+  pub workTallies : left .workTallies ≡ cleared l k keptSize (l .workTallies)
+  pub workMarks : left .workMarks ≡ cleared l k columnSize (l .workMarks)
 
 -- What a crew relies on: "A plan handed out satisfies every clause", gives each locked variable its value, and the cost is its cost.
 unfoldable pub HandsOut : Lent → Answered → List ℕ → Type 0

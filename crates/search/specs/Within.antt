@@ -3,7 +3,8 @@
 -- Assumes nothing.
 use mathlib.Core.Path.{_≡_}
 use Rattle.words.specs.Writes.{SameWithin}
-use Rattle.format.specs.Layout.{tableSize, termSize, tallySize, markSize}
+use Rattle.format.specs.Layout.{tableSize, termSize}
+use Rattle.columns.specs.Layout.{columnSize, keptSize}
 use Rattle.format.specs.Assignment.{assignmentSize}
 use Rattle.settings.specs.declared.Settings.{Settings as Asked}
 use Rattle.lending.specs.Lent.{Lent, searchRefusal}
@@ -18,8 +19,8 @@ pub record SameLent (l m : Lent) : Type 0 where
   pub workTables : SameWithin tableSize (l .workTables) (m .workTables)
   pub workTerms : SameWithin termSize (l .workTerms) (m .workTerms)
   pub workAssignment : SameWithin assignmentSize (l .workAssignment) (m .workAssignment)
-  pub workTallies : SameWithin tallySize (l .workTallies) (m .workTallies)
-  pub workMarks : SameWithin markSize (l .workMarks) (m .workMarks)
+  pub workTallies : SameWithin keptSize (l .workTallies) (m .workTallies)
+  pub workMarks : SameWithin columnSize (l .workMarks) (m .workMarks)
 
 -- So are the refusal, the answer where there is none, and what is left.
 pub record SameSearch (l m : Lent) (k : Asked) : Type 0 where
@@ -29,8 +30,8 @@ pub record SameSearch (l m : Lent) (k : Asked) : Type 0 where
   pub workTables : SameWithin tableSize (cleared l k tableSize (l .workTables)) (cleared m k tableSize (m .workTables))
   pub workTerms : SameWithin termSize (cleared l k termSize (l .workTerms)) (cleared m k termSize (m .workTerms))
   pub workAssignment : SameWithin assignmentSize (cleared l k assignmentSize (l .workAssignment)) (cleared m k assignmentSize (m .workAssignment))
-  pub workTallies : SameWithin tallySize (cleared l k tallySize (l .workTallies)) (cleared m k tallySize (m .workTallies))
-  pub workMarks : SameWithin markSize (cleared l k markSize (l .workMarks)) (cleared m k markSize (m .workMarks))
+  pub workTallies : SameWithin keptSize (cleared l k keptSize (l .workTallies)) (cleared m k keptSize (m .workTallies))
+  pub workMarks : SameWithin columnSize (cleared l k columnSize (l .workMarks)) (cleared m k columnSize (m .workMarks))
 
 abbrev pub SearchesWithin : Type 0
 SearchesWithin = (l m : Lent) (k : Asked) → SameLent l m → SameSearch l m k

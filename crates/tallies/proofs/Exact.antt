@@ -21,7 +21,7 @@ use Rattle.tallies.specs.Layout.{tallyOrder, tallyWords}
 use Rattle.tallies.proofs.Order.{padded}
 use Rattle.format.specs.Layout.{clauseRoom, ruleRoom}
 
-K-small : (n : ℕ) (ts : List Term) → all (termWithin n) ts ≡ true → K ts ≤ 1_000_000 * length ts
+pub K-small : (n : ℕ) (ts : List Term) → all (termWithin n) ts ≡ true → K ts ≤ 1_000_000 * length ts
 unfolding K sumBy all termWithin size
 K-small n [] h = omega arith
 K-small n (t ∷ ts) h = omega (arith, weight-small (t .weight) (and-right _ _ (and-left _ _ h)), K-small n ts (and-right _ _ h))

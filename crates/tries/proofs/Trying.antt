@@ -14,17 +14,16 @@ use Rattle.plpb.specs.Plan.{Plan, Assignment, hold, satisfies}
 use Rattle.plpb.proofs.Locks.{length-hold}
 use Rattle.plpb.specs.Tallies.{freshCount}
 use Rattle.plpb.specs.Numbers.{Taken, taken, tooFew, takeWords, startWords, startOf}
-use Rattle.plpb.specs.Walk.{at, ends, short, run}
+use Rattle.plpb.specs.Walk.{Walk, at, ends, short, run}
 use Rattle.plpb.specs.Settings.{Settings}
 use Rattle.plpb.specs.Try.{begun as beginning}
-use Rattle.plpb.specs.Search.{flipping, try, trying, call}
+use Rattle.plpb.specs.Search.{Reached, flipping, try, trying, call}
 use Rattle.words.specs.Words.{wordAt}
 use Rattle.format.specs.Tables.{planOfTables}
-use Rattle.tallies.specs.Layout.{tallySize, bitsOf, bitBytes}
-use Rattle.recount.specs.Core.{Ready, recounted}
+use Rattle.tallies.specs.Layout.{bitsOf, bitBytes}
+use Rattle.recount.specs.Core.{Ready}
 use Rattle.tallies.proofs.Bits.{length-bitBytes, drop-bytes, bitsOf-bytes, areBits-bytes}
 use Rattle.recount.proofs.Laid.{parts, tables-long, variables-word}
-use Rattle.tallies.proofs.TallyBytes.{roomy-fits, take-fresh, drop-fresh}
 use Rattle.numbers.specs.declared.Started.{Started}
 use Rattle.numbers.specs.declared.Started.the-variants as started
 use Rattle.numbers.specs.Numbers.{numbersOf}
@@ -39,12 +38,17 @@ use Rattle.tries.specs.declared.Tried.{Tried}
 use Rattle.tries.proofs.Tried.{the-type}
 use Rattle.tries.specs.declared.Tried.the-variants as tried
 use Rattle.lending.specs.Work.{Work, Beyond}
-use Rattle.moves.specs.Moves.{bitsIn, tryIn, Walking, movedOf, usedIn, IfMade, Moves}
+use Rattle.moves.specs.Moves.{bitsIn, tryIn, Prepared, Walking, movedOf, usedIn, IfMade, Moves}
 use Rattle.tries.specs.Steps.{Startable, triedOf, stoppedAt, usedBy, flipsBy, IfReached, Tries}
 use Rattle.moves.proofs.Moving.{unsatisfied-word}
 use Rattle.format.specs.Layout.{tableSize, unsatisfiedAt, markSize}
 use Rattle.stamps.specs.Stamps.{Stamped, unstamped}
 use Rattle.stamps.proofs.Stamping.{stamped-none, cleared-size, cleared-beyond}
+use Rattle.columns.specs.Layout.{columnSize, columnWordCount, keptSize, needAt, totalAt, weightAt}
+use Rattle.columns.specs.Columns.{Listed, Sized as RulesSized, Weighed}
+use Rattle.columns.specs.Frames.{Only}
+use Rattle.columns.proofs.Marks.{Behind, weighed-behind, listed-behind, dropped-behind, dropped-more}
+use Rattle.keeping.specs.Flip.{Kept}
 use Rattle.locks.specs.Held.{heldBytes}
 use Rattle.locks.proofs.Holding.{bytes-held}
 
@@ -117,6 +121,7 @@ module _ {s : Settings} {tables terms numbers : List ℕ} {begun before : ℕ} {
         uses = i .uses;
         within = i .within;
         flipped = i .flipped;
+        prepared = i .walking .prepared;
         beyond = i .beyond;
       }
 
@@ -158,6 +163,7 @@ module _ {s : Settings} {tables terms numbers : List ℕ} {begun before : ℕ} {
           uses = omega (arith, i .uses, m .uses);
           within = m .within;
           flipped = omega (arith, i .flipped, m .uses);
+          prepared = m .prepared;
           beyond = beyond-on (i .beyond) (m .beyond);
         }
     flips-stopped (moved.Short after) c k m =
@@ -168,6 +174,7 @@ module _ {s : Settings} {tables terms numbers : List ℕ} {begun before : ℕ} {
           uses = omega (arith, i .uses, m .uses);
           within = m .within;
           flipped = omega (arith, i .flipped, m .uses);
+          prepared = m .prepared;
           beyond = beyond-on (i .beyond) (m .beyond);
         }
 
@@ -182,6 +189,7 @@ module _ {s : Settings} {tables terms numbers : List ℕ} {begun before : ℕ} {
         uses = i .uses;
         within = i .within;
         flipped = i .flipped;
+        prepared = i .walking .prepared;
         beyond = i .beyond;
       }
 
@@ -202,7 +210,7 @@ words-left : (k : ℕ) (ns : List ℕ) {u v : ℕ} → takeWords k ns u ≡ tooF
 unfolding takeWords
 words-left k ns {u} e = few-left (leb (u + k) (length ns)) (take k (drop u ns)) (u + k) e
 
-module _ {tables terms : List ℕ} (numbers : List ℕ) {used made : ℕ} {w : Work} (k : Startable tables terms w) (few : made ≤ used)
+module _ {tables terms : List ℕ} (numbers : List ℕ) {used made : ℕ} {w : Work} (k : Startable tables terms w) (few : made ≤ used) (g₀ : Prepared tables terms w)
     {n : ℕ} (size : n ≡ wordAt tables 0) {r : Started} {bytes : List ℕ} (h : Starts n (takeWords (startWords n) (numbersOf numbers) used) (w .assignment) r bytes) where
   abbrev q : Plan
   q = planOfTables tables terms
@@ -252,25 +260,28 @@ module _ {tables terms : List ℕ} (numbers : List ℕ) {used made : ℕ} {w : W
       pub started-ready : length kept ≡ length bytes → length bytes ≡ length (w .assignment) → Ready tables terms kept
       started-ready m l = record { laid = k .ready .laid; bytes = omega (arith, k .ready .bytes) }
 
-      module _ {tallies marks : List ℕ} (l : length kept ≡ length bytes) (l′ : length bytes ≡ length (w .assignment)) (y : tallies ≡ recounted tables terms kept (w .tallies))
+      module _ {tallies marks : List ℕ} (l : length kept ≡ length bytes) (l′ : length bytes ≡ length (w .assignment)) (y : Kept (planOfTables tables terms) (bitsOf (planOfTables tables terms .variables) kept) (w .tallies) tallies)
           (z : marks ≡ unstamped (w .marks)) where
         abbrev begun : Work
         begun = record { assignment = kept; tallies = tallies; marks = marks }
 
         pub started-stamps : Stamped (planOfTables tables terms .variables) [] marks
-        started-stamps = stamped-none (w .marks) (k .stamps) z (q .variables) (parts tables terms (k .ready .laid) .high)
+        started-stamps = stamped-none (w .marks) (omega (arith, k .columns)) z (q .variables) (parts tables terms (k .ready .laid) .high)
 
         same-marks : length marks ≡ length (w .marks)
-        same-marks = cleared-size (w .marks) (k .stamps) z
+        same-marks = cleared-size (w .marks) (omega (arith, k .columns)) z
+
+        behind : Behind (w .marks) marks
+        behind = dropped-behind markSize (omega arith) same-marks (cleared-beyond (w .marks) (omega (arith, k .columns)) z)
 
         pub started-walking : Walking tables terms begun
         started-walking =
             record {
               ready = started-ready l l′;
               bits = rw (← named, held-start) (areBits-bytes n begin (drop n (w .assignment)) begin-size);
-              fresh = rw y (take-fresh q (roomy-fits q (k .ready .laid .room)) _ _);
-              marks = record { laid = k .marks .laid; bytes = omega (arith, k .marks .bytes, same-marks) };
-              stamps = omega (arith, k .stamps, same-marks);
+              fresh = y .fresh;
+              prepared = record { sized = y .sized; weighed = weighed-behind behind (g₀ .weighed); listed = listed-behind behind (g₀ .listed) };
+              needed = y .needed;
             }
 
         pub tried-once : (s : Settings) {t : Tried} {v : Work} → Tries (flipping s q (s .flips) (tryIn tables terms [] begun)) tables terms numbers after made after t begun v
@@ -286,10 +297,11 @@ module _ {tables terms : List ℕ} (numbers : List ℕ) {used made : ℕ} {w : W
               uses = omega (arith, g .uses, u .0);
               within = g .within;
               flipped = g .flipped;
+              prepared = g .prepared;
               beyond = beyond-on (record {
                 assignment = rw (← named, held-start) (drop-bytes n begin (drop n (w .assignment)) begin-size);
-                tallies = rw y (drop-fresh q (roomy-fits q (k .ready .laid .room)) _ _);
-                marks = cleared-beyond (w .marks) (k .stamps) z;
+                tallies = y .beyond;
+                marks = dropped-more markSize columnSize (w .marks) marks (omega arith) (cleared-beyond (w .marks) (omega (arith, k .columns)) z);
               }) (g .beyond);
             }
 
@@ -306,7 +318,8 @@ module _ {tables terms : List ℕ} (numbers : List ℕ) {used made : ℕ} {w : W
         uses = omega arith;
         within = l;
         flipped = few;
-        beyond = record { assignment = ap (drop (q .variables)) (a ∙ d .1); tallies = ap (drop tallySize) y; marks = ap (drop markSize) m };
+        prepared = record { sized = rw y (g₀ .sized); weighed = rw m (g₀ .weighed); listed = rw m (g₀ .listed) };
+        beyond = record { assignment = ap (drop (q .variables)) (a ∙ d .1); tallies = ap (drop keptSize) y; marks = ap (drop columnSize) m };
       }
 
 -- ---- a call
@@ -314,6 +327,7 @@ module _ {tables terms : List ℕ} (numbers : List ℕ) {used made : ℕ} {w : W
 -- What the tries have come to: as many are left, from another place in the list.
 pub record Calling (s : Settings) (tables terms numbers : List ℕ) (begun before : ℕ) (w : Work) (used made left : ℕ) (v : Work) : Type 0 where
   pub startable : Startable tables terms v
+  pub prepared : Prepared tables terms v
   pub outcome :
       (fs : List Assignment)
       → run (call s (planOfTables tables terms)) (numbersOf numbers) (at begun before fs)
@@ -324,26 +338,27 @@ pub record Calling (s : Settings) (tables terms numbers : List ℕ) (begun befor
   pub beyond : Beyond (planOfTables tables terms .variables) w v
   pub sized : Sized w v
 
+startable-on : {tables terms : List ℕ} {w v : Work} → Startable tables terms w → Sized w v → Startable tables terms v
+startable-on k z =
+    record {
+      ready = record { laid = k .ready .laid; bytes = omega (arith, k .ready .bytes, z .assignment) };
+      room = omega (arith, k .room, z .tallies);
+      columns = omega (arith, k .columns, z .marks);
+    }
+
 pub calls-begin : (s : Settings) {tables terms numbers : List ℕ} {begun before : ℕ} {w : Work} → Startable tables terms w → begun ≤ length numbers / 4 → before ≤ begun
+    → Prepared tables terms w
     → Calling s tables terms numbers begun before w begun before (s .tries) w
-calls-begin s k l h =
+calls-begin s k l h g =
     record {
       startable = k;
+      prepared = g;
       outcome = λ fs. run-call s _ _ (at _ _ fs);
       uses = omega arith;
       flipped = h;
       within = l;
       beyond = beyond-same _ _;
       sized = record { assignment = refl; tallies = refl; marks = refl };
-    }
-
-startable-on : {tables terms : List ℕ} {w v : Work} → Startable tables terms w → Sized w v → Startable tables terms v
-startable-on k z =
-    record {
-      ready = record { laid = k .ready .laid; bytes = omega (arith, k .ready .bytes, z .assignment) };
-      room = omega (arith, k .room, z .tallies);
-      marks = record { laid = k .marks .laid; bytes = omega (arith, k .marks .bytes, z .marks) };
-      stamps = omega (arith, k .stamps, z .marks);
     }
 
 unfoldable pub isFailed : Tried → Bool
@@ -374,6 +389,7 @@ module _ {s : Settings} {tables terms numbers : List ℕ} {begun before : ℕ} {
         let fa : flipsBy t ≡ flips = ap flipsBy e in
         record {
           startable = startable-on (i .startable) z;
+          prepared = g .prepared;
           outcome = λ fs. again fs ∙ trying-next s o (numbersOf numbers) (at used made fs) (left - 1) (g .outcome fs ∙ ap (λ d. triedOf d (bitsIn tables terms u) fs) e);
           uses = omega (arith, i .uses, g .uses);
           flipped = omega (arith, g .flipped);
@@ -392,6 +408,7 @@ module _ {s : Settings} {tables terms numbers : List ℕ} {begun before : ℕ} {
           uses = omega (arith, i .uses, g .uses);
           within = g .within;
           flipped = g .flipped;
+          prepared = g .prepared;
           beyond = beyond-on (i .beyond) (g .beyond);
         }
     calls-done (tried.Failed after flips) e g = absurd (true≢false e)
@@ -402,6 +419,7 @@ module _ {s : Settings} {tables terms numbers : List ℕ} {begun before : ℕ} {
           uses = omega (arith, i .uses, g .uses);
           within = g .within;
           flipped = g .flipped;
+          prepared = g .prepared;
           beyond = beyond-on (i .beyond) (g .beyond);
         }
 
@@ -415,5 +433,35 @@ module _ {s : Settings} {tables terms numbers : List ℕ} {begun before : ℕ} {
         uses = i .uses;
         within = i .within;
         flipped = i .flipped;
+        prepared = i .prepared;
         beyond = i .beyond;
+      }
+
+-- ---- what is kept of the plan is worked out before the tries
+
+module _ {tables terms : List ℕ} {w : Work} (k : Startable tables terms w) {tallies marks : List ℕ}
+    (g : RulesSized (planOfTables tables terms) tallies × Weighed (planOfTables tables terms) marks × Listed (planOfTables tables terms) marks
+    × Only (totalAt 0) (needAt 0) (w .tallies) tallies × Only (weightAt 0) columnWordCount (w .marks) marks) where
+  pub prepared-start : Startable tables terms (record { assignment = w .assignment; tallies = tallies; marks = marks })
+  prepared-start = record { ready = k .ready; room = omega (arith, k .room, g .3 .size); columns = omega (arith, k .columns, g .4 .size) }
+
+  pub prepared-now : Prepared tables terms (record { assignment = w .assignment; tallies = tallies; marks = marks })
+  prepared-now = record { sized = g .0; weighed = g .1; listed = g .2 }
+
+  pub tried-prepared : {walk : Walk Reached} {numbers : List ℕ} {used flips least : ℕ} {r : Tried} {v : Work}
+      → Tries walk tables terms numbers used flips least r (record { assignment = w .assignment; tallies = tallies; marks = marks }) v
+      → Tries walk tables terms numbers used flips least r w v
+  tried-prepared t =
+      record {
+        outcome = t .outcome;
+        finds = t .finds;
+        uses = t .uses;
+        within = t .within;
+        flipped = t .flipped;
+        prepared = t .prepared;
+        beyond = beyond-on (record {
+          assignment = refl;
+          tallies = g .3 .beyond keptSize (omega arith) (k .room);
+          marks = g .4 .beyond columnSize (omega arith) (k .columns);
+        }) (t .beyond);
       }

@@ -10,22 +10,21 @@ use Rattle.plpb.specs.Walk.{Walk, at, Outcome, ends, short, run}
 use Rattle.plpb.specs.Search.{Reached, failed, reached}
 use Rattle.format.specs.Tables.{planOfTables}
 use Rattle.lending.specs.Work.{Work, Beyond}
-use Rattle.format.specs.Layout.{markSize}
-use Rattle.tallies.specs.Layout.{tallySize, areBits}
+use Rattle.tallies.specs.Layout.{areBits}
+use Rattle.columns.specs.Layout.{columnSize, keptSize}
 use Rattle.recount.specs.Core.{Ready}
 use Rattle.numbers.specs.Numbers.{numbersOf}
 use Rattle.moves.specs.declared.Moved.{Moved}
 use Rattle.moves.specs.declared.Moved.the-variants as moved
 use Rattle.tries.specs.declared.Tried.{Tried}
 use Rattle.tries.specs.declared.Tried.the-variants as tried
-use Rattle.moves.specs.Moves.{bitsIn}
+use Rattle.moves.specs.Moves.{bitsIn, Prepared}
 
--- There is room for an assignment, its tallies, the marks and the numbers of the last flips.
+-- There is room for an assignment, its tallies and the marks, with all that is kept behind them.
 pub record Startable (tables terms : List ℕ) (w : Work) : Type 0 where
   pub ready : Ready tables terms (w .assignment)
-  pub room : tallySize ≤ length (w .tallies)
-  pub marks : Ready tables terms (w .marks)
-  pub stamps : markSize ≤ length (w .marks)
+  pub room : keptSize ≤ length (w .tallies)
+  pub columns : columnSize ≤ length (w .marks)
 
 -- What a try or a call comes to, with the finds before it and the assignment that it leaves.
 unfoldable pub triedOf : Tried → Assignment → List Assignment → Outcome Reached
@@ -67,4 +66,5 @@ pub record Tries (walk : Walk Reached) (tables terms numbers : List ℕ) (used f
   pub uses : used ≤ usedBy r
   pub within : usedBy r ≤ length numbers / 4
   pub flipped : flipsBy r ≤ usedBy r
+  pub prepared : Prepared tables terms v
   pub beyond : Beyond (planOfTables tables terms .variables) w v

@@ -7,15 +7,16 @@ ghost use Rattle.plpb.specs.Search.{flipping, try, call as called};
 ghost use Rattle.format.specs.Tables.{planOfTables};
 ghost use Rattle.settings.specs.Settings.{settingsOf};
 ghost use Rattle.tries.specs.Steps.{Startable, Tries, stoppedAt};
-ghost use Rattle.moves.specs.Moves.{Walking, tryIn};
+ghost use Rattle.moves.specs.Moves.{Prepared, Walking, tryIn};
 ghost use Rattle.stamps.specs.Stamps.{Stamped};
 ghost use Rattle.lending.specs.Work.{work};
+use keeping::open_kept;
 use locks::hold_locks;
 use moves::Moved;
 use moves::make_move;
 use numbers::Started;
 use numbers::start;
-use recount::open::open_core;
+use preparing::prepare;
 use settings::Settings;
 use stamps::clear_stamps;
 use words::index;
@@ -101,7 +102,7 @@ fn try_once(
     marks: &mut [u8],
 ) -> Tried
     requires { ⌜ Startable (now tables) (now terms) (work (now assignment) (now tallies) (now marks)) × (used ≤ length (now numbers) / 4)
-        × (made ≤ used) ⌝ }
+        × (made ≤ used) × Prepared (now tables) (now terms) (work (now assignment) (now tallies) (now marks)) ⌝ }
     ensures { λ r. ⌜ Tries (try (settingsOf s) (planOfTables (now (tables .entry)) (now (terms .entry)))) (now (tables .entry)) (now (terms .entry))
         (now (numbers .entry)) used made (used + 1) r (work (now (assignment .entry)) (now (tallies .entry)) (now (marks .entry)))
         (work (now (assignment .exit)) (now (tallies .exit)) (now (marks .exit))) ⌝ }
@@ -111,7 +112,7 @@ fn try_once(
         return Tried::Short(used, made);
     };
     hold_locks(tables, n, assignment);
-    open_core(tables, terms, assignment, tallies);
+    open_kept(tables, terms, assignment, tallies);
     clear_stamps(marks);
     make_flips(
         tables,
@@ -126,8 +127,8 @@ fn try_once(
     )
 }
 
-// One call: tries until one reaches an assignment that satisfies the plan.
-pub fn call(
+// Tries until one reaches an assignment that satisfies the plan.
+fn make_tries(
     tables: &[u8],
     terms: &[u8],
     numbers: &[u8],
@@ -139,7 +140,7 @@ pub fn call(
     marks: &mut [u8],
 ) -> Tried
     requires { ⌜ Startable (now tables) (now terms) (work (now assignment) (now tallies) (now marks)) × (begun ≤ length (now numbers) / 4)
-        × (before ≤ begun) ⌝ }
+        × (before ≤ begun) × Prepared (now tables) (now terms) (work (now assignment) (now tallies) (now marks)) ⌝ }
     ensures { λ r. ⌜ Tries (called (settingsOf s) (planOfTables (now (tables .entry)) (now (terms .entry)))) (now (tables .entry)) (now (terms .entry))
         (now (numbers .entry)) begun before (begun + 1) r (work (now (assignment .entry)) (now (tallies .entry)) (now (marks .entry)))
         (work (now (assignment .exit)) (now (tallies .exit)) (now (marks .exit))) ⌝ }
@@ -167,4 +168,36 @@ pub fn call(
         left -= 1;
     }
     Tried::Failed(used, made)
+}
+
+// One call. What is kept of the plan is worked out at its beginning, because the tables may have another last clause than at the call before.
+pub fn call(
+    tables: &[u8],
+    terms: &[u8],
+    numbers: &[u8],
+    begun: usize,
+    before: usize,
+    s: Settings,
+    assignment: &mut [u8],
+    tallies: &mut [u8],
+    marks: &mut [u8],
+) -> Tried
+    requires { ⌜ Startable (now tables) (now terms) (work (now assignment) (now tallies) (now marks)) × (begun ≤ length (now numbers) / 4)
+        × (before ≤ begun) ⌝ }
+    ensures { λ r. ⌜ Tries (called (settingsOf s) (planOfTables (now (tables .entry)) (now (terms .entry)))) (now (tables .entry)) (now (terms .entry))
+        (now (numbers .entry)) begun before (begun + 1) r (work (now (assignment .entry)) (now (tallies .entry)) (now (marks .entry)))
+        (work (now (assignment .exit)) (now (tallies .exit)) (now (marks .exit))) ⌝ }
+{
+    prepare(tables, terms, tallies, marks);
+    make_tries(
+        tables,
+        terms,
+        numbers,
+        begun,
+        before,
+        s,
+        assignment,
+        tallies,
+        marks,
+    )
 }

@@ -30,8 +30,11 @@ pub const TABLES: usize = 4 * (ORDER_WORDS + TERMS);
 pub const TERM_TABLE: usize = 4 * (2 * TERMS);
 pub const ASSIGNMENT: usize = MOST_VARIABLES;
 pub const TALLIES: usize = 4 * (RULES + CLAUSES + 1);
-/// What a search keeps of each variable: a byte for its mark, then a word for its last flip in a try.
-pub const MARKS: usize = 5 * MOST_VARIABLES;
+/// A search keeps behind its tallies five words of each rule: K, A, B and the needs of its two sides.
+pub const KEPT: usize = TALLIES + 4 * 5 * RULES;
+/// What a search keeps of each variable: a byte for its mark, then words for its last flip in a try, a place to look at first and a place among the picks.
+/// Behind them words for the weights in the order, and for how many variables of each clause may be chosen, and for these.
+pub const MARKS: usize = 13 * MOST_VARIABLES + 4 * (TERMS + CLAUSES + TERMS);
 
 /// Words are appended, and a section is filled up with zeros.
 struct Words(Vec<u8>);

@@ -1,7 +1,7 @@
 //! A search on guarded buffers, and what the reference says that it answers and leaves.
 
 use crate::guarded::Guarded;
-use crate::layout::{self, ASSIGNMENT, MARKS, TABLES, TALLIES, TERM_TABLE};
+use crate::layout::{self, ASSIGNMENT, KEPT, MARKS, TABLES, TERM_TABLE};
 use crate::planner::{self, Searched};
 use reference::plan::Plan;
 use reference::random::Random;
@@ -9,7 +9,7 @@ use reference::walk::{self, Ending, Seen, Settings};
 
 /// The sizes of tables, terms and assignment, then of the work buffers.
 pub const SIZES: [usize; 8] = [
-    TABLES, TERM_TABLE, ASSIGNMENT, TABLES, TERM_TABLE, ASSIGNMENT, TALLIES, MARKS,
+    TABLES, TERM_TABLE, ASSIGNMENT, TABLES, TERM_TABLE, ASSIGNMENT, KEPT, MARKS,
 ];
 
 /// The endings in the order of their numbers in the C interface, from 1.

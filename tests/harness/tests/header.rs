@@ -1,7 +1,7 @@
 //! include/planner.h against what this harness declares of the library: every size, offset, limit
 //! and ending, and the eight prototypes, word for word; and the prototype of include/races.h.
 
-use harness::layout::{self, ASSIGNMENT, MARKS, SECTIONS, TABLES, TALLIES, TERM_TABLE};
+use harness::layout::{self, ASSIGNMENT, KEPT, MARKS, SECTIONS, TABLES, TALLIES, TERM_TABLE};
 use harness::planner::{Counted, Figures, Flipped, Loaded, Searched, Squeezed};
 use harness::program::{printed_by_c, root};
 use harness::searching::{ending, ENDINGS};
@@ -161,6 +161,7 @@ fn sizes_offsets_and_numbers() {
         ("PLANNER_TERMS_SIZE", TERM_TABLE),
         ("PLANNER_ASSIGNMENT_SIZE", ASSIGNMENT),
         ("PLANNER_TALLIES_SIZE", TALLIES),
+        ("PLANNER_KEPT_SIZE", KEPT),
         ("PLANNER_MARKS_SIZE", MARKS),
         ("sizeof(planner_plan)", TABLES + TERM_TABLE),
         ("offsetof(planner_plan, terms)", TABLES),
@@ -168,11 +169,11 @@ fn sizes_offsets_and_numbers() {
         ("offsetof(planner_state, tallies)", ASSIGNMENT),
         (
             "sizeof(planner_work)",
-            TABLES + TERM_TABLE + ASSIGNMENT + TALLIES + MARKS,
+            TABLES + TERM_TABLE + ASSIGNMENT + KEPT + MARKS,
         ),
         (
             "offsetof(planner_work, marks)",
-            TABLES + TERM_TABLE + ASSIGNMENT + TALLIES,
+            TABLES + TERM_TABLE + ASSIGNMENT + KEPT,
         ),
         ("PLANNER_MOST_VARIABLES", MOST_VARIABLES),
         ("PLANNER_MOST_CLAUSES", MOST_CLAUSES),

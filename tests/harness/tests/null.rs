@@ -1,7 +1,7 @@
 //! NULL with length 0: an empty file or list where one may be empty, a buffer that is too small
 //! elsewhere.
 
-use harness::layout::{self, ASSIGNMENT, MARKS, TABLES, TALLIES, TERM_TABLE};
+use harness::layout::{self, ASSIGNMENT, KEPT, MARKS, TABLES, TALLIES, TERM_TABLE};
 use harness::planner::{self, raw, squeeze, Counted, Figures, Flipped, Loaded, Searched, Squeezed};
 use harness::searching::refused;
 use reference::figures::{Trial, Xorwow};
@@ -17,7 +17,7 @@ struct Buffers {
 
 /// Tables, terms, assignment, tallies, then the work buffers.
 const SIZES: [usize; 9] = [
-    TABLES, TERM_TABLE, ASSIGNMENT, TALLIES, TABLES, TERM_TABLE, ASSIGNMENT, TALLIES, MARKS,
+    TABLES, TERM_TABLE, ASSIGNMENT, TALLIES, TABLES, TERM_TABLE, ASSIGNMENT, KEPT, MARKS,
 ];
 
 impl Buffers {

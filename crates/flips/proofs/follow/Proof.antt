@@ -2,7 +2,7 @@
 -- Assumes nothing.
 use Prim.Native.Nat.{ℕ, _+_, _-_, _≤_, _<_}
 use native.Mathlib.Omega.{arith}
-use mathlib.Core.Path.{_≡_, sym, ap, _∙_}
+use mathlib.Core.Path.{_≡_, refl, sym, ap, _∙_}
 use mathlib.Core.List.{List}
 use lib.ListN.{length}
 use Rattle.words.specs.Words.{wordAt}
@@ -11,13 +11,14 @@ use Rattle.order.specs.Order.{occurrences}
 use Rattle.format.specs.Tables.{planOfTables}
 use Rattle.format.specs.Layout.{endAt, entryAt}
 use Rattle.recount.proofs.Laid.{tables-long}
-use Rattle.flips.specs.Passing.{Followable}
-use Rattle.flips.proofs.Following.{Going, going-at, going-start, going-end, run-size, run-named, run-few, places-few, pass-ready, pass-step}
+use Rattle.flips.specs.Passing.{Followable, Inside}
+use Rattle.flips.proofs.Passing.{inside-more}
+use Rattle.flips.proofs.Following.{Going, going-at, going-start, going-whole, follow-room, run-size, run-named, run-few, places-few, pass-ready, pass-step}
 use Rattle.flips.proofs.follow.Statement.{statement}
 use Rattle.flips.proofs.follow.Tie as tie
 
 abbrev Inv-loop : tie.InvT-loop
-Inv-loop tables terms bits tallies₀ x from to k₀ tallies k = (from ≤ k) × (k ≤ to) × Going tables terms bits tallies₀ x (k - from) tallies × Below 256 tallies
+Inv-loop tables terms bits tallies₀ x from to k₀ tallies k = (from ≤ k) × (k ≤ to) × Going tables terms bits x (k - from) tallies × Inside tallies₀ tallies × Below 256 tallies
 
 abbrev μ-loop : tie.MeasureT-loop
 μ-loop tables terms bits tallies₀ x from to k₀ tallies k = to - k
@@ -33,13 +34,13 @@ loop-holds : tie.Need-loop-holds Inv-loop μ-loop
 loop-holds c =
     let at = c .before .before .before .before .before .before in
     let z : c .before .index .result - c .before .index .result ≡ 0 = omega arith in
-    (omega arith, omega (arith, c .before .index .ensures, c .index2 .ensures, run-size (at .pre)), going-at (sym z) (going-start (at .pre)), λ j. omega (arith, c .before .before .slice-known .given j))
+    (omega arith, omega (arith, c .before .index .ensures, c .index2 .ensures, run-size (at .pre)), going-at (sym z) (going-start (at .pre)), record { size = refl; beyond = refl }, λ j. omega (arith, c .before .before .slice-known .given j))
 
 pass-requires : tie.Need-pass-requires Inv-loop μ-loop
 pass-requires c κs =
     let at = c .before .before .before .before .before .before .before .before .before .before in
     let i = c .before .before .before .loop .inv in
-    pass-ready (at .pre) (i .2) (inside (at .pre) (i .0) (c .before .before .loop-test .taken) (c .before .before .before .before .before .index .ensures) (c .before .before .before .before .index2 .ensures)) (here (at .args .tables .now) (at .args .x) (i .0) (c .before .before .before .before .before .index .ensures) (c .word .ensures))
+    pass-ready (at .pre) (inside (at .pre) (i .0) (c .before .before .loop-test .taken) (c .before .before .before .before .before .index .ensures) (c .before .before .before .before .index2 .ensures)) (here (at .args .tables .now) (at .args .x) (i .0) (c .before .before .before .before .before .index .ensures) (c .word .ensures)) (i .2) (rw (i .3 .size) (follow-room (at .pre)))
 
 loop-again : tie.Need-loop-again Inv-loop μ-loop
 loop-again c =
@@ -49,12 +50,13 @@ loop-again c =
       omega (arith, i .0),
       omega (arith, c .before .before .before .before .before .loop-test .taken),
       going-at next
-          (pass-step (at .pre) (i .2) (inside (at .pre) (i .0) (c .before .before .before .before .before .loop-test .taken) (c .before .before .before .before .before .before .before .before .index .ensures) (c .before .before .before .before .before .before .before .index2 .ensures)) (here (at .args .tables .now) (at .args .x) (i .0) (c .before .before .before .before .before .before .before .before .index .ensures) (c .before .before .before .word .ensures)) (c .before .before .pass .ensures)),
+          (pass-step (at .pre) (inside (at .pre) (i .0) (c .before .before .before .before .before .loop-test .taken) (c .before .before .before .before .before .before .before .before .index .ensures) (c .before .before .before .before .before .before .before .index2 .ensures)) (here (at .args .tables .now) (at .args .x) (i .0) (c .before .before .before .before .before .before .before .before .index .ensures) (c .before .before .before .word .ensures)) (i .2) (c .before .before .pass .ensures .0)),
+      inside-more (i .3) (c .before .before .pass .ensures .1),
       λ j. omega (arith, c .slice-known2 .given j),
     )
 
 same-length : tie.Need-same-length Inv-loop μ-loop
-same-length c = c .before .before .loop .inv .2 .inside .size
+same-length c = c .before .before .loop .inv .3 .size
 
 returns : tie.Need-returns Inv-loop μ-loop
 returns c =
@@ -64,7 +66,7 @@ returns c =
     omega (arith, i .0, i .1, c .before .loop-test .left, c .before .before .before .before .index .ensures, c .before .before .before .index2 .ensures, run-size (at .pre)) in
     let size : c .before .before .before .index2 .result - c .before .before .before .before .index .result ≡ length (occurrences (planOfTables (at .args .tables .now) (at .args .terms .now)) (at .args .x)) =
     omega (arith, c .before .before .before .before .index .ensures, c .before .before .before .index2 .ensures, run-size (at .pre)) in
-    (c .narrow .ensures ∙ size ∙ run-named (at .pre), going-end (at .pre) (i .2) all (i .3))
+    (c .narrow .ensures ∙ size ∙ run-named (at .pre), going-whole (at .pre) (i .2) (i .3) all (i .4))
 
 pub follow-spec : {M : Type 1} → statement M
 follow-spec =

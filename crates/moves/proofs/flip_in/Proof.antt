@@ -2,67 +2,66 @@
 -- Assumes nothing.
 use borrow.Author.Needs.{needs}
 use native.Mathlib.Omega.{arith}
-use mathlib.Core.Path.{refl, _∙_}
-use Rattle.recount.proofs.Laid.{parts}
-use Rattle.moves.proofs.Moving.{chosen-among, flippable, to-choose, stuck-in, turned-in, gone-in}
+use mathlib.Core.Path.{refl}
+use Rattle.recount.proofs.Laid.{parts, clauses-few}
+use Rattle.moves.proofs.Moving.{chosen-among, keepable, some-listed, to-choose, stuck-in, turned-in, gone-in}
 use Rattle.moves.proofs.flip_in.Statement.{statement}
 use Rattle.moves.proofs.flip_in.Tie as tie
 
-mark-choosable-requires : tie.Need-mark-choosable-requires
-mark-choosable-requires c κs = let at = c .before .before .before .before .before .before .before in (at .pre .0 .marks, at .pre .1)
+add-index : tie.Need-add-index
+add-index c = let at = c .before .before .before .before .before .before .before in omega (arith, at .pre .1, clauses-few _ _ (at .pre .0 .ready .laid))
+
+index-requires : tie.Need-index-requires
+index-requires c κs = let at = c .before .before .before .before .before .before .before in omega (arith, at .pre .1, clauses-few _ _ (at .pre .0 .ready .laid), at .pre .0 .prepared .listed .room)
 
 returns : tie.Need-returns
 returns c =
-    let m = c .before .before .before in
-    let at = m .before .before .before .before .before .before .before .before in
-    stuck-in _ _ _ (at .pre .0) (m .mark-choosable .ensures) _ (at .pre .2) (c .if1 .taken) refl refl refl
+    let at = c .before .before .before .before .before .before .before .before .before in
+    stuck-in _ _ _ (at .pre .0) (some-listed (at .pre .0) (at .pre .1) (c .before .index .ensures)) _ (at .pre .2) (c .if1 .taken)
 
-choose-by-requires : tie.Need-choose-by-requires
-choose-by-requires c κs =
-    let m = c .before .before .before .before .before in
-    let at = m .before .before .before .before .before .before .before .before in (
-      at .pre .0 .ready,
-      to-choose _ _ _ (at .pre .0) (m .mark-choosable .ensures) (at .pre .2) (c .before .before .before .before .marks .given) (c .before .before .if1 .left),
-      omega (arith, at .pre .0 .stamps, c .before .before .before .before .marks .given),
-    )
+choose-in-requires : tie.Need-choose-in-requires
+choose-in-requires c κs =
+    let at = c .before .before .before .before .before .before .before .before .before .before .before .before in
+    to-choose (at .pre .0) (at .pre .1) (c .before .before .before .before .index .ensures) (c .before .before .before .if1 .left) (at .pre .2)
 
-flip-core-requires : tie.Need-flip-core-requires
-flip-core-requires c κs =
-    let at = c .before .before .before .before .before .before .before .before .before .before .before .before .before .before .before .before .before .before .before .before .before in
-    flippable (at .pre .0) (chosen-among (c .before .before .before .before .before .before .before .choose-by .ensures .0) (c .before .before .before .v .given .1))
+flip-kept-requires : tie.Need-flip-kept-requires
+flip-kept-requires c κs =
+    let h = c .before .before .before .before .before .before .before .before in
+    keepable (h .before .before .before .before .before .before .before .before .before .before .before .before .before .pre .0) (chosen-among (h .choose-in .ensures .0) (c .before .before .before .before .v .given .1)) (h .choose-in .ensures .1)
 
 stamp-requires : tie.Need-stamp-requires
 stamp-requires c κs =
-    let at = c .before .before .before .before .before .before .before .before .before .before .before .before .before .before .before .before .before .before .before .before .before .before .before .before .before .before .before in
-    let among = chosen-among (c .before .before .before .before .before .before .before .before .before .before .before .before .before .choose-by .ensures .0) (c .before .before .before .before .before .before .before .before .before .v .given .1) in
-    (omega (arith, among .1, parts _ _ (at .pre .0 .ready .laid) .high), omega (arith, at .pre .0 .stamps, c .before .before .before .before .before .before .before .before .before .before .before .before .before .before .before .before .before .before .marks .given, c .before .before .before .before .before .before .before .before .before .before .before .before .marks2 .given))
+    let h = c .before .before .before .before .before .before .before .before .before .before .before .before .before .before in
+    let k = h .before .before .before .before .before .before .before .before .before .before .before .before .before .pre .0 in
+    let among = chosen-among (h .choose-in .ensures .0) (c .before .before .before .before .before .before .before .before .before .before .v .given .1) in
+    (omega (arith, among .1, parts _ _ (k .ready .laid) .high), omega (arith, k .prepared .weighed .room, h .choose-in .ensures .1 .size))
 
 returns-2 : tie.Need-returns-2
 returns-2 c =
-    let h = c .before .before .before .before .before .before .before .before .before .before .before .before .before .before .before .before in
-    let m = h .before .before .before .before .before .before in
-    let at = m .before .before .before .before .before .before .before .before in
-    let f = c .before .before .before .before .before .before .before .before .flip-core .ensures in
-    turned-in _ _ _ (at .pre .0) (m .mark-choosable .ensures) _ (h .before .before .before .if1 .left) (h .choose-by .ensures .0) _ (c .before .before .before .before .before .before .before .before .before .before .before .before .v .given .1) (f .1) (f .2) (h .choose-by .ensures .1)
-    (c .before .before .before .before .before .before .before .before .before .before .before .before .before .before .before .marks2 .given ∙ c .before .before .before .before .before .before .before .before .before .before .before .before .before .before .before .before .before .before .before .before .before .marks .given) (c .before .before .stamp .ensures)
+    let h = c .before .before .before .before .before .before .before .before .before .before .before .before .before .before .before .before .before in
+    let at = h .before .before .before .before .before .before .before .before .before .before .before .before .before in
+    let f = c .before .before .before .before .before .before .before .before .flip-kept .ensures in
+    turned-in _ _ _ (at .pre .0) (some-listed (at .pre .0) (at .pre .1) (h .before .before .before .before .before .index .ensures)) _ (h .before .before .before .before .if1 .left) (h .choose-in .ensures .0) (h .choose-in .ensures .1)
+    (c .before .before .before .before .before .before .before .before .before .before .before .before .before .v .given .1) (f .0) (f .1) (c .before .before .stamp .ensures)
 
 returns-3 : tie.Need-returns-3
 returns-3 c =
     let h = c .before .before .before .before .before in
-    let m = h .before .before .before .before .before .before in
-    let at = m .before .before .before .before .before .before .before .before in
-    gone-in _ _ _ (at .pre .0) (m .mark-choosable .ensures) _ (h .before .before .before .if1 .left) (h .choose-by .ensures .0) (c .before .v2 .given .1) refl refl (h .choose-by .ensures .1)
+    let at = h .before .before .before .before .before .before .before .before .before .before .before .before .before in
+    gone-in _ _ _ (at .pre .0) (some-listed (at .pre .0) (at .pre .1) (h .before .before .before .before .before .index .ensures)) _ (h .before .before .before .before .if1 .left) (h .choose-in .ensures .0) (h .choose-in .ensures .1)
+    (c .before .v2 .given .1) refl refl refl
 
 pub flip-in-spec : {M : Type 1} → statement M
 flip-in-spec =
     tie.close
     (tie.spec
-    mark-choosable-requires
+    add-index
+    index-requires
     (λ c. search needs)
     returns
-    choose-by-requires
+    choose-in-requires
     (λ c. search needs)
-    flip-core-requires
+    flip-kept-requires
     (λ c. search needs)
     stamp-requires
     (λ c. search needs)
@@ -70,6 +69,7 @@ flip-in-spec =
     (λ c. search needs)
     (λ c. search needs)
     returns-2
+    (λ c. search needs)
     (λ c. search needs)
     (λ c. search needs)
     returns-3)

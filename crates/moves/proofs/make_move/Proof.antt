@@ -3,7 +3,6 @@
 use borrow.Author.Needs.{needs}
 use Prim.Native.Nat.{_<_}
 use native.Mathlib.Omega.{arith}
-use mathlib.Core.Path.{refl}
 use Rattle.recount.proofs.Laid.{tables-long, clauses-few}
 use Rattle.moves.proofs.Moving.{tally-room, unsatisfied-few, picked-within, picked-uses, picked-moves, gone-moves}
 use Rattle.moves.proofs.make_move.Statement.{statement}
@@ -60,7 +59,7 @@ returns-2 c =
     let k = b .before .before in
     let i = k .before in
     let at = i .before .before .before .before .before .before .before .before in
-    gone-moves (at .pre .0) _ _ _ (i .index .ensures) (k .pick .ensures) _ (at .pre .2) (b .p2 .given .1) refl refl refl
+    gone-moves (at .pre .0) _ _ _ (i .index .ensures) (k .pick .ensures) _ (at .pre .2) (b .p2 .given .1)
 
 pub make-move-spec : {M : Type 1} → statement M
 make-move-spec =

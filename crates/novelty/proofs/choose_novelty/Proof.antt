@@ -5,7 +5,8 @@ use native.Mathlib.Omega.{arith}
 use mathlib.Core.Path.{_≡_, refl, sym, _∙_, subst}
 use Rattle.recount.proofs.Laid.{tables-long, variables-word}
 use Rattle.numbers.proofs.Taking.{picked-at}
-use Rattle.choice.specs.Outcome.{ToChoose, Chooses}
+use Rattle.picking.specs.Outcome.{Chooses}
+use Rattle.choice.specs.Outcome.{ToChoose}
 use Rattle.choice.proofs.Choosing.{still-to-choose}
 use Rattle.novelty.proofs.Choosing.{by-walk, by-rank, chance-gone, listed-after, marked-within}
 use Rattle.novelty.proofs.choose_novelty.Statement.{statement}

@@ -21,40 +21,40 @@ returns c =
     let b = c .before .before .before .before in
     let i = b .before .before in
     let at = i .before .before .before .before .before .before .before in
-    no-start _ (at .pre .0) (at .pre .2) (i .index .ensures) (b .start .ensures) _ (at .pre .1) (c .enum-told .given .1) refl refl refl
+    no-start _ (at .pre .0) (at .pre .2) (at .pre .3) (i .index .ensures) (b .start .ensures) _ (at .pre .1) (c .enum-told .given .1) refl refl refl
 
 hold-locks-requires : tie.Need-hold-locks-requires
 hold-locks-requires c κs =
     let at = c .before .before .before .before .before .before .before .before .before .before .before .before .before .before .before in
-    started-holdable _ (at .pre .0) (at .pre .2) (c .before .before .before .before .before .before .before .before .index .ensures) (c .before .before .before .before .before .before .start .ensures) (c .before .before .after .given .1) (c .before .before .before .before .before .assignment .given)
+    started-holdable _ (at .pre .0) (at .pre .2) (at .pre .3) (c .before .before .before .before .before .before .before .before .index .ensures) (c .before .before .before .before .before .before .start .ensures) (c .before .before .after .given .1) (c .before .before .before .before .before .assignment .given)
 
-open-core-requires : tie.Need-open-core-requires
-open-core-requires c κs =
+open-kept-requires : tie.Need-open-kept-requires
+open-kept-requires c κs =
     let at = c .before .before .before .before .before .before .before .before .before .before .before .before .before .before .before .before .before .before .before .before in (
-      started-ready _ (at .pre .0) (at .pre .2) (c .before .before .before .before .before .before .before .before .before .before .before .before .before .index .ensures) (c .before .before .before .before .before .before .before .before .before .before .before .start .ensures) (c .before .before .before .before .before .before .before .after .given .1) (c .before .before .before .before .hold-locks .ensures) (c .before .before .before .assignment2 .given)
+      started-ready _ (at .pre .0) (at .pre .2) (at .pre .3) (c .before .before .before .before .before .before .before .before .before .before .before .before .before .index .ensures) (c .before .before .before .before .before .before .before .before .before .before .before .start .ensures) (c .before .before .before .before .before .before .before .after .given .1) (c .before .before .before .before .hold-locks .ensures) (c .before .before .before .assignment2 .given)
           (c .before .before .before .before .before .before .before .before .before .before .assignment .given),
-      at .pre .0 .room,
+      at .pre .3 .sized,
     )
 
 clear-stamps-requires : tie.Need-clear-stamps-requires
-clear-stamps-requires c κs = let at = c .before .before .before .before .before .before .before .before .before .before .before .before .before .before .before .before .before .before .before .before .before .before .before .before in at .pre .0 .stamps
+clear-stamps-requires c κs = let at = c .before .before .before .before .before .before .before .before .before .before .before .before .before .before .before .before .before .before .before .before .before .before .before .before in omega (arith, at .pre .0 .columns)
 
 make-flips-requires : tie.Need-make-flips-requires
 make-flips-requires c κs =
     let at = c .before .before .before .before .before .before .before .before .before .before .before .before .before .before .before .before .before .before .before .before .before .before .before .before .before .before .before .before .before .before in
-    let u = started-uses _ (at .pre .0) (at .pre .2) (c .before .before .before .before .before .before .before .before .before .before .before .before .before .before .before .before .before .before .before .before .before .before .before .index .ensures) (c .before .before .before .before .before .before .before .before .before .before .before .before .before .before .before .before .before .before .before .before .before .start .ensures) (c .before .before .before .before .before .before .before .before .before .before .before .before .before .before .before .before .before .after .given .1) in (
-      started-walking _ (at .pre .0) (at .pre .2) (c .before .before .before .before .before .before .before .before .before .before .before .before .before .before .before .before .before .before .before .before .before .before .before .index .ensures) (c .before .before .before .before .before .before .before .before .before .before .before .before .before .before .before .before .before .before .before .before .before .start .ensures) (c .before .before .before .before .before .before .before .before .before .before .before .before .before .before .before .before .before .after .given .1) (c .before .before .before .before .before .before .before .before .before .before .before .before .before .before .hold-locks .ensures) (c .before .before .before .before .before .before .before .before .before .before .before .before .before .assignment2 .given)
-          (c .before .before .before .before .before .before .before .before .before .before .before .before .before .before .before .before .before .before .before .before .assignment .given) (c .before .before .before .before .before .before .before .before .before .open-core .ensures) (c .before .before .before .before .before .clear-stamps .ensures),
+    let u = started-uses _ (at .pre .0) (at .pre .2) (at .pre .3) (c .before .before .before .before .before .before .before .before .before .before .before .before .before .before .before .before .before .before .before .before .before .before .before .index .ensures) (c .before .before .before .before .before .before .before .before .before .before .before .before .before .before .before .before .before .before .before .before .before .start .ensures) (c .before .before .before .before .before .before .before .before .before .before .before .before .before .before .before .before .before .after .given .1) in (
+      started-walking _ (at .pre .0) (at .pre .2) (at .pre .3) (c .before .before .before .before .before .before .before .before .before .before .before .before .before .before .before .before .before .before .before .before .before .before .before .index .ensures) (c .before .before .before .before .before .before .before .before .before .before .before .before .before .before .before .before .before .before .before .before .before .start .ensures) (c .before .before .before .before .before .before .before .before .before .before .before .before .before .before .before .before .before .after .given .1) (c .before .before .before .before .before .before .before .before .before .before .before .before .before .before .hold-locks .ensures) (c .before .before .before .before .before .before .before .before .before .before .before .before .before .assignment2 .given)
+          (c .before .before .before .before .before .before .before .before .before .before .before .before .before .before .before .before .before .before .before .before .assignment .given) (c .before .before .before .before .before .before .before .before .before .open-kept .ensures) (c .before .before .before .before .before .clear-stamps .ensures),
       u .1,
       u .2,
-      started-stamps _ (at .pre .0) (at .pre .2) (c .before .before .before .before .before .before .before .before .before .before .before .before .before .before .before .before .before .before .before .before .before .before .before .index .ensures) (c .before .before .before .before .before .before .before .before .before .before .before .before .before .before .before .before .before .before .before .before .before .start .ensures) (c .before .before .before .before .before .before .before .before .before .before .before .before .before .before .before .before .before .after .given .1) (c .before .before .before .before .before .before .before .before .before .before .before .before .before .before .hold-locks .ensures) (c .before .before .before .before .before .before .before .before .before .before .before .before .before .assignment2 .given) (c .before .before .before .before .before .before .before .before .before .before .before .before .before .before .before .before .before .before .before .before .assignment .given) (c .before .before .before .before .before .before .before .before .before .open-core .ensures) (c .before .before .before .before .before .clear-stamps .ensures),
+      started-stamps _ (at .pre .0) (at .pre .2) (at .pre .3) (c .before .before .before .before .before .before .before .before .before .before .before .before .before .before .before .before .before .before .before .before .before .before .before .index .ensures) (c .before .before .before .before .before .before .before .before .before .before .before .before .before .before .before .before .before .before .before .before .before .start .ensures) (c .before .before .before .before .before .before .before .before .before .before .before .before .before .before .before .before .before .after .given .1) (c .before .before .before .before .before .before .before .before .before .before .before .before .before .before .hold-locks .ensures) (c .before .before .before .before .before .before .before .before .before .before .before .before .before .assignment2 .given) (c .before .before .before .before .before .before .before .before .before .before .before .before .before .before .before .before .before .before .before .before .assignment .given) (c .before .before .before .before .before .before .before .before .before .open-kept .ensures) (c .before .before .before .before .before .clear-stamps .ensures),
     )
 
 returns-2 : tie.Need-returns-2
 returns-2 c =
     let at = c .before .before .before .before .before .before .before .before .before .before .before .before .before .before .before .before .before .before .before .before .before .before .before .before .before .before .before .before .before .before .before .before .before .before .before .before .before in
-    tried-once _ (at .pre .0) (at .pre .2) (c .before .before .before .before .before .before .before .before .before .before .before .before .before .before .before .before .before .before .before .before .before .before .before .before .before .before .before .before .before .before .index .ensures) (c .before .before .before .before .before .before .before .before .before .before .before .before .before .before .before .before .before .before .before .before .before .before .before .before .before .before .before .before .start .ensures) (c .before .before .before .before .before .before .before .before .before .before .before .before .before .before .before .before .before .before .before .before .before .before .before .before .after .given .1) (c .before .before .before .before .before .before .before .before .before .before .before .before .before .before .before .before .before .before .before .before .before .hold-locks .ensures) (c .before .before .before .before .before .before .before .before .before .before .before .before .before .before .before .before .before .before .before .before .assignment2 .given)
-    (c .before .before .before .before .before .before .before .before .before .before .before .before .before .before .before .before .before .before .before .before .before .before .before .before .before .before .before .assignment .given) (c .before .before .before .before .before .before .before .before .before .before .before .before .before .before .before .before .open-core .ensures) (c .before .before .before .before .before .before .before .before .before .before .before .before .clear-stamps .ensures) _ (c .before .before .before .before .before .before .make-flips .ensures)
+    tried-once _ (at .pre .0) (at .pre .2) (at .pre .3) (c .before .before .before .before .before .before .before .before .before .before .before .before .before .before .before .before .before .before .before .before .before .before .before .before .before .before .before .before .before .before .index .ensures) (c .before .before .before .before .before .before .before .before .before .before .before .before .before .before .before .before .before .before .before .before .before .before .before .before .before .before .before .before .start .ensures) (c .before .before .before .before .before .before .before .before .before .before .before .before .before .before .before .before .before .before .before .before .before .before .before .before .after .given .1) (c .before .before .before .before .before .before .before .before .before .before .before .before .before .before .before .before .before .before .before .before .before .hold-locks .ensures) (c .before .before .before .before .before .before .before .before .before .before .before .before .before .before .before .before .before .before .before .before .assignment2 .given)
+    (c .before .before .before .before .before .before .before .before .before .before .before .before .before .before .before .before .before .before .before .before .before .before .before .before .before .before .before .assignment .given) (c .before .before .before .before .before .before .before .before .before .before .before .before .before .before .before .before .open-kept .ensures) (c .before .before .before .before .before .before .before .before .before .before .before .before .clear-stamps .ensures) _ (c .before .before .before .before .before .before .make-flips .ensures)
 
 pub try-once-spec : {M : Type 1} → statement M
 try-once-spec =
@@ -67,7 +67,7 @@ try-once-spec =
     (λ c. search needs)
     returns
     hold-locks-requires
-    open-core-requires
+    open-kept-requires
     clear-stamps-requires
     make-flips-requires
     (λ c. search needs)

@@ -5,7 +5,7 @@ use native.Mathlib.Omega.{arith}
 use mathlib.Core.Path.{sym}
 use lib.Seq.{length-take-le}
 use Rattle.recount.proofs.Laid.{tables-long, variables-word, run-readable, rules-inside}
-use Rattle.free.proofs.Marking.{still-ready, clause-marked}
+use Rattle.choice.proofs.Marking.{still-ready, clause-marked}
 use Rattle.choice.proofs.marks.mark_clause.Statement.{statement}
 use Rattle.choice.proofs.marks.mark_clause.Tie as tie
 

@@ -3,7 +3,7 @@
 use native.Mathlib.Omega.{arith}
 use mathlib.Core.Path.{sym, _∙_}
 use borrow.Author.Tests.{eq-eqb, ne-eqb}
-use Rattle.free.specs.Marks.{markBy}
+use Rattle.choice.specs.Marks.{markBy}
 use Rattle.choice.proofs.marks.mark_of.Statement.{statement}
 use Rattle.choice.proofs.marks.mark_of.Tie as tie
 

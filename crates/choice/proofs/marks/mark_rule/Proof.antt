@@ -3,7 +3,7 @@
 use borrow.Author.Needs.{needs}
 use native.Mathlib.Omega.{arith}
 use Rattle.recount.proofs.Laid.{rules-few, entry-inside}
-use Rattle.free.proofs.Marking.{rule-markable, rule-marked}
+use Rattle.choice.proofs.Marking.{rule-markable, rule-marked}
 use Rattle.choice.proofs.marks.mark_rule.Statement.{statement}
 use Rattle.choice.proofs.marks.mark_rule.Tie as tie
 

@@ -8,8 +8,8 @@ use lib.ListN.{length}
 use Rattle.plpb.specs.Lists.{row}
 use Rattle.words.specs.Words.{wordAt}
 use Rattle.format.specs.Tables.{ruleOf}
-use Rattle.free.specs.Marks.{markBy, markRules}
-use Rattle.free.proofs.Marking.{still-ready, rules-go, rules-end}
+use Rattle.choice.specs.Marks.{markBy, markRules}
+use Rattle.choice.proofs.Marking.{still-ready, rules-go, rules-end}
 use Rattle.choice.proofs.marks.mark_rules.Statement.{statement}
 use Rattle.choice.proofs.marks.mark_rules.Tie as tie
 

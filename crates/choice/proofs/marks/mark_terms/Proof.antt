@@ -9,8 +9,8 @@ use Rattle.plpb.specs.Lists.{row}
 use Rattle.words.specs.Words.{wordAt}
 use Rattle.format.specs.Tables.{termOf}
 use Rattle.rules.specs.Terms.{termsAt}
-use Rattle.free.specs.Marks.{markBy, markTerms}
-use Rattle.free.proofs.Marking.{has-mark, terms-start, terms-go, terms-end}
+use Rattle.choice.specs.Marks.{markBy, markTerms}
+use Rattle.choice.proofs.Marking.{has-mark, terms-start, terms-go, terms-end}
 use Rattle.choice.proofs.marks.mark_terms.Statement.{statement}
 use Rattle.choice.proofs.marks.mark_terms.Tie as tie
 

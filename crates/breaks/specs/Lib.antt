@@ -1,2 +1,0 @@
--- What the test for a break says.
-pub mod Breaks

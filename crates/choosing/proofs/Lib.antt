@@ -1,0 +1,2 @@
+-- Laws of the choice that the settings name.
+pub mod Choosing

@@ -1,0 +1,2 @@
+-- What a choice leaves of the marks.
+pub mod Spared

@@ -1,0 +1,3 @@
+-- Laws of a run that breaks nothing, and of sums along a run.
+pub mod Free
+pub mod Sums

@@ -1,0 +1,2 @@
+-- Laws of a stretch of a variable's run.
+pub mod Stretch

@@ -1,0 +1,2 @@
+-- A stretch of a variable's run.
+pub mod Stretch

@@ -1,0 +1,2 @@
+-- Laws of a clause's rules beside the places of its group.
+pub mod Merging

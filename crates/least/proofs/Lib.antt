@@ -1,0 +1,2 @@
+-- Laws of the least break count.
+pub mod Leading

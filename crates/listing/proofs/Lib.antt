@@ -1,0 +1,3 @@
+-- Laws of the lists of the clauses' variables.
+pub mod Reaching
+pub mod Listing

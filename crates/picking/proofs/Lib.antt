@@ -1,0 +1,2 @@
+-- Laws of a pick among listed variables.
+pub mod Picking

@@ -1,0 +1,2 @@
+-- What a choice answers, as the walk has it.
+pub mod Outcome

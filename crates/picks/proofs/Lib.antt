@@ -1,0 +1,3 @@
+-- Laws of the lists and the picks.
+pub mod Room
+pub mod Noting

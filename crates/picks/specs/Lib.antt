@@ -1,0 +1,2 @@
+-- The variables to pick among.
+pub mod Picks

@@ -1,0 +1,2 @@
+-- Laws of the choice over a clause's list.
+pub mod Choosing

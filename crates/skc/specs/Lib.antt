@@ -1,0 +1,2 @@
+-- What the SKC choice needs.
+pub mod Choosing

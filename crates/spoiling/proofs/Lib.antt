@@ -1,0 +1,2 @@
+-- Laws of what a flip spoils along the run.
+pub mod Counting

@@ -1,0 +1,2 @@
+-- What a flip spoils, along the variable's run.
+pub mod Along

@@ -1,0 +1,2 @@
+-- How far the weights have come.
+pub mod Weighing
