@@ -48,8 +48,8 @@ static int compare(const char *name, const char *choice, planner_settings s, siz
     static const char *const endings[] = {"refused", "floor", "ended", "none", "short-found", "short-none"};
     static double proved[MOST_ROUNDS], tuned[MOST_ROUNDS];
     pl_settings t = {s.noise, s.tries, s.flips, s.mode, s.heuristic, s.chance, PL_LOCKS | PL_UNBIASED | PL_CUT | PL_NOVELTY};
-    planner_searched p;
-    pl_found q;
+    planner_searched p = {0};
+    pl_found q = {0};
     int n = 0;
     if (planner_plan_load(&plan, file, length).refusal || pl_load(file, length, &tuned_plan, sizeof tuned_plan, t.features).code)
         return 0;

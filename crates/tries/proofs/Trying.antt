@@ -44,7 +44,7 @@ use Rattle.moves.proofs.Moving.{unsatisfied-word}
 use Rattle.format.specs.Layout.{tableSize, unsatisfiedAt, markSize}
 use Rattle.stamps.specs.Stamps.{Stamped, unstamped}
 use Rattle.stamps.proofs.Stamping.{stamped-none, cleared-size, cleared-beyond}
-use Rattle.columns.specs.Layout.{columnSize, columnWordCount, keptSize, needAt, totalAt, weightAt}
+use Rattle.columns.specs.Layout.{columnSize, columnWordCount, keptSize, needAt, totalAt, hintAt}
 use Rattle.columns.specs.Columns.{Listed, Sized as RulesSized, Weighed}
 use Rattle.columns.specs.Frames.{Only}
 use Rattle.columns.proofs.Marks.{Behind, weighed-behind, listed-behind, dropped-behind, dropped-more}
@@ -441,7 +441,7 @@ module _ {s : Settings} {tables terms numbers : List ℕ} {begun before : ℕ} {
 
 module _ {tables terms : List ℕ} {w : Work} (k : Startable tables terms w) {tallies marks : List ℕ}
     (g : RulesSized (planOfTables tables terms) tallies × Weighed (planOfTables tables terms) marks × Listed (planOfTables tables terms) marks
-    × Only (totalAt 0) (needAt 0) (w .tallies) tallies × Only (weightAt 0) columnWordCount (w .marks) marks) where
+    × Only (totalAt 0) (needAt 0) (w .tallies) tallies × Only (hintAt 1) columnWordCount (w .marks) marks) where
   pub prepared-start : Startable tables terms (record { assignment = w .assignment; tallies = tallies; marks = marks })
   prepared-start = record { ready = k .ready; room = omega (arith, k .room, g .3 .size); columns = omega (arith, k .columns, g .4 .size) }
 
