@@ -1,2 +1,1 @@
--- What a choice leaves of the marks.
-pub mod Spared
+-- Nothing of its own: the contracts cite the definitions of the crates below.

@@ -1,19 +1,18 @@
-// The choice that the settings name: SKC over the clause's list, or Novelty+ among the clause's variables, which are marked for it.
+// The choice that the settings name, SKC or Novelty+, over the clause's list.
 ghost use Rattle.plpb.specs.Choice.{choiceBy};
 ghost use Rattle.format.specs.Tables.{planOfTables};
 ghost use Rattle.numbers.specs.Numbers.{numbersOf};
 ghost use Rattle.settings.specs.Settings.{heuristicOf, settingsOf};
 ghost use Rattle.stamps.specs.Stamps.{stampIn};
+ghost use Rattle.picks.specs.Picks.{Noted};
 ghost use Rattle.picking.specs.Outcome.{Chooses};
 ghost use Rattle.skc.specs.Choosing.{ofClause, lentTry, ToChoose};
-ghost use Rattle.choosing.specs.Spared.{Spared};
-use choice::marks::mark_choosable;
 use novelty::choose_novelty;
 use picking::Chosen;
 use settings::Settings;
 use skc::choose;
 
-// Of the marks, the numbers of the last flips, the weights and the lists stay as they are.
+// Of the marks only hints and picks change.
 pub fn choose_in(
     tables: &[u8],
     terms: &[u8],
@@ -31,7 +30,7 @@ pub fn choose_in(
         (lentTry (now (tables .entry)) (now (terms .entry)) (now (assignment .entry))) (stampIn (now (marks .entry)))
         (ofClause (now (tables .entry)) (now (terms .entry)) c)) (numbersOf (now (numbers .entry))) used
         (planOfTables (now (tables .entry)) (now (terms .entry)) .variables) r
-        × Spared (now (marks .entry)) (now (marks .exit)) ⌝ }
+        × Noted (now (marks .entry)) (now (marks .exit)) ⌝ }
 {
     if s.heuristic == 0 {
         return choose(
@@ -46,6 +45,15 @@ pub fn choose_in(
             s,
         );
     }
-    mark_choosable(tables, terms, c, marks);
-    choose_novelty(tables, terms, assignment, numbers, used, s, marks)
+    choose_novelty(
+        tables,
+        terms,
+        assignment,
+        tallies,
+        marks,
+        c,
+        numbers,
+        used,
+        s,
+    )
 }

@@ -1,11 +1,11 @@
 -- Laws of a move: the tallies say which clause a pick takes, what a flip needs and what it leaves.
 -- Assumes nothing.
-use Prim.Native.Nat.{ℕ, zero, suc, _+_, _/_, _≤_, _<_}
+use Prim.Native.Nat.{ℕ, zero, suc, _+_, _*_, _/_, _≤_, _<_}
 use native.Mathlib.Omega.{arith}
 use mathlib.Core.Path.{_≡_, refl, sym, ap, _∙_, subst}
 use mathlib.Core.Bool.{true, false}
 use mathlib.Core.List.{List, [], _∷_}
-use lib.ListN.{length, getD, drop}
+use lib.ListN.{length, getD, take, drop}
 use lib.Dec.{T, ltb, lt→ltb}
 use borrow.Author.Tests.{eq-eqb, ne-eqb}
 use Rattle.plpb.specs.Lists.{_and_, all, count, keep, isEmpty, row}
@@ -18,7 +18,8 @@ use Rattle.plpb.specs.Try.{Try, turnOver}
 use Rattle.plpb.specs.Novelty.{lastFlip}
 use Rattle.plpb.specs.Choice.{choosable, pickFrom, choiceBy, choice}
 use Rattle.plpb.specs.Search.{stuck, turned as turnedTo, turning, move}
-use Rattle.words.specs.Words.{wordAt}
+use Rattle.words.specs.Words.{numAt, wordAt}
+use Rattle.words.proofs.Words.{numAt-take}
 use Rattle.format.specs.Tables.{planOfTables}
 use Rattle.tallies.specs.Layout.{tallySize, bitsOf}
 use Rattle.tallies.specs.Calls.{turned}
@@ -44,11 +45,11 @@ use Rattle.numbers.proofs.Runs.{bind-ends, bind-short, pickFrom-taken, pickFrom
 use Rattle.picking.specs.declared.Chosen.{Chosen}
 use Rattle.picking.specs.declared.Chosen.the-variants as chosen
 use Rattle.picking.specs.Outcome.{outcomeOf, usedBy, Among, Chooses}
-use Rattle.columns.specs.Layout.{columnSize, keptSize, listCountAt}
-use Rattle.columns.proofs.Marks.{Behind, behind-more, wrote-behind, weighed-behind, listed-behind}
+use Rattle.columns.specs.Layout.{columnSize, keptSize, listCountAt, hintAt, weightAt}
+use Rattle.columns.proofs.Marks.{Behind, dropped-behind, dropped-more, behind-more, wrote-behind, weighed-behind, listed-behind}
 use Rattle.keeping.specs.Flip.{Keepable, Kept}
 use Rattle.skc.specs.Choosing.{ToChoose}
-use Rattle.choosing.specs.Spared.{Spared}
+use Rattle.picks.specs.Picks.{Noted}
 use Rattle.moves.specs.declared.Moved.{Moved}
 use Rattle.moves.specs.declared.Moved.the-variants as moved
 use Rattle.lending.specs.Work.{Work}
@@ -64,6 +65,28 @@ rows-within p i (suc k) l h = and-both _ _ (and-both (ltb 0 i) (ltb i (suc (p .v
 choosable-variables : (p : Plan) (c : Clause) → T (all (isVariable p) (choosable p c))
 unfolding choosable
 choosable-variables p c = all-still _ (isVariable p) (row 1 (p .variables)) (rows-within p 1 (p .variables) (omega arith) (omega arith))
+
+-- ---- what a choice leaves of the marks: the numbers of the last flips, the weights and the lists, and what stands past all of them
+
+record Spared (s t : List ℕ) : Type 0 where
+  size : length t ≡ length s
+  stamps : (x : ℕ) → 1 ≤ x → x ≤ 512 → stampIn t x ≡ stampIn s x
+  behind : (i : ℕ) → weightAt 0 ≤ i → wordAt t i ≡ wordAt s i
+  beyond : drop columnSize t ≡ drop columnSize s
+
+stamp-before : (s t : List ℕ) (x : ℕ) → x ≤ 512 → take (4 * hintAt 1) t ≡ take (4 * hintAt 1) s → stampIn t x ≡ stampIn s x
+unfolding wordAt
+stamp-before s t x h e =
+    let i = 4 * (127 + x) in
+    sym (numAt-take 4 (4 * hintAt 1) t i (omega arith)) ∙ ap (λ u. numAt 4 u i) e ∙ numAt-take 4 (4 * hintAt 1) s i (omega arith)
+
+noted-spared : {s t : List ℕ} → Noted s t → Spared s t
+noted-spared {s} {t} n = record {
+  size = n .size;
+  stamps = λ x l h. stamp-before s t x h (n .before);
+  behind = dropped-behind (4 * weightAt 0) (omega arith) (n .size) (n .behind) .same;
+  beyond = dropped-more (4 * weightAt 0) columnSize s t (omega arith) (n .behind);
+}
 
 -- ---- a variable of the clause is chosen and flipped
 
@@ -91,8 +114,8 @@ module _ {walk : Walk ℕ} {ns : List ℕ} {used n : ℕ} {r : Chosen} (h : Choo
     gone-short f fs = h .outcome f fs ∙ ap (λ q. outcomeOf q f fs) e
 
 module _ {tables terms : List ℕ} {w : Work} (k : Walking tables terms w) where
-  pub keepable : {x : ℕ} {marks : List ℕ} → (1 ≤ x) × (x ≤ planOfTables tables terms .variables) → Spared (w .marks) marks → Keepable tables terms marks (w .assignment) (w .tallies) x
-  keepable b o = record {
+  pub keepable : {x : ℕ} {marks : List ℕ} → (1 ≤ x) × (x ≤ planOfTables tables terms .variables) → Noted (w .marks) marks → Keepable tables terms marks (w .assignment) (w .tallies) x
+  keepable b n = let o = noted-spared n in record {
     flip = record { ready = k .ready; bits = k .bits; low = b .0; high = b .1; fresh = k .fresh };
     sized = k .prepared .sized;
     needed = k .needed;
@@ -143,7 +166,10 @@ module _ {tables terms : List ℕ} (numbers : List ℕ) (used c : ℕ) {w : Work
 
   module _ (s : Settings) (n : some ≡ 0 → ⊥) {r : Chosen}
       (h : Chooses (choiceBy (s .heuristic) s (planOfTables tables terms) (tryIn tables terms [] w) (stampIn (w .marks)) (choosable (planOfTables tables terms) (getD (planOfTables tables terms .clauses) c []))) (numbersOf numbers) used (planOfTables tables terms .variables) r)
-      {marks : List ℕ} (o : Spared (w .marks) marks) where
+      {marks : List ℕ} (noted : Noted (w .marks) marks) where
+    o : Spared (w .marks) marks
+    o = noted-spared noted
+
     filled : isEmpty among ≡ false
     filled = empty-by-length among ∙ ne-eqb (length among) 0 (λ e. n (omega (arith, m)))
 

@@ -8,21 +8,20 @@ use mathlib.Core.Path.{_≡_, refl, sym, ap, ap₂, _∙_, subst}
 use lib.Dec.{T, ltb, eqb}
 use lib.ListN.{length, getD}
 use borrow.Author.Tests.{lt-ltb, ltb-true}
-use Rattle.plpb.specs.Lists.{_and_, keep, all, row}
-use Rattle.plpb.specs.Plan.{Plan, Assignment, isVariable}
+use Rattle.plpb.specs.Lists.{_and_, all, row}
+use Rattle.plpb.specs.Plan.{Clause, Plan, Assignment, isVariable}
 use Rattle.plpb.specs.Numbers.{takePick, taken, tooFew}
 use Rattle.plpb.specs.Walk.{Walk, done, pick, _>>=_, Mark, at, drawn, ends, short, run}
 use Rattle.plpb.specs.Settings.{Settings}
 use Rattle.plpb.specs.Novelty.{ranked, latest, isNewest}
-use Rattle.plpb.specs.Choice.{pickFrom, rankedChoice, noveltyChoice}
-use Rattle.plpb.proofs.Lists.{and-left, and-right, and-both, T-true, is-true}
+use Rattle.plpb.specs.Choice.{choosable, pickFrom, rankedChoice, noveltyChoice}
+use Rattle.plpb.proofs.Lists.{and-left, and-right, and-both, all-still, T-true, is-true}
 use Rattle.plpb.proofs.Locks.{all-in-row, variable-range}
 use Rattle.plpb.proofs.Novelty.{length-ranked, all-ranked}
 use Rattle.numbers.specs.declared.Picked.{Picked}
 use Rattle.numbers.specs.declared.Picked.the-variants as picked
 use Rattle.numbers.specs.Numbers.{numbersOf}
 use Rattle.numbers.specs.Taking.{takenOf}
-use Rattle.numbers.specs.Finding.{marked}
 use Rattle.numbers.proofs.Taking.{length-numbersOf, picked-at, picked-short, pick-uses, pick-gone}
 use Rattle.numbers.proofs.Runs.{bind-ends, bind-short, run-pick-taken, run-pick-short, run-true, run-false}
 use Rattle.picking.specs.declared.Chosen.{Chosen}
@@ -162,19 +161,10 @@ module _ (s : Settings) {p : Plan} {a : Assignment} {last : ℕ → ℕ} {xs : L
 
 -- ---- those to choose from are variables of the plan
 
-all-kept : (q r : ℕ → Bool) (xs : List ℕ) → T (all q xs) → T (all q (keep r xs))
-unfolding all keep
-all-kept q r [] h = tt
-all-kept q r (x ∷ xs) h = either (r x) (all-kept q r xs (and-right _ _ h))
-  where
-    either : (b : Bool) → T (all q (keep r xs)) → T (all q (cond b (x ∷ keep r xs) (keep r xs)))
-    either true k = and-both _ _ (and-left _ _ h) k
-    either false k = k
-
 rows-within : (p : Plan) → T (all (isVariable p) (row 1 (p .variables)))
 unfolding isVariable
 rows-within p = all-in-row _ 1 (p .variables) (λ x l u. and-both _ _ (T-true (lt-ltb 0 x l)) (T-true (lt-ltb x (suc (p .variables)) (omega arith))))
 
-pub marked-within : (p : Plan) (marks : List ℕ) (v : ℕ) → T (all (isVariable p) (marked marks (p .variables) v))
-unfolding marked
-marked-within p marks v = all-kept (isVariable p) _ (row 1 (p .variables)) (rows-within p)
+pub list-within : (p : Plan) (k : Clause) → T (all (isVariable p) (choosable p k))
+unfolding choosable
+list-within p k = all-still _ (isVariable p) (row 1 (p .variables)) (rows-within p)

@@ -11,26 +11,22 @@ ghost use Rattle.plpb.specs.Settings.{Settings as Set};
 ghost use Rattle.plpb.specs.Novelty.{ranked};
 ghost use Rattle.plpb.specs.Choice.{rankedChoice, noveltyChoice};
 ghost use Rattle.format.specs.Tables.{planOfTables};
-ghost use Rattle.format.specs.Layout.{markSize};
-ghost use Rattle.recount.specs.Core.{Ready};
 ghost use Rattle.numbers.specs.Numbers.{numbersOf};
-ghost use Rattle.numbers.specs.Finding.{marked};
 ghost use Rattle.settings.specs.Settings.{settingsOf};
 ghost use Rattle.stamps.specs.Stamps.{stampIn};
 ghost use Rattle.effects.specs.Kept.{lentBits};
 ghost use Rattle.ranking.specs.Ranking.{Ranks};
 ghost use Rattle.picking.specs.Outcome.{Chooses};
-ghost use Rattle.choice.specs.Outcome.{ToChoose};
+ghost use Rattle.skc.specs.Choosing.{ofClause, ToChoose};
 ghost use Rattle.novelty.specs.Noise.{asksNoise};
-use choice::choose::choose_any;
 use numbers::Picked;
 use numbers::pick;
 use picking::Chosen;
 use picking::is_below;
 use ranking::Top;
-use ranking::rank_marked;
+use ranking::rank_clause;
 use settings::Settings;
-use words::index;
+use skc::choose_any;
 
 // Whether noise decides: the first is not alone, and it is the one most recently flipped.
 fn asks_noise(top: Top) -> bool
@@ -81,28 +77,28 @@ pub fn choose_novelty(
     tables: &[u8],
     terms: &[u8],
     assignment: &[u8],
+    tallies: &[u8],
+    marks: &[u8],
+    c: usize,
     numbers: &[u8],
     used: usize,
     s: Settings,
-    marks: &[u8],
 ) -> Chosen
-    requires { ⌜ Ready (now tables) (now terms) (now assignment)
-        × ToChoose (now numbers) used (planOfTables (now tables) (now terms) .variables) (now marks) × (markSize ≤ length (now marks)) ⌝ }
+    requires { ⌜ ToChoose (now tables) (now terms) (now assignment) (now tallies) (now marks) c (now numbers) used ⌝ }
     ensures { λ r. ⌜ Chooses
         (noveltyChoice (settingsOf s) (planOfTables (now (tables .entry)) (now (terms .entry)))
         (lentBits (now (tables .entry)) (now (terms .entry)) (now (assignment .entry))) (stampIn (now (marks .entry)))
-        (marked (now (marks .entry)) (planOfTables (now (tables .entry)) (now (terms .entry)) .variables) 1)) (numbersOf (now (numbers .entry))) used
+        (ofClause (now (tables .entry)) (now (terms .entry)) c)) (numbersOf (now (numbers .entry))) used
         (planOfTables (now (tables .entry)) (now (terms .entry)) .variables) r ⌝ }
 {
-    let n = index(tables, 0);
     let p = pick(numbers, used, 1000);
     match p {
         Picked::At(r, after) => {
             if is_below(r, s.chance) {
-                choose_any(numbers, after, n, marks)
+                choose_any(tables, terms, assignment, tallies, marks, c, numbers, after)
             } else {
                 choose_ranked(
-                    rank_marked(tables, terms, assignment, marks, n),
+                    rank_clause(tables, terms, assignment, tallies, marks, c),
                     numbers,
                     after,
                     s.noise,

@@ -1,10 +1,9 @@
 -- The clause that a pick among the unsatisfied points at is found by its tally: the k-th word that is 0.
 -- Assumes nothing.
-use Prim.Native.Nat.{ℕ, suc, _+_, _-_, _<_}
+use Prim.Native.Nat.{ℕ, _+_, _<_}
 use native.Mathlib.Omega.{arith}
 use mathlib.Core.Path.{_≡_, sym, ap, _∙_}
-use mathlib.Core.Bool.{Bool, cond}
-use mathlib.Core.List.{List, [], map}
+use mathlib.Core.List.{List, []}
 use lib.Dec.{T, eqb, ltb, ltb→lt}
 use lib.ListN.{length, getD}
 use Rattle.plpb.specs.Lists.{keep, count, row}
@@ -12,26 +11,8 @@ use Rattle.plpb.specs.Plan.{Plan, Assignment, ruleHolds}
 use Rattle.plpb.specs.Tallies.{unsatisfied}
 use Rattle.plpb.proofs.Tallies.{unsatisfied-count}
 use Rattle.words.specs.Words.{wordAt}
-use Rattle.numbers.specs.Finding.{marked, zeroWords}
-use Rattle.numbers.proofs.Keep.{keep-each, keep-map, row-suc, row-below, places, kth-place, place-within}
-
--- ---- marks
-
--- The test of variable i + 1 reads byte i.
-pub mark-here : (marks : List ℕ) (v i e : ℕ) → e ≡ cond (eqb (getD marks i 0) v) 1 0 → e ≡ cond (eqb (getD marks (1 + i - 1) 0) v) 1 0
-mark-here marks v i e h = let s : 1 + i - 1 ≡ i = omega arith in rw s h
-
--- Marks that tell who passes a test give those who do.
-pub marked-by : (marks : List ℕ) (n v : ℕ) (q : ℕ → Bool) → ((i : ℕ) → i < n → eqb (getD marks i 0) v ≡ q (suc i)) → marked marks n v ≡ keep q (row 1 n)
-unfolding marked
-marked-by marks n v q h =
-    ap (keep (λ x. eqb (getD marks (x - 1) 0) v)) (row-suc 0 n)
-    ∙ keep-map (λ x. eqb (getD marks (x - 1) 0) v) suc (row 0 n)
-    ∙ ap (map suc) (keep-each (λ i. ltb i n) (λ i. eqb (getD marks (suc i - 1) 0) v) (λ i. q (suc i)) (row 0 n) agree (row-below 0 n n (omega arith)))
-    ∙ sym (ap (keep q) (row-suc 0 n) ∙ keep-map q suc (row 0 n))
-  where
-    agree : (i : ℕ) → T (ltb i n) → eqb (getD marks (suc i - 1) 0) v ≡ q (suc i)
-    agree i t = let s : suc i - 1 ≡ i = omega arith in rw s (h i (ltb→lt i n t))
+use Rattle.numbers.specs.Finding.{zeroWords}
+use Rattle.numbers.proofs.Keep.{keep-each, row-below, places, kth-place, place-within}
 
 -- ---- unsatisfied clauses
 

@@ -1,4 +1,4 @@
-// Numbers taken from the lent list as the walk asks for them, and the k-th place among those marked or 0, which a pick points at.
+// Numbers taken from the lent list as the walk asks for them, and the k-th of the words that are 0, which a pick points at.
 ghost use mathlib.Core.Path.{_≡_};
 ghost use mathlib.Core.Bool.{cond};
 ghost use mathlib.Core.List.{_++_};
@@ -10,7 +10,7 @@ ghost use Rattle.words.specs.Words.{wordAt};
 ghost use Rattle.format.specs.Assignment.{bitBytes};
 ghost use Rattle.numbers.specs.Numbers.{numbersOf};
 ghost use Rattle.numbers.specs.Taking.{takenOf, Starts};
-ghost use Rattle.numbers.specs.Finding.{marked, zeroWords};
+ghost use Rattle.numbers.specs.Finding.{zeroWords};
 
 // A pick's place and how many numbers are used after it; or how many are used where too few are left.
 pub enum Picked {
@@ -86,45 +86,6 @@ pub fn start(numbers: &[u8], used: usize, n: usize, assignment: &mut [u8]) -> St
     } else {
         Started::Short(used)
     }
-}
-
-// 1 for two equal bytes, to be counted or counted off without a branch.
-fn equal(a: u8, b: u8) -> usize
-    ensures { λ r. ⌜ r ≡ cond (eqb a b) 1 0 ⌝ }
-{
-    if a == b { 1 } else { 0 }
-}
-
-// How many of the variables 1 to n have a mark.
-pub fn count_marked(marks: &[u8], n: usize, value: u8) -> usize
-    requires { ⌜ n ≤ length (now marks) ⌝ }
-    ensures { λ r. ⌜ r ≡ length (marked (now (marks .entry)) n value) ⌝ }
-{
-    let mut count = 0;
-    let mut i = 0;
-    while i < n {
-        count += equal(marks[i], value);
-        i += 1;
-    }
-    count
-}
-
-// The k-th of them, from 0, or 0 where there are not so many.
-pub fn nth(marks: &[u8], n: usize, value: u8, k: usize) -> usize
-    requires { ⌜ n ≤ length (now marks) ⌝ }
-    ensures { λ r. ⌜ r ≡ getD (marked (now (marks .entry)) n value) k 0 ⌝ }
-{
-    let mut left = k;
-    let mut i = 0;
-    while i < n {
-        let here = equal(marks[i], value);
-        if left < here {
-            return i + 1;
-        }
-        left -= here;
-        i += 1;
-    }
-    0
 }
 
 // 1 for a word that is 0.

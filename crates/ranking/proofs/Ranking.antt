@@ -1,23 +1,19 @@
 -- What the code keeps of a ranking: the raised scores stand as the scores do, and one variable more is put where the definition puts it.
 -- Assumes nothing.
-use Prim.Native.Nat.{ℕ, suc, max, min, _+_, _-_, _≤_, _<_}
-use native.Mathlib.Nat.{sub-zero}
+use Prim.Native.Nat.{ℕ, max, min, _+_, _-_, _≤_}
 use native.Mathlib.Omega.{arith}
-use mathlib.Core.Bool.{Bool, true, false, not, cond}
+use mathlib.Core.Bool.{true, false}
 use mathlib.Core.List.{List, [], _∷_}
 use mathlib.Core.Path.{_≡_, refl, sym, ap, ap₂, _∙_}
-use lib.Dec.{ltb, eqb}
+use lib.Dec.{ltb}
 use lib.IntN.{ℤ, pos, negsuc, negℤ, _+ℤ_, _-ℤ_, +ℤ-assoc, +ℤ-comm, -ℤ-+ℤ-cancel, pos-+ℤ-pos}
-use lib.ListN.{getD}
 use lib.Signed.{ltZ}
-use Rattle.plpb.specs.Lists.{_and_, _or_, keep, row}
+use Rattle.plpb.specs.Lists.{_and_, _or_}
 use Rattle.plpb.specs.Plan.{Plan, Assignment}
 use Rattle.plpb.specs.Expansion.{breakCount, makeCount}
 use Rattle.plpb.specs.Count.{cap, given, capped, cappedBreak, cappedMake}
 use Rattle.plpb.specs.Novelty.{score, isOlder, ranksBefore, placed, ranked, latest}
 use Rattle.plpb.proofs.Integers.{ltZ-shift}
-use Rattle.numbers.specs.Finding.{marked}
-use Rattle.numbers.proofs.Keep.{row-more, row-end}
 use Rattle.ranking.specs.declared.Standing.{Standing}
 use Rattle.ranking.specs.declared.Top.{Top}
 use Rattle.ranking.specs.Ranking.{raisedScore, Stands, olderThan, comesBefore, Tops, Ranks}
@@ -111,30 +107,3 @@ module _ {p : Plan} {a : Assignment} {last : ℕ → ℕ} where
 pub ranks-none : (p : Plan) (a : Assignment) (last : ℕ → ℕ) {xs : List ℕ} {t : Top} → xs ≡ [] → t .count ≡ 0 → t .latest ≡ 0 → Ranks p a last xs t
 unfolding Tops ranked latest
 ranks-none p a last e c l = rw e (record { tops = c; newest = l })
-
--- ---- the marked variables, from the last on
-
--- Those behind a place.
-abbrev pub behind : List ℕ → ℕ → ℕ → List ℕ
-behind marks n place = keep (λ x. eqb (getD marks (x - 1) 0) 1) (row (1 + place) (n - place))
-
-pub behind-last : (marks : List ℕ) (n : ℕ) → behind marks n n ≡ []
-unfolding keep
-behind-last marks n = ap (keep (λ x. eqb (getD marks (x - 1) 0) 1)) (row-end (1 + n) n n (omega arith))
-
-pub behind-more : (marks : List ℕ) (n left : ℕ) → 0 < left → left ≤ n
-    → cond (eqb (getD marks (left - 1) 0) 1) (suc (left - 1) ∷ behind marks n left) (behind marks n left) ≡ behind marks n (left - 1)
-unfolding keep
-behind-more marks n left h k =
-    let i = left - 1 in
-    let next : i + 1 ≡ left = omega arith in
-    let place : 1 + i - 1 ≡ i = omega arith in
-    let one : suc i ≡ 1 + i = omega arith in
-    let from : row (1 + i) (n - i) ≡ (1 + i) ∷ row (1 + left) (n - left) = row-more 1 n i (omega arith) ∙ ap (λ j. (1 + i) ∷ row (1 + j) (n - j)) next in
-    let q : ℕ → Bool = (λ x. eqb (getD marks (x - 1) 0) 1) in
-    ap₂ (λ j b. cond b (j ∷ keep q (row (1 + left) (n - left))) (keep q (row (1 + left) (n - left)))) one (ap (λ j. eqb (getD marks j 0) 1) (sym place))
-    ∙ sym (ap (keep q) from)
-
-pub behind-first : (marks : List ℕ) (n : ℕ) → behind marks n 0 ≡ marked marks n 1
-unfolding marked
-behind-first marks n = ap (λ k. keep (λ x. eqb (getD marks (x - 1) 0) 1) (row 1 k)) (sub-zero n)

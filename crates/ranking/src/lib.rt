@@ -1,25 +1,27 @@
 // How Novelty+ ranks the variables to choose from: by what their flip mends less what it breaks, then by how long they are unflipped, then by number.
 // Of the ranking only the first two are kept.
 ghost use mathlib.Core.Path.{_≡_};
-ghost use mathlib.Core.Bool.{cond};
-ghost use mathlib.Core.List.{List, _∷_};
-ghost use Prim.Native.Nat.{ℕ, suc, max, _+_, _-_, _≤_, _<_};
-ghost use lib.Dec.{eqb};
-ghost use lib.ListN.{length, getD};
+ghost use mathlib.Core.List.{List, [], _∷_};
+ghost use Prim.Native.Nat.{ℕ, max, _+_, _-_};
+ghost use lib.ListN.{getD};
 ghost use Rattle.plpb.specs.Plan.{Plan, Assignment};
 ghost use Rattle.plpb.specs.Count.{cap, given};
+ghost use Rattle.plpb.specs.Choice.{choosable};
 ghost use Rattle.counting.specs.Count.{number};
 ghost use Rattle.format.specs.Tables.{planOfTables};
-ghost use Rattle.format.specs.Layout.{markSize};
-ghost use Rattle.tallies.specs.Layout.{bitsOf};
-ghost use Rattle.recount.specs.Core.{Ready};
-ghost use Rattle.numbers.specs.Finding.{marked};
+ghost use Rattle.effects.specs.Kept.{lentBits, Going};
+ghost use Rattle.picks.specs.Picks.{Pickable};
 ghost use Rattle.stamps.specs.Stamps.{stampIn};
 ghost use Rattle.ranking.specs.Ranking.{comesBefore, olderThan, Stands, Ranks};
+use columns::LIST_COUNTS;
+use columns::LISTS;
 use counting::count::Count;
-use exact::counts_core;
+use counts::counts_along;
+use picks::terms_ahead;
 use stamps::last_flip;
-use words::narrow;
+use words::index;
+use words::widen;
+use words::word;
 
 // A variable as it is ranked: make minus break, above the least that this can be; the number of its last flip; its number.
 pub struct Standing {
@@ -62,13 +64,19 @@ fn raised(makes: Count, breaks: Count) -> u64
     m.value as u64 + (Count::CAP.value - b.value) as u64
 }
 
-fn standing_of(tables: &[u8], terms: &[u8], assignment: &[u8], marks: &[u8], x: u32) -> Standing
-    requires { ⌜ Ready (now tables) (now terms) (now assignment) × (0 < x) × (x ≤ planOfTables (now tables) (now terms) .variables)
-        × (markSize ≤ length (now marks)) ⌝ }
+fn standing_of(
+    tables: &[u8],
+    terms: &[u8],
+    assignment: &[u8],
+    tallies: &[u8],
+    marks: &[u8],
+    x: u32,
+) -> Standing
+    requires { ⌜ Going (now tables) (now terms) (now assignment) (now tallies) (now marks) x ⌝ }
     ensures { λ r. ⌜ Stands (planOfTables (now (tables .entry)) (now (terms .entry)))
-        (bitsOf (planOfTables (now (tables .entry)) (now (terms .entry)) .variables) (now (assignment .entry))) (stampIn (now (marks .entry))) x r ⌝ }
+        (lentBits (now (tables .entry)) (now (terms .entry)) (now (assignment .entry))) (stampIn (now (marks .entry))) x r ⌝ }
 {
-    let counts = counts_core(tables, terms, assignment, x);
+    let counts = counts_along(tables, terms, assignment, tallies, marks, widen(x));
     Standing {
         score: raised(counts.makes, counts.breaks),
         last: last_flip(marks, x),
@@ -156,44 +164,29 @@ fn joined(top: Top, s: Standing) -> Top
     }
 }
 
-// The variable of a place, if it is marked.
-fn with_place(
+// "rank them": the variables of a clause that may be chosen, from the last of its list to the first, so that each comes before those that are ranked already.
+pub fn rank_clause(
     tables: &[u8],
     terms: &[u8],
     assignment: &[u8],
+    tallies: &[u8],
     marks: &[u8],
-    top: Top,
-    place: usize,
+    c: usize,
 ) -> Top
-    requires { ⌜ Ready (now tables) (now terms) (now assignment) × (place < planOfTables (now tables) (now terms) .variables)
-        × (markSize ≤ length (now marks)) ⌝ }
-    ensures { λ r. ⌜ ((xs : List ℕ)
-        → Ranks (planOfTables (now (tables .entry)) (now (terms .entry)))
-        (bitsOf (planOfTables (now (tables .entry)) (now (terms .entry)) .variables) (now (assignment .entry))) (stampIn (now (marks .entry))) xs top
-        → Ranks (planOfTables (now (tables .entry)) (now (terms .entry)))
-        (bitsOf (planOfTables (now (tables .entry)) (now (terms .entry)) .variables) (now (assignment .entry))) (stampIn (now (marks .entry)))
-        (cond (eqb (getD (now (marks .entry)) place 0) 1) (suc place ∷ xs) xs) r) ⌝ }
-{
-    if marks[place] != 1 {
-        return top;
-    }
-    let x = narrow(place + 1);
-    joined(top, standing_of(tables, terms, assignment, marks, x))
-}
-
-// The variables marked 1, ranked: from the last to the first, so that each comes before those that are ranked already.
-pub fn rank_marked(tables: &[u8], terms: &[u8], assignment: &[u8], marks: &[u8], n: usize) -> Top
-    requires { ⌜ Ready (now tables) (now terms) (now assignment) × (n ≡ planOfTables (now tables) (now terms) .variables)
-        × (markSize ≤ length (now marks)) ⌝ }
+    requires { ⌜ Pickable (now tables) (now terms) (now assignment) (now tallies) (now marks) c ⌝ }
     ensures { λ r. ⌜ Ranks (planOfTables (now (tables .entry)) (now (terms .entry)))
-        (bitsOf (planOfTables (now (tables .entry)) (now (terms .entry)) .variables) (now (assignment .entry))) (stampIn (now (marks .entry)))
-        (marked (now (marks .entry)) n 1) r ⌝ }
+        (lentBits (now (tables .entry)) (now (terms .entry)) (now (assignment .entry))) (stampIn (now (marks .entry)))
+        (choosable (planOfTables (now (tables .entry)) (now (terms .entry)))
+        (getD (planOfTables (now (tables .entry)) (now (terms .entry)) .clauses) c [])) r ⌝ }
 {
+    let first = LISTS + terms_ahead(tables, terms, c);
     let mut top = Top::NONE;
-    let mut left = n;
+    let mut left = index(marks, LIST_COUNTS + c);
     while 0 < left {
         left -= 1;
-        top = with_place(tables, terms, assignment, marks, top, left);
+        let x = word(marks, first + left);
+        let s = standing_of(tables, terms, assignment, tallies, marks, x);
+        top = joined(top, s);
     }
     top
 }

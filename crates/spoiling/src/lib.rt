@@ -29,7 +29,7 @@ use words::word;
 const SEVERAL: u32 = 2147483648; // the words of places in clauses of more than one rule begin here
 
 // e of a rule in this state: equation (10).
-fn spoiled(s: State) -> Count
+pub fn spoiled(s: State) -> Count
     requires { ⌜ Balanced s ⌝ }
     ensures { λ r. ⌜ number r ≡ capped (sharesFrom s .e) ⌝ }
 {

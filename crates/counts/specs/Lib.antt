@@ -1,0 +1,2 @@
+-- Both counts of a flip, group by group.
+pub mod Turns

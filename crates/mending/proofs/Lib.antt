@@ -1,0 +1,2 @@
+-- Laws of what a flip mends.
+pub mod Mending

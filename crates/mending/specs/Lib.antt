@@ -1,0 +1,2 @@
+-- Whether a flip mends something.
+pub mod Mends
