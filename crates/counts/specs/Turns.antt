@@ -1,6 +1,6 @@
 -- What a flip spoils and mends of the clause of one group.
 -- Assumes nothing.
-use Prim.Native.Nat.{ℕ}
+use Prim.Native.Nat.{ℕ, _+_}
 use mathlib.Core.Path.{_≡_}
 use mathlib.Core.List.{List, []}
 use lib.ListN.{getD}
@@ -17,6 +17,11 @@ use Rattle.counts.specs.declared.Turn.{Turn}
 pub record Idle (a : Assignment) (x : ℕ) (k : Clause) : Type 0 where
   pub spoils-none : clauseBreak a x k ≡ 0
   pub mends-none : clauseMake a x k ≡ 0
+
+-- The group at place k is that place alone, and its clause is such a one.
+pub record IdleAt (a : Assignment) (tables terms : List ℕ) (x k : ℕ) : Type 0 where
+  pub alone : groupEnd (planOfTables tables terms) x k ≡ k + 1
+  pub idle : Idle a x (getD (planOfTables tables terms .clauses) (placeAt tables terms k .clause) [])
 
 pub record TurnAt (a : Assignment) (tables terms : List ℕ) (x k : ℕ) (r : Turn) : Type 0 where
   pub breaks : number (r .breaks) ≡ capped (clauseBreak a x (getD (planOfTables tables terms .clauses) (placeAt tables terms k .clause) []))

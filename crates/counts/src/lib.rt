@@ -11,11 +11,13 @@ ghost use Rattle.exact.specs.Counted.{CountsAre};
 ghost use Rattle.effects.specs.Kept.{lentBits, Going};
 ghost use Rattle.groups.specs.Stretch.{Stretch};
 ghost use Rattle.spoiling.specs.Along.{Starts};
-ghost use Rattle.counts.specs.Turns.{Idle, TurnAt};
+ghost use Rattle.counts.specs.Turns.{Idle, IdleAt, TurnAt};
 use counting::count::Count;
+use effects::spoils_at;
 use effects::state_at;
 use exact::Counts;
 use format::ENDS;
+use format::HOLDING;
 use format::ORDER;
 use groups::group_breaks;
 use groups::group_end;
@@ -57,6 +59,33 @@ fn group_idle(
         return false;
     }
     if group_mends(tables, terms, assignment, tallies, marks, x, c, k, j) {
+        return false;
+    }
+    true
+}
+
+// Whether the place is that of a clause of one rule, of which the flip changes nothing for sure: the rule is not spoiled, and holds. Most places are such.
+fn idle_at(
+    tables: &[u8],
+    terms: &[u8],
+    assignment: &[u8],
+    tallies: &[u8],
+    marks: &[u8],
+    x: usize,
+    k: usize,
+) -> bool
+    requires { ⌜ Starts (now tables) (now terms) (now assignment) (now tallies) (now marks) x k ⌝ }
+    ensures { λ r. ⌜ (r ≡ true → IdleAt (lentBits (now (tables .entry)) (now (terms .entry)) (now (assignment .entry))) (now (tables .entry))
+        (now (terms .entry)) x k) ⌝ }
+{
+    let o = word(tables, ORDER + k);
+    if SEVERAL <= o {
+        return false;
+    }
+    if spoils_at(tables, terms, assignment, tallies, marks, x, k) {
+        return false;
+    }
+    if word(tallies, HOLDING + clause_in(o)) == 0 {
         return false;
     }
     true
@@ -126,12 +155,16 @@ pub fn counts_along(
     let mut makes = Count::ZERO;
     let mut k = index(tables, ENDS + (x - 1));
     while k < end {
-        let t = turn_at(tables, terms, assignment, tallies, marks, x, k, end);
-        let spoils = t.breaks;
-        let mends = t.makes;
-        breaks = breaks.plus(spoils);
-        makes = makes.plus(mends);
-        k = t.next;
+        if idle_at(tables, terms, assignment, tallies, marks, x, k) {
+            k += 1;
+        } else {
+            let t = turn_at(tables, terms, assignment, tallies, marks, x, k, end);
+            let spoils = t.breaks;
+            let mends = t.makes;
+            breaks = breaks.plus(spoils);
+            makes = makes.plus(mends);
+            k = t.next;
+        }
     }
     Counts { breaks, makes }
 }

@@ -3,6 +3,7 @@
 -- Assumes nothing.
 use borrow.Author.Needs.{needs}
 use Prim.Native.Nat.{ℕ, _+_, _-_, _≤_, _<_}
+use native.Mathlib.Nat.{add-zero}
 use native.Mathlib.Omega.{arith}
 use mathlib.Core.Path.{_≡_, refl, sym, ap, _∙_}
 use mathlib.Core.Bool.{false}
@@ -17,7 +18,7 @@ use Rattle.order.specs.Order.{runEnd}
 use Rattle.order.proofs.Groups.{no-break, no-make}
 use Rattle.format.specs.Tables.{planOfTables}
 use Rattle.effects.specs.Kept.{lentBits, Going, placeAt}
-use Rattle.effects.proofs.Runs.{going-tables, going-few, run-first, run-last}
+use Rattle.effects.proofs.Runs.{going-tables, going-few, run-first, run-last, run-few}
 use Rattle.groups.specs.Stretch.{groupEnd}
 use Rattle.freely.proofs.Sums.{Summing, sum-start, sum-next, sum-end, break-counted, make-counted}
 use Rattle.spoiling.specs.Along.{Starts}
@@ -47,6 +48,10 @@ module _ {tables terms assignment tallies marks : List ℕ} {x k end : ℕ} (g :
   goes : {j share next : ℕ} → j ≡ groupEnd (planOfTables tables terms) x k → share ≡ capped (count (getD (planOfTables tables terms .clauses) (placeAt tables terms k .clause) [])) → next ≡ capped (sum + share) → Sum tables terms count whole x j next
   goes f d n = (sum-next g none (s .0) here f d n, ap capped n ∙ capped-twice _ ∙ sym n)
 
+  -- A clause that counts nothing leaves the sum.
+  passes : {j : ℕ} → j ≡ groupEnd (planOfTables tables terms) x k → count (getD (planOfTables tables terms .clauses) (placeAt tables terms k .clause) []) ≡ 0 → Sum tables terms count whole x j sum
+  passes f d = goes {share = 0} f (sym (ap capped d ∙ capped-zero)) (sym (ap capped (add-zero sum) ∙ s .1))
+
   further : {j : ℕ} → j ≡ groupEnd (planOfTables tables terms) x k → (k < j) × (j ≤ end)
   further f = let b = starts .begins .group in (omega (arith, f, b .some), omega (arith, f, b .last, e))
 
@@ -60,20 +65,31 @@ loop-holds c =
     )
 
 less : tie.Need-loop-less Inv-loop μ-loop
-less c =
-    let at = c .before .before .before .before .before .before .before .before .before .before .before .before .before .before in
-    let f = further (at .pre) (c .before .before .before .before .before .before .before .before .index .ensures ∙ run-last (at .pre)) (c .before .before .before .before .before .loop-test .taken) (no-break _ (at .args .x)) (c .before .before .before .before .before .before .loop .inv .0) (c .before .before .before .before .turn-at .ensures .ends) in
-    omega (arith, f .0, f .1)
+less c = omega (arith, c .before .before .loop-test .taken)
 
 again : tie.Need-loop-again Inv-loop μ-loop
 again c =
-    let at = c .before .before .before .before .before .before .before .before .before .before .before .before .before .before in
-    let e = c .before .before .before .before .before .before .before .before .index .ensures ∙ run-last (at .pre) in
-    let h = c .before .before .before .before .before .loop-test .taken in
-    let t = c .before .before .before .before .turn-at .ensures in (
-      goes (at .pre) e h (no-break _ (at .args .x)) (c .before .before .before .before .before .before .loop .inv .0) (t .ends) (t .breaks) (c .before .plus .ensures),
-      goes (at .pre) e h (no-make _ (at .args .x)) (c .before .before .before .before .before .before .loop .inv .1) (t .ends) (t .makes) (c .plus2 .ensures),
-    )
+    let at = c .before .before .before .before .before .before .before .before .before .before .before in
+    let e = c .before .before .before .before .before .index .ensures ∙ run-last (at .pre) in
+    let h = c .before .before .loop-test .taken in
+    let i = c .before .idle-at .ensures (c .if1 .taken) in
+    let v = c .before .before .before .loop .inv in
+    (passes (at .pre) e h (no-break _ (at .args .x)) (v .0) (sym (i .alone)) (i .idle .spoils-none), passes (at .pre) e h (no-make _ (at .args .x)) (v .1) (sym (i .alone)) (i .idle .mends-none))
+
+less-2 : tie.Need-loop-less-2 Inv-loop μ-loop
+less-2 c =
+    let at = c .before .before .before .before .before .before .before .before .before .before .before .before .before .before .before .before in
+    let f = further (at .pre) (c .before .before .before .before .before .before .before .before .before .before .index .ensures ∙ run-last (at .pre)) (c .before .before .before .before .before .before .before .loop-test .taken) (no-break _ (at .args .x)) (c .before .before .before .before .before .before .before .before .loop .inv .0) (c .before .before .before .before .turn-at .ensures .ends) in
+    omega (arith, f .0, f .1)
+
+again-2 : tie.Need-loop-again-2 Inv-loop μ-loop
+again-2 c =
+    let at = c .before .before .before .before .before .before .before .before .before .before .before .before .before .before .before .before in
+    let e = c .before .before .before .before .before .before .before .before .before .before .index .ensures ∙ run-last (at .pre) in
+    let h = c .before .before .before .before .before .before .before .loop-test .taken in
+    let t = c .before .before .before .before .turn-at .ensures in
+    let v = c .before .before .before .before .before .before .before .before .loop .inv in
+    (goes (at .pre) e h (no-break _ (at .args .x)) (v .0) (t .ends) (t .breaks) (c .before .plus .ensures), goes (at .pre) e h (no-make _ (at .args .x)) (v .1) (t .ends) (t .makes) (c .plus2 .ensures))
 
 returns : tie.Need-returns Inv-loop μ-loop
 returns c =
@@ -96,11 +112,15 @@ counts-along-spec =
     (λ c. omega (arith, going-few (c .before .before .before .before .before .before .pre)))
     (λ c κs. omega (arith, going-few (c .before .before .before .before .before .before .pre), going-tables (c .before .before .before .before .before .before .pre)))
     loop-holds
-    (λ c κs.
-    let e = c .before .before .before .index .ensures ∙ run-last (c .before .before .before .before .before .before .before .before .before .pre) in
-    (starts (c .before .before .before .before .before .before .before .before .before .pre) e (c .loop-test .taken) (no-break _ (c .before .before .before .before .before .before .before .before .before .args .x)) (c .before .loop .inv .0), e))
-    (λ c κs. search needs)
-    (λ c κs. search needs)
+    (λ c κs. starts (c .before .before .before .before .before .before .before .before .before .pre) (c .before .before .before .index .ensures ∙ run-last (c .before .before .before .before .before .before .before .before .before .pre)) (c .loop-test .taken) (no-break _ (c .before .before .before .before .before .before .before .before .before .args .x)) (c .before .loop .inv .0))
+    (λ c. omega (arith, c .before .before .loop-test .taken, c .before .before .before .before .before .index .ensures ∙ run-last (c .before .before .before .before .before .before .before .before .before .before .before .pre), run-few (c .before .before .before .before .before .before .before .before .before .before .before .pre)))
     less
     again
+    (λ c κs.
+    let e = c .before .before .before .before .before .index .ensures ∙ run-last (c .before .before .before .before .before .before .before .before .before .before .before .pre) in
+    (starts (c .before .before .before .before .before .before .before .before .before .before .before .pre) e (c .before .before .loop-test .taken) (no-break _ (c .before .before .before .before .before .before .before .before .before .before .before .args .x)) (c .before .before .before .loop .inv .0), e))
+    (λ c κs. search needs)
+    (λ c κs. search needs)
+    less-2
+    again-2
     returns)
