@@ -114,7 +114,8 @@ fn race_one(
           asked = s;
         })
         (buffers (now (assignments .entry)) (now (answers .entry))
-        (works (now («work_tables» .entry)) (now («work_terms» .entry)) (now («work_assignment» .entry)) (now («work_tallies» .entry)) (now («work_marks» .entry)))) ⌝ }
+        (works (now («work_tables» .entry)) (now («work_terms» .entry)) (now («work_assignment» .entry))
+        (now («work_tallies» .entry)) (now («work_marks» .entry)))) ⌝ }
 {
     let from = format::ASSIGNMENT * i;
     let end = from + format::ASSIGNMENT;
@@ -175,7 +176,8 @@ fn race_at<'a>(
         (now (e1 .entry) ∷ now (e2 .entry) ∷ now (e3 .entry) ∷ now (e4 .entry) ∷ now (e5 .entry) ∷ now (e6 .entry) ∷ now (e7 .entry) ∷ now (e8 .entry) ∷ []))
         i (record { first = first; length = size })
         (buffers (now (assignments .entry)) (now (answers .entry))
-        (works (now («work_tables» .entry)) (now («work_terms» .entry)) (now («work_assignment» .entry)) (now («work_tallies» .entry)) (now («work_marks» .entry)))) ⌝ }
+        (works (now («work_tables» .entry)) (now («work_terms» .entry)) (now («work_assignment» .entry))
+        (now («work_tallies» .entry)) (now («work_marks» .entry)))) ⌝ }
 {
     let tables = one_of(i, t1, t2, t3, t4, t5, t6, t7, t8);
     let terms = one_of(i, e1, e2, e3, e4, e5, e6, e7, e8);
@@ -238,7 +240,8 @@ fn race_all<'a>(
         (now (e1 .entry) ∷ now (e2 .entry) ∷ now (e3 .entry) ∷ now (e4 .entry) ∷ now (e5 .entry) ∷ now (e6 .entry) ∷ now (e7 .entry) ∷ now (e8 .entry) ∷ []))
         (partsIn p)
         (buffers (now (assignments .entry)) (now (answers .entry))
-        (works (now («work_tables» .entry)) (now («work_terms» .entry)) (now («work_assignment» .entry)) (now («work_tallies» .entry)) (now («work_marks» .entry)))) ⌝ }
+        (works (now («work_tables» .entry)) (now («work_terms» .entry)) (now («work_assignment» .entry))
+        (now («work_tallies» .entry)) (now («work_marks» .entry)))) ⌝ }
 {
     let count = p.count;
     let firsts = p.first;
@@ -321,7 +324,8 @@ pub fn plan_all<'a>(
         (now (e1 .entry) ∷ now (e2 .entry) ∷ now (e3 .entry) ∷ now (e4 .entry) ∷ now (e5 .entry) ∷ now (e6 .entry) ∷ now (e7 .entry) ∷ now (e8 .entry) ∷ []))
         (partsIn r)
         (buffers (now (assignments .entry)) (now (answers .entry))
-        (works (now («work_tables» .entry)) (now («work_terms» .entry)) (now («work_assignment» .entry)) (now («work_tallies» .entry)) (now («work_marks» .entry)))) ⌝ }
+        (works (now («work_tables» .entry)) (now («work_terms» .entry)) (now («work_assignment» .entry))
+        (now («work_tallies» .entry)) (now («work_marks» .entry)))) ⌝ }
 {
     let before = room(settings.len(), assignments.len(), answers.len());
     let p = divide(before, stakes, numbers.len() / 4);
@@ -400,7 +404,8 @@ pub fn plan_races<'a>(
         (partsAfter (roomRefusal (length (now (settings .entry))) (length (now (assignments .entry))) (length (now (answers .entry))))
         (length (now (numbers .entry)) / 4) (stakesIn (now (races .entry))))
         (buffers (now (assignments .entry)) (now (answers .entry))
-        (works (now («work_tables» .entry)) (now («work_terms» .entry)) (now («work_assignment» .entry)) (now («work_tallies» .entry)) (now («work_marks» .entry)))) ⌝ }
+        (works (now («work_tables» .entry)) (now («work_terms» .entry)) (now («work_assignment» .entry))
+        (now («work_tallies» .entry)) (now («work_marks» .entry)))) ⌝ }
 {
     let stakes = stakes_in(races);
     let p = plan_all(

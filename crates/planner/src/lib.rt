@@ -5,7 +5,8 @@ ghost use mathlib.Core.List.{[], _∷_};
 ghost use Prim.Native.Nat.{_/_};
 ghost use lib.ListN.{length};
 ghost use Rattle.counting.specs.Count.{countWords, markedWords};
-ghost use Rattle.tallies.specs.Calls.{openRefusal, openTallies, callRefusal, flipRefusal, flipRules, flipAssignment, flipTallies, countsBreak, countsMake, lent};
+ghost use Rattle.tallies.specs.Calls.{openRefusal, openTallies, callRefusal, flipRefusal, flipRules, flipAssignment, flipTallies, countsBreak, countsMake};
+ghost use Rattle.tallies.specs.Calls.{lent};
 ghost use Rattle.search.specs.Calls.{Searches, HandsOut};
 ghost use Rattle.lending.specs.Lent.{lentAll};
 ghost use Rattle.reports.specs.Calls.{Reports};
@@ -266,7 +267,8 @@ pub extern "C" fn planner_races<'a>(
         (partsAfter (roomRefusal (length (now (settings .entry))) (length (now (assignments .entry))) (length (now (answers .entry))))
         (length (now (numbers .entry)) / 4) (stakesIn (now (races .entry))))
         (buffers (now (assignments .entry)) (now (answers .entry))
-        (works (now («work_tables» .entry)) (now («work_terms» .entry)) (now («work_assignment» .entry)) (now («work_tallies» .entry)) (now («work_marks» .entry)))) ⌝ }
+        (works (now («work_tables» .entry)) (now («work_terms» .entry)) (now («work_assignment» .entry))
+        (now («work_tallies» .entry)) (now («work_marks» .entry)))) ⌝ }
 {
     plan_races(
         races,
