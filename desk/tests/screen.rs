@@ -5,7 +5,7 @@ use std::fs;
 use std::path::{Path, PathBuf};
 
 fn race_day() -> PathBuf {
-    Path::new(env!("CARGO_MANIFEST_DIR")).join("../../examples/race-day")
+    Path::new(env!("CARGO_MANIFEST_DIR")).join("../examples/race-day")
 }
 
 #[test]

@@ -16,7 +16,7 @@ const FILES: [&str; 3] = ["plan.bin", "walk.bin", "numbers.bin"];
 const RACE_DAY: [&str; 5] = ["write", "plan.txt", ".", "20260613", "16384"];
 
 fn root() -> PathBuf {
-    Path::new(env!("CARGO_MANIFEST_DIR")).join("../..")
+    Path::new(env!("CARGO_MANIFEST_DIR")).join("..")
 }
 
 fn example(name: &str) -> PathBuf {

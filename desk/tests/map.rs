@@ -16,7 +16,7 @@ fn folder(name: &str) -> PathBuf {
 /// Exit code and what is said, for the example's lists with a row added to each.
 fn with_rows(name: &str, site: &str, zone: &str) -> (u8, String) {
     let folder = folder(name);
-    let example = Path::new(env!("CARGO_MANIFEST_DIR")).join("../../examples/mapper");
+    let example = Path::new(env!("CARGO_MANIFEST_DIR")).join("../examples/mapper");
     for (file, row) in [("sites.csv", site), ("zones.csv", zone)] {
         let mut list = fs::read(example.join(file)).unwrap();
         list.extend(row.as_bytes());
