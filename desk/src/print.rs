@@ -59,7 +59,15 @@ fn rule(rule: &Rule, names: &Names) -> Vec<String> {
     before.into_iter().chain(sum).chain(behind).collect()
 }
 
-/// A clause on one line, without the word that begins it.
+/// A clause on one line, without the word that begins it; its name, where it has one, comes first.
+pub fn clause_at(place: usize, clause: &Clause, names: &Names) -> String {
+    match names.clause(place) {
+        Some(name) => format!("{name}: {}", self::clause(clause, names)),
+        None => self::clause(clause, names),
+    }
+}
+
+/// A clause's rules on one line.
 pub fn clause(clause: &Clause, names: &Names) -> String {
     let rules: Vec<String> = clause
         .rules
@@ -75,7 +83,10 @@ fn variables(names: &Names) -> String {
     let mut text = String::new();
     for variable in 1..=most {
         match names.own(variable) {
-            Some(name) => text += &format!("variable {variable} {name}\n"),
+            Some(name) => {
+                let word = names.role(variable).word();
+                text += &format!("{word} {variable} {name}\n")
+            }
             None if variable == most || names.own(variable + 1).is_some() => {
                 text += &format!("variables {variable}\n")
             }
@@ -116,12 +127,16 @@ pub fn text(plan: &Plan, names: &Names, settings: Option<&Settings>) -> String {
         let (name, value) = (names.called(lock.variable), lock.value as u8);
         text += &format!("lock {name} {value}\n");
     }
-    for clause in &plan.clauses {
+    for (place, clause) in plan.clauses.iter().enumerate() {
+        text += "clause";
+        if let Some(name) = names.clause(place) {
+            text += &format!(" {name}:");
+        }
         // Several rules stand on lines of their own.
         let alone = clause.rules.len() == 1;
-        let first = if alone { "clause " } else { "clause\n  " };
+        text += if alone { " " } else { "\n  " };
         for (place, one) in clause.rules.iter().enumerate() {
-            text += if place == 0 { first } else { "  or " };
+            text += if place == 0 { "" } else { "  or " };
             text += &lines(&rule(one, names), 6);
         }
     }

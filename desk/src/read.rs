@@ -1,9 +1,9 @@
 //! The text form, read. Everything a plan file may not say is turned away here, with its line, so
 //! that what is written is always accepted.
 
-use crate::names::{numbered, Names, RESERVED};
+use crate::names::{numbered, Names, Role, RESERVED};
 use crate::report::grouped;
-use crate::tokens::{fault, tokens, Fault, Kind, Token};
+use crate::tokens::{fault, tokens, Comment, Fault, Kind, Place, Token, Tokens};
 use reference::file::{
     MOST_BOUND, MOST_CLAUSES, MOST_RULES, MOST_TERMS, MOST_VARIABLES, MOST_WEIGHT,
 };
@@ -17,6 +17,12 @@ pub struct Text {
     pub plan: Plan,
     /// The line on which each clause begins.
     pub lines: Vec<usize>,
+    /// What the comment on the first line says; empty where there is none.
+    pub title: String,
+    /// What the comment on its line says of each variable, and the comment above of each clause;
+    /// empty where there is none.
+    pub notes: Vec<String>,
+    pub clause_notes: Vec<String>,
     /// Of the walk statement, if there is one.
     pub settings: Option<Settings>,
     /// The line of the last statement's end.
@@ -29,6 +35,8 @@ struct Reader<'a> {
     behind: Option<Fault>,
     place: usize,
     text: Text,
+    /// The line on which each variable's statement ends.
+    variable_lines: Vec<usize>,
     rules: usize,
     terms: usize,
 }
@@ -64,14 +72,15 @@ impl<'a> Reader<'a> {
     /// Something is missing. Its place is behind the token last gone past, whichever line the next
     /// one stands on.
     fn missing<T>(&self, what: &str) -> Result<T, Fault> {
-        let Token { line, text, .. } = self.last();
+        let last = self.last();
+        let text = last.text;
         let found = match (self.ahead(0), &self.behind) {
             ("", Some(fault)) => return Err(fault.clone()),
             ("", None) => "the end".to_string(),
             (found, _) => format!("'{found}'"),
         };
         fault(
-            line,
+            last.behind(),
             format!("expected {what} after '{text}', found {found}"),
         )
     }
@@ -112,29 +121,37 @@ impl<'a> Reader<'a> {
             let sign = if minus { "-" } else { "" };
             let (least, most) = (grouped(least), grouped(most));
             let words = format!("{what} is from {least} to {most}, not {sign}{digits}");
-            return fault(self.last().line, words);
+            return fault(self.last().at, words);
         }
         Ok(number)
     }
 
-    /// `variable 7 ford`: the next number and its name.
-    fn variable(&mut self) -> Result<(), Fault> {
+    /// `variable ford`: the next variable's name. Its number may stand before it, as in
+    /// `variable 7 ford`; it is then checked.
+    fn variable(&mut self, role: Role) -> Result<(), Fault> {
         let next = self.text.names.variables() + 1;
-        let number = self.variable_number()?;
-        if number != next {
-            let words = format!("variable {next} is the next one, not {number}");
-            return fault(self.last().line, words);
+        if self.number_ahead(0) {
+            let number = self.variable_number()?;
+            if number != next {
+                let words = format!("variable {next} is the next one, not {number}");
+                return fault(self.last().at, words);
+            }
         }
         let name = self.take_name("a name")?;
-        let line = self.last().line;
+        let at = self.last().at;
+        if next > MOST_VARIABLES {
+            let most = grouped(MOST_VARIABLES as i64);
+            return fault(at, format!("a plan has at most {most} variables"));
+        }
         if numbered(name).is_some() {
-            return fault(line, format!("'{name}' names a variable by its number"));
+            return fault(at, format!("'{name}' names a variable by its number"));
         }
         if let Some(before) = self.text.names.find(name) {
             let words = format!("variable {before} is called '{name}' already");
-            return fault(line, words);
+            return fault(at, words);
         }
-        self.text.names.push(Some(name.to_string()));
+        self.text.names.push_as(Some(name.to_string()), role);
+        self.variable_lines.push(at.line);
         Ok(())
     }
 
@@ -144,10 +161,11 @@ impl<'a> Reader<'a> {
         let number = self.variable_number()?;
         if number <= before {
             let words = format!("there are {before} variables already");
-            return fault(self.last().line, words);
+            return fault(self.last().at, words);
         }
         for _ in before..number {
             self.text.names.push(None);
+            self.variable_lines.push(0);
         }
         Ok(())
     }
@@ -166,7 +184,7 @@ impl<'a> Reader<'a> {
             None if numbered(word).is_some() => {
                 let variables = names.variables();
                 let words = format!("there is no variable {word}: so far there are {variables}");
-                fault(self.last().line, words)
+                fault(self.last().at, words)
             }
             None => {
                 let hint = match word.contains('-') {
@@ -174,7 +192,7 @@ impl<'a> Reader<'a> {
                     false => "",
                 };
                 let words = format!("no variable is called '{word}'{hint}");
-                fault(self.last().line, words)
+                fault(self.last().at, words)
             }
         }
     }
@@ -195,8 +213,8 @@ impl<'a> Reader<'a> {
             };
             let variable = self.named()?;
             if terms.iter().any(|term| term.variable == variable) {
-                let Token { line, text, .. } = self.last();
-                return fault(line, format!("'{text}' stands twice in this sum"));
+                let Token { at, text, .. } = self.last();
+                return fault(at, format!("'{text}' stands twice in this sum"));
             }
             let weight = if minus { -size } else { size };
             terms.push(Term { variable, weight });
@@ -209,9 +227,9 @@ impl<'a> Reader<'a> {
     }
 
     fn objective(&mut self) -> Result<(), Fault> {
-        let line = self.last().line;
+        let at = self.last().at;
         if !self.text.plan.objective.is_empty() {
-            return fault(line, "minimise stands twice");
+            return fault(at, "minimise stands twice");
         }
         self.text.plan.objective = self.sum()?;
         Ok(())
@@ -221,9 +239,9 @@ impl<'a> Reader<'a> {
     /// numbers, a text does not.
     fn lock(&mut self) -> Result<(), Fault> {
         let variable = self.named()?;
-        let Token { line, text, .. } = self.last();
+        let Token { at, text, .. } = self.last();
         if self.text.plan.lock(variable).is_some() {
-            return fault(line, format!("'{text}' is locked already"));
+            return fault(at, format!("'{text}' is locked already"));
         }
         let value = self.number("a lock's value", 0, 1)? == 1;
         let locks = &mut self.text.plan.locks;
@@ -273,33 +291,51 @@ impl<'a> Reader<'a> {
         })
     }
 
-    /// `clause`, and rules joined by `or`.
+    /// `road:` before a clause's first rule: its name.
+    fn clause_name(&mut self) -> Result<(), Fault> {
+        if self.ahead(1) != ":" {
+            return Ok(());
+        }
+        let name = self.take_name("a clause's name")?;
+        if self.text.names.has_clause(name) {
+            let words = format!("another clause is called '{name}' already");
+            return fault(self.last().at, words);
+        }
+        let place = self.text.plan.clauses.len();
+        self.text.names.name_clause(place, name.to_string());
+        self.expect(":")
+    }
+
+    /// One more rule, where the plan has room for it.
+    fn counted_rule(&mut self) -> Result<Rule, Fault> {
+        let rule = self.rule()?;
+        let at = self.last().at;
+        self.rules += 1;
+        self.terms += rule.terms.len();
+        if self.rules > MOST_RULES {
+            let most = grouped(MOST_RULES as i64);
+            return fault(at, format!("a plan has at most {most} rules"));
+        }
+        if self.terms > MOST_TERMS {
+            let most = grouped(MOST_TERMS as i64);
+            return fault(at, format!("a plan's rules have at most {most} terms"));
+        }
+        Ok(rule)
+    }
+
+    /// `clause`, its name where it has one, and rules joined by `or`.
     fn clause(&mut self) -> Result<(), Fault> {
-        let line = self.last().line;
+        let at = self.last().at;
         if self.text.plan.clauses.len() == MOST_CLAUSES {
             let most = grouped(MOST_CLAUSES as i64);
-            return fault(line, format!("a plan has at most {most} clauses"));
+            return fault(at, format!("a plan has at most {most} clauses"));
         }
-        let mut rules = Vec::new();
-        loop {
-            let rule = self.rule()?;
-            let line = self.last().line;
-            self.rules += 1;
-            self.terms += rule.terms.len();
-            if self.rules > MOST_RULES {
-                let most = grouped(MOST_RULES as i64);
-                return fault(line, format!("a plan has at most {most} rules"));
-            }
-            if self.terms > MOST_TERMS {
-                let most = grouped(MOST_TERMS as i64);
-                return fault(line, format!("a plan's rules have at most {most} terms"));
-            }
-            rules.push(rule);
-            if !self.take("or") {
-                break;
-            }
+        self.clause_name()?;
+        let mut rules = vec![self.counted_rule()?];
+        while self.take("or") {
+            rules.push(self.counted_rule()?);
         }
-        self.text.lines.push(line);
+        self.text.lines.push(at.line);
         self.text.plan.clauses.push(Clause { rules });
         Ok(())
     }
@@ -307,9 +343,9 @@ impl<'a> Reader<'a> {
     /// `walk noise 500 tries 10 flips 1000 mode lbs`, in this order, and behind it at times
     /// `heuristic novelty 10`, with the walk chance; without it the choice is SKC.
     fn walk(&mut self) -> Result<(), Fault> {
-        let line = self.last().line;
+        let at = self.last().at;
         if self.text.settings.is_some() {
-            return fault(line, "walk stands twice");
+            return fault(at, "walk stands twice");
         }
         self.expect("noise")?;
         let noise = self.number("the noise", 0, 1_000)? as u32;
@@ -357,27 +393,56 @@ impl<'a> Reader<'a> {
     fn statement(&mut self) -> Result<(), Fault> {
         self.place += 1;
         match self.last().text {
-            "variable" => self.variable(),
+            "variable" => self.variable(Role::Variable),
+            "site" => self.variable(Role::Site),
+            "marshal" => self.variable(Role::Marshal),
+            "course" => self.variable(Role::Course),
             "variables" => self.variables(),
-            "minimise" => self.objective(),
+            "minimise" | "minimize" => self.objective(),
             "lock" => self.lock(),
             "clause" => self.clause(),
             "walk" => self.walk(),
             other => {
                 let words = format!(
-                    "'{other}' may not stand here: a statement begins with variable, variables, \
-                     minimise, lock, clause or walk, and a clause's next rule with or"
+                    "'{other}' may not stand here: a statement begins with variable, variables, site, \
+                     marshal, course, minimise, lock, clause or walk, and a clause's next rule with or"
                 );
-                fault(self.last().line, words)
+                fault(self.last().at, words)
             }
         }
     }
 }
 
-/// What a text says, or its first fault.
-pub fn read(text: &str) -> Result<Text, Fault> {
-    let (tokens, behind) = tokens(text);
-    let mut reader = Reader {
+/// What the comment on each variable's line says.
+fn variable_notes(lines: &[usize], comments: &[Comment]) -> Vec<String> {
+    let note = |&line: &usize| {
+        let comment = comments.iter().find(|each| each.line == line);
+        comment.map_or(String::new(), |comment| comment.text.to_string())
+    };
+    lines.iter().map(note).collect()
+}
+
+/// What the comment above each clause says. Clauses that follow one another share the comment above
+/// the first of them; lines of one comment are joined.
+fn clause_notes(lines: &[usize], comments: &[Comment]) -> Vec<String> {
+    let above = |&line: &usize| {
+        let alone = comments.iter().filter(|each| each.alone && each.line < line);
+        let mut block: Vec<&Comment> = Vec::new();
+        for comment in alone {
+            if block.last().is_some_and(|last| last.line + 1 < comment.line) {
+                block.clear();
+            }
+            block.push(comment);
+        }
+        let words: Vec<&str> = block.iter().map(|comment| comment.text).collect();
+        words.join(" ")
+    };
+    lines.iter().map(above).collect()
+}
+
+/// A reader at a text's start.
+fn reader(tokens: Vec<Token<'_>>, behind: Option<Fault>) -> Reader<'_> {
+    Reader {
         tokens,
         behind,
         place: 0,
@@ -390,24 +455,43 @@ pub fn read(text: &str) -> Result<Text, Fault> {
                 clauses: Vec::new(),
             },
             lines: Vec::new(),
+            title: String::new(),
+            notes: Vec::new(),
+            clause_notes: Vec::new(),
             settings: None,
             last_line: 1,
         },
+        variable_lines: Vec::new(),
         rules: 0,
         terms: 0,
-    };
+    }
+}
+
+/// What a text says, or its first fault.
+pub fn read(text: &str) -> Result<Text, Fault> {
+    let Tokens {
+        tokens,
+        comments,
+        behind,
+    } = tokens(text);
+    let mut reader = reader(tokens, behind);
     while reader.place < reader.tokens.len() {
         reader.statement()?;
     }
     if let Some(fault) = reader.behind {
         return Err(fault);
     }
+    let end = reader.tokens.last().map_or(Place { line: 1, column: 1 }, Token::behind);
     let mut text = reader.text;
     text.plan.variables = text.names.variables();
-    text.last_line = reader.tokens.last().map_or(1, |token| token.line);
+    text.last_line = end.line;
     if text.plan.variables == 0 {
-        return fault(text.last_line, "a plan has at least one variable");
+        return fault(end, "a plan has at least one variable");
     }
+    let first = comments.iter().find(|each| each.line == 1 && each.alone);
+    text.title = first.map_or(String::new(), |comment| comment.text.to_string());
+    text.notes = variable_notes(&reader.variable_lines, &comments);
+    text.clause_notes = clause_notes(&text.lines, &comments);
     Ok(text)
 }
 
@@ -417,9 +501,10 @@ pub fn read_bytes(bytes: &[u8]) -> Result<Text, Fault> {
     match std::str::from_utf8(bytes) {
         Ok(text) => read(text.strip_prefix('\u{feff}').unwrap_or(text)),
         Err(error) => {
-            let before = &bytes[..error.valid_up_to()];
-            let line = 1 + before.iter().filter(|&&byte| byte == b'\n').count();
-            fault(line, "this is no text in UTF-8")
+            let before = String::from_utf8_lossy(&bytes[..error.valid_up_to()]);
+            let line = 1 + before.matches('\n').count();
+            let column = 1 + before.rsplit('\n').next().unwrap_or_default().chars().count();
+            fault(Place { line, column }, "this is no text in UTF-8")
         }
     }
 }

@@ -31,7 +31,7 @@ quit
 SITE is a number or a name.
 ";
 
-fn ending(ending: Ending) -> &'static str {
+pub fn ending(ending: Ending) -> &'static str {
     match ending {
         Ending::Floor => "floor: found, and nothing can cost less",
         Ending::Ended => "ended: found, and a search for less found nothing",
@@ -39,6 +39,19 @@ fn ending(ending: Ending) -> &'static str {
         Ending::ShortFound => "short-found: found, then the numbers ran out",
         Ending::ShortNone => "short-none: the numbers ran out before anything was found",
     }
+}
+
+/// The plain words of the ending that the program's first line names.
+pub fn ending_named(name: &str) -> Option<&'static str> {
+    let endings = [
+        Ending::Floor,
+        Ending::Ended,
+        Ending::None,
+        Ending::ShortFound,
+        Ending::ShortNone,
+    ];
+    let named = endings.into_iter().find(|ending| ending.name() == name);
+    named.map(ending)
 }
 
 /// The next line without the blanks around it. What cannot be shown becomes '?', and so does the
