@@ -8,7 +8,9 @@ use std::process::Command;
 
 /// Runs a program of the C toolchain.
 fn made(command: &mut Command) {
-    let status = command.status().unwrap_or_else(|error| panic!("{command:?}: {error}"));
+    let status = command
+        .status()
+        .unwrap_or_else(|error| panic!("{command:?}: {error}"));
     assert!(status.success(), "{command:?} failed");
 }
 
@@ -16,12 +18,22 @@ fn made(command: &mut Command) {
 fn compile(root: &Path, out: &Path) {
     let [object, archive] = ["archive.o", "libdeskcalls.a"].map(|name| out.join(name));
     let source = root.join("desk/src/archive.c");
-    made(Command::new("gcc")
-        .args(["-std=c99", "-O2", "-fPIC", "-Wall", "-Wextra", "-Wpedantic", "-Wconversion"])
-        .args(["-Werror", "-c", "-I"])
-        .arg(root.join("include"))
-        .arg("-o")
-        .args([&object, &source]));
+    made(
+        Command::new("gcc")
+            .args([
+                "-std=c99",
+                "-O2",
+                "-fPIC",
+                "-Wall",
+                "-Wextra",
+                "-Wpedantic",
+                "-Wconversion",
+            ])
+            .args(["-Werror", "-c", "-I"])
+            .arg(root.join("include"))
+            .arg("-o")
+            .args([&object, &source]),
+    );
     let _ = std::fs::remove_file(&archive);
     made(Command::new("ar").arg("crs").args([&archive, &object]));
 }
@@ -36,7 +48,11 @@ fn main() {
     for path in &paths {
         println!("cargo:rerun-if-changed={}", path.display());
     }
-    for name in ["desk/src/archive.c", "include/planner.h", "include/mapper.h"] {
+    for name in [
+        "desk/src/archive.c",
+        "include/planner.h",
+        "include/mapper.h",
+    ] {
         println!("cargo:rerun-if-changed={}", root.join(name).display());
     }
     if !paths.iter().all(|path| path.exists()) {

@@ -182,7 +182,9 @@ pub fn program_lines(lines: &str) -> Result<Told, Stop> {
     match words[..] {
         ["refused", number, offset] => {
             let words = number.parse().map_or("no refusal has this number", plain);
-            faulty(format!("the box refuses ({number}, offset {offset}): {words}"))
+            faulty(format!(
+                "the box refuses ({number}, offset {offset}): {words}"
+            ))
         }
         [name, cost, finds, flips, used] => match ending_named(name) {
             None => unknown(),
@@ -309,8 +311,8 @@ fn command(words: &[&str], options: &Options, console: &mut Console) -> Result<u
 
 /// Carries out one command on these streams, and gives its exit code.
 pub fn run_on(arguments: &[&str], console: &mut Console) -> u8 {
-    let done = Options::split(arguments)
-        .and_then(|(words, options)| command(&words, &options, console));
+    let done =
+        Options::split(arguments).and_then(|(words, options)| command(&words, &options, console));
     match done {
         Ok(code) => code,
         Err(Stop(code, words)) => {

@@ -3,7 +3,9 @@
 
 use crate::chosen::{chosen, clause_called};
 use crate::console::{faulty, Console, Stop};
-use crate::files::{box_folder, drawn, five_files, make_folder, names_and_clauses, text_of, write_all};
+use crate::files::{
+    box_folder, drawn, five_files, make_folder, names_and_clauses, text_of, write_all,
+};
 use crate::finds::Finds;
 use crate::options::Options;
 use crate::planner::{Found, Planner, PROVED};
@@ -46,12 +48,21 @@ impl Job {
     pub fn write(&self, settings: &Settings) -> Result<String, Stop> {
         make_folder(&self.folder)?;
         let words = names_and_clauses(&self.text);
-        let files = five_files(&self.text.plan, settings, self.seed, self.numbers.len(), words);
+        let files = five_files(
+            &self.text.plan,
+            settings,
+            self.seed,
+            self.numbers.len(),
+            words,
+        );
         write_all(&self.folder, &files)?;
         let names: Vec<&str> = files.iter().map(|(name, ..)| *name).collect();
         let (folder, count) = (self.folder.display(), counted(self.numbers.len(), "number"));
         let seed = self.seed;
-        Ok(format!("wrote {folder}: {}; {count} from seed {seed}\n", names.join(", ")))
+        Ok(format!(
+            "wrote {folder}: {}; {count} from seed {seed}\n",
+            names.join(", ")
+        ))
     }
 }
 
@@ -76,12 +87,18 @@ pub fn searched_by(check: bool) -> &'static str {
 pub fn warn(text: &Text, console: &mut Console) {
     for place in never_met(&text.plan) {
         let clause = clause_called(text, place);
-        console.note(&format!("desk: {clause} can never be met, whatever is chosen\n"));
+        console.note(&format!(
+            "desk: {clause} can never be met, whatever is chosen\n"
+        ));
     }
 }
 
 /// The settings of the text; or of the desk's own those that find the cheapest plan.
-pub fn settings_for(job: &Job, planner: &mut Planner, console: &mut Console) -> Result<Settings, Stop> {
+pub fn settings_for(
+    job: &Job,
+    planner: &mut Planner,
+    console: &mut Console,
+) -> Result<Settings, Stop> {
     if let Some(settings) = job.text.settings {
         return Ok(settings);
     }
@@ -112,7 +129,10 @@ pub fn search(
         tell: &mut |number, cost| console.say(&format!("find {number}: cost {cost}\n")),
     };
     let found = asked(found.all())?;
-    let (flips, used) = (counted(found.flips as usize, "flip"), grouped(found.used as i64));
+    let (flips, used) = (
+        counted(found.flips as usize, "flip"),
+        grouped(found.used as i64),
+    );
     let count = counted(job.numbers.len(), "number");
     let words = ending(found.ending);
     console.say(&format!("{words}; {flips}, {used} of {count}\n"));
@@ -136,7 +156,12 @@ fn explain(job: &Job, console: &mut Console) -> Result<(), Stop> {
 }
 
 /// `desk plan PLAN.txt [SEED]`. Exit code 1 where nothing was found.
-pub fn plan(path: &str, seed: Option<&str>, options: &Options, console: &mut Console) -> Result<u8, Stop> {
+pub fn plan(
+    path: &str,
+    seed: Option<&str>,
+    options: &Options,
+    console: &mut Console,
+) -> Result<u8, Stop> {
     let job = Job::new(path, seed, options)?;
     warn(&job.text, console);
     let mut planner = job.planner();

@@ -50,13 +50,21 @@ fn write(folder: &Path, seed: u64, count: usize, entries: &[Entry]) -> Result<St
         let subfolder = folder.join(format!("race{}", i + 1));
         make_folder(&subfolder)?;
         let words = names_and_clauses(&entry.text);
-        out += &write_all(&subfolder, &plan_files(&entry.text.plan, &entry.settings, words))?;
+        out += &write_all(
+            &subfolder,
+            &plan_files(&entry.text.plan, &entry.settings, words),
+        )?;
     }
     Ok(out)
 }
 
 /// Plans every race, and tells what was found; whether all found a plan.
-fn plan(entries: &[Entry], numbers: &[u32], check: bool, console: &mut Console) -> Result<bool, Stop> {
+fn plan(
+    entries: &[Entry],
+    numbers: &[u32],
+    check: bool,
+    console: &mut Console,
+) -> Result<bool, Stop> {
     let races: Vec<_> = entries
         .iter()
         .map(|entry| (entry.stake, entry.text.plan.clone(), entry.settings))
@@ -66,7 +74,10 @@ fn plan(entries: &[Entry], numbers: &[u32], check: bool, console: &mut Console) 
     for (i, (entry, race)) in entries.iter().zip(&answers).enumerate() {
         let (first, end) = (race.first, race.first + race.length);
         let words = ending(race.found.ending);
-        console.say(&format!("race{}: numbers {first} to {end}. {words}\n", i + 1));
+        console.say(&format!(
+            "race{}: numbers {first} to {end}. {words}\n",
+            i + 1
+        ));
         match &race.found.assignment {
             Some(assignment) => console.say(&chosen(&entry.text, assignment).0),
             None => all = false,

@@ -24,7 +24,13 @@ impl Finds<'_, '_> {
 
     /// Tells what comes between two parts: one that is searched has so many finds, and a longer one
     /// found this.
-    fn between(&mut self, part: usize, finds: usize, more: usize, found: &Found) -> Result<(), String> {
+    fn between(
+        &mut self,
+        part: usize,
+        finds: usize,
+        more: usize,
+        found: &Found,
+    ) -> Result<(), String> {
         if found.finds <= finds {
             return Ok(());
         }

@@ -27,7 +27,9 @@ pub struct Report<'a> {
 fn chosen_of(report: &Report, role: Role) -> Vec<usize> {
     let variables = 1..=report.text.plan.variables;
     let chosen = variables.filter(|&each| value(report.assignment, each));
-    chosen.filter(|&each| report.text.names.role(each) == role).collect()
+    chosen
+        .filter(|&each| report.text.names.role(each) == role)
+        .collect()
 }
 
 /// What a variable adds to the cost.
@@ -44,7 +46,11 @@ fn described(text: &Text, variable: usize) -> String {
         "" => String::new(),
         note => format!(" <small>{}</small>", escaped(note)),
     };
-    let fixed = if text.plan.lock(variable).is_some() { " <small>(fixed)</small>" } else { "" };
+    let fixed = if text.plan.lock(variable).is_some() {
+        " <small>(fixed)</small>"
+    } else {
+        ""
+    };
     format!("<b>{name}</b>{note}{fixed}")
 }
 
@@ -56,7 +62,12 @@ fn section(report: &Report, role: Role, heading: &str) -> String {
     }
     let rows: Vec<Vec<String>> = chosen
         .iter()
-        .map(|&each| vec![described(report.text, each), grouped(metres(report.text, each))])
+        .map(|&each| {
+            vec![
+                described(report.text, each),
+                grouped(metres(report.text, each)),
+            ]
+        })
         .collect();
     let sum: i64 = chosen.iter().map(|&each| metres(report.text, each)).sum();
     let (count, sum) = (chosen.len(), grouped(sum));
@@ -73,7 +84,11 @@ pub fn is_crossing(clause: &Clause) -> bool {
 
 /// What holds at a crossing: its rule, one of the rules behind its 'or', or nothing.
 fn what_holds(report: &Report, clause: &Clause) -> String {
-    match clause.rules.iter().position(|rule| rule.holds(report.assignment)) {
+    match clause
+        .rules
+        .iter()
+        .position(|rule| rule.holds(report.assignment))
+    {
         Some(0) => "the rule holds".to_string(),
         Some(place) => {
             let own = Clause {
@@ -94,8 +109,14 @@ fn crossing(report: &Report, place: usize, clause: &Clause) -> Vec<String> {
         Some(name) => name.to_string(),
         None => format!("line {}", text.lines[place]),
     };
-    let there = rule.terms.iter().filter(|term| value(report.assignment, term.variable));
-    let names: Vec<String> = there.clone().map(|term| text.names.called(term.variable)).collect();
+    let there = rule
+        .terms
+        .iter()
+        .filter(|term| value(report.assignment, term.variable));
+    let names: Vec<String> = there
+        .clone()
+        .map(|term| text.names.called(term.variable))
+        .collect();
     let sum: i64 = there.map(|term| term.weight).sum();
     let bound = |bound: Option<i64>| bound.map_or(String::new(), grouped);
     vec![
@@ -118,7 +139,11 @@ fn crossings(report: &Report) -> String {
         return String::new();
     }
     let headings = ["crossing", "marshals", "asked", "posts", "what holds"];
-    format!("<h2>Crossings: {}</h2>\n{}", rows.len(), table("crossings", &headings, &rows))
+    format!(
+        "<h2>Crossings: {}</h2>\n{}",
+        rows.len(),
+        table("crossings", &headings, &rows)
+    )
 }
 
 /// Whether every clause is met, and which are not.
@@ -127,7 +152,10 @@ fn verdict(report: &Report) -> String {
     match unmet(report.text, report.assignment).as_str() {
         "" => format!("<p>Every one of the {count} clauses is met.</p>\n"),
         lines => {
-            let items: String = lines.lines().map(|line| format!("<li>{}</li>\n", escaped(line))).collect();
+            let items: String = lines
+                .lines()
+                .map(|line| format!("<li>{}</li>\n", escaped(line)))
+                .collect();
             format!("<p><strong>NOT A PLAN:</strong></p>\n<ul>\n{items}</ul>\n")
         }
     }
@@ -136,7 +164,16 @@ fn verdict(report: &Report) -> String {
 /// Columns and the size of type, in tenths of a point, with which so many rows and crossings fit on
 /// one page of A4: 700 points are left for them, and a row takes one and a half of its type.
 pub fn layout(rows: usize, crossings: usize) -> (usize, usize) {
-    let sizes = [(2, 100), (2, 90), (3, 80), (3, 70), (4, 60), (5, 50), (6, 40), (8, 30)];
+    let sizes = [
+        (2, 100),
+        (2, 90),
+        (3, 80),
+        (3, 70),
+        (4, 60),
+        (5, 50),
+        (6, 40),
+        (8, 30),
+    ];
     let fits = |&(columns, size): &(usize, usize)| {
         let lines = 70_000 / (15 * size);
         rows.div_ceil(columns) + crossings + 14 <= lines
@@ -196,7 +233,11 @@ pub fn page(report: &Report, path: &str) -> String {
 }
 
 /// The assignment that is reported, and how it was found; None where nothing was found.
-fn found(job: &Job, words: Option<&str>, console: &mut Console) -> Result<Option<(Vec<bool>, String)>, Stop> {
+fn found(
+    job: &Job,
+    words: Option<&str>,
+    console: &mut Console,
+) -> Result<Option<(Vec<bool>, String)>, Stop> {
     if words == Some("-") {
         let (how, assignment) = told_assignment(&job.text, &console.read()?)?;
         return Ok(Some((assignment, how.trim_end().to_string())));
@@ -213,12 +254,19 @@ fn found(job: &Job, words: Option<&str>, console: &mut Console) -> Result<Option
 }
 
 /// `desk report PLAN.txt [SEED | -]`. Exit code 1 where there is no plan.
-pub fn report(path: &str, words: Option<&str>, options: &Options, console: &mut Console) -> Result<u8, Stop> {
+pub fn report(
+    path: &str,
+    words: Option<&str>,
+    options: &Options,
+    console: &mut Console,
+) -> Result<u8, Stop> {
     let seed = words.filter(|&words| words != "-");
     let job = Job::new(path, seed, options)?;
     warn(&job.text, console);
     let Some((assignment, how)) = found(&job, words, console)? else {
-        console.say("no plan was found, and no page is written; desk plan tells what stands in the way\n");
+        console.say(
+            "no plan was found, and no page is written; desk plan tells what stands in the way\n",
+        );
         return Ok(1);
     };
     let report = Report {

@@ -35,7 +35,11 @@ const CELL: [usize; 2] = [62, 30];
 
 /// A colour from green at 0 over yellow to red at 1.
 pub fn colour(part: f64) -> String {
-    let stops = [[90.0, 180.0, 100.0], [250.0, 230.0, 140.0], [220.0, 90.0, 70.0]];
+    let stops = [
+        [90.0, 180.0, 100.0],
+        [250.0, 230.0, 140.0],
+        [220.0, 90.0, 70.0],
+    ];
     let place = part.clamp(0.0, 1.0) * 2.0;
     let lower = (place as usize).min(1);
     let mixed = |i: usize| {
@@ -56,7 +60,11 @@ fn cell(tried: &Tried, column: usize, line: usize, range: (f64, f64)) -> String 
         }
         None => ("#cccccc".to_string(), "none".to_string()),
     };
-    let told = format!("{}: {:.0} % of runs found a plan", walk(&tried.settings).trim_end(), tried.share());
+    let told = format!(
+        "{}: {:.0} % of runs found a plan",
+        walk(&tried.settings).trim_end(),
+        tried.share()
+    );
     let (centre, base) = (x + wide / 2, y + 20);
     format!(
         "<g><title>{}</title><rect x=\"{x}\" y=\"{y}\" width=\"{wide}\" height=\"{high}\" fill=\"{fill}\" \
@@ -93,7 +101,10 @@ fn heat_map(first: &[Tried]) -> String {
     let wide = LEFT + NOISES.len() * CELL[0];
     let high = 30 + CHOICES.len() * MODES.len() * CELL[1];
     let cells: String = cells.collect();
-    format!("<svg id=\"heat\" viewBox=\"0 0 {wide} {high}\">\n{}{cells}</svg>\n", labels())
+    format!(
+        "<svg id=\"heat\" viewBox=\"0 0 {wide} {high}\">\n{}{cells}</svg>\n",
+        labels()
+    )
 }
 
 const PLOT: [f64; 2] = [780.0, 260.0];
@@ -158,7 +169,10 @@ fn axes(scale: &Scale, best: Option<i64>) -> String {
     );
     for cost in [scale.least, scale.most] {
         let (y, words) = (scale.y(cost) + 4.0, grouped(cost as i64));
-        text += &format!("<text x=\"{}\" y=\"{y:.1}\" text-anchor=\"end\">{words}</text>\n", EDGE - 4.0);
+        text += &format!(
+            "<text x=\"{}\" y=\"{y:.1}\" text-anchor=\"end\">{words}</text>\n",
+            EDGE - 4.0
+        );
     }
     if let Some(best) = best {
         let y = scale.y(best as f64);
@@ -204,7 +218,14 @@ fn best_table(last: &[Tried], best: Option<i64>) -> String {
         ])
     };
     let rows: Vec<Vec<String>> = last.iter().filter_map(cells).collect();
-    let headings = ["least cost", "seed", "away", "mean cost", "away", "settings"];
+    let headings = [
+        "least cost",
+        "seed",
+        "away",
+        "mean cost",
+        "away",
+        "settings",
+    ];
     table("best", &headings, &rows)
 }
 
@@ -215,7 +236,7 @@ pub fn page(picture: &Picture) -> String {
     let body = format!(
         "<h1>{}</h1>\n<p>Best cost known: <b id=\"known\">{best}</b>. Away is how far above it a cost is.</p>\n\
          <h2>The best settings</h2>\n{}\
-         <h2>Mean cost by noise, choice and mode (short lists; green is cheap)</h2>\n{}\
+         <h2>Mean cost by noise, choice and mode (green is cheap)</h2>\n{}\
          <h2>Cost over flips, the best of each choice</h2>\n{}",
         escaped(&title),
         best_table(picture.last, picture.best),

@@ -92,7 +92,10 @@ fn accepted<T>(answer: Answered<T>) -> Result<Option<T>, String> {
     match answer {
         None => Ok(None),
         Some(Ok(answer)) => Ok(Some(answer)),
-        Some(Err(number)) => Err(format!("the search is refused ({number}): {}", plain(number))),
+        Some(Err(number)) => Err(format!(
+            "the search is refused ({number}): {}",
+            plain(number)
+        )),
     }
 }
 
@@ -153,20 +156,24 @@ pub fn races(
     numbers: &[u32],
     check: bool,
 ) -> Result<Vec<Race>, String> {
-    let mut rooms: Vec<Room> = races.iter().map(|(_, plan, _)| Room::of(&write(plan))).collect();
+    let mut rooms: Vec<Room> = races
+        .iter()
+        .map(|(_, plan, _)| Room::of(&write(plan)))
+        .collect();
     let asked: Vec<(usize, Settings)> = races.iter().map(|&(stake, _, s)| (stake, s)).collect();
     let proved = archive::races(&mut rooms, &asked, &write_numbers(numbers));
     let reference = || {
         let stakes: Vec<usize> = races.iter().map(|&(stake, ..)| stake).collect();
         let parts = split(&stakes, numbers.len()).expect("stakes that were judged");
-        let race = |((_, plan, settings), part): (&(usize, Plan, Settings), reference::races::Part)| {
-            let own = &numbers[part.first..part.first + part.length];
-            Race {
-                first: part.first,
-                length: part.length,
-                found: Found::of(walk::search(plan, settings, own).expect("judged settings")),
-            }
-        };
+        let race =
+            |((_, plan, settings), part): (&(usize, Plan, Settings), reference::races::Part)| {
+                let own = &numbers[part.first..part.first + part.length];
+                Race {
+                    first: part.first,
+                    length: part.length,
+                    found: Found::of(walk::search(plan, settings, own).expect("judged settings")),
+                }
+            };
         races.iter().zip(parts).map(race).collect()
     };
     agreed(check, accepted(proved)?, reference)
@@ -188,6 +195,9 @@ mod tests {
         assert_eq!(agreed(true, Some(3), || 3), Ok(3));
         assert_eq!(agreed(true, None, || 4), Ok(4));
         let told = agreed(true, Some(3), || 4).unwrap_err();
-        assert_eq!(told, "the proved planner and the reference disagree: 3 and 4");
+        assert_eq!(
+            told,
+            "the proved planner and the reference disagree: 3 and 4"
+        );
     }
 }

@@ -426,10 +426,15 @@ fn variable_notes(lines: &[usize], comments: &[Comment]) -> Vec<String> {
 /// the first of them; lines of one comment are joined.
 fn clause_notes(lines: &[usize], comments: &[Comment]) -> Vec<String> {
     let above = |&line: &usize| {
-        let alone = comments.iter().filter(|each| each.alone && each.line < line);
+        let alone = comments
+            .iter()
+            .filter(|each| each.alone && each.line < line);
         let mut block: Vec<&Comment> = Vec::new();
         for comment in alone {
-            if block.last().is_some_and(|last| last.line + 1 < comment.line) {
+            if block
+                .last()
+                .is_some_and(|last| last.line + 1 < comment.line)
+            {
                 block.clear();
             }
             block.push(comment);
@@ -481,7 +486,10 @@ pub fn read(text: &str) -> Result<Text, Fault> {
     if let Some(fault) = reader.behind {
         return Err(fault);
     }
-    let end = reader.tokens.last().map_or(Place { line: 1, column: 1 }, Token::behind);
+    let end = reader
+        .tokens
+        .last()
+        .map_or(Place { line: 1, column: 1 }, Token::behind);
     let mut text = reader.text;
     text.plan.variables = text.names.variables();
     text.last_line = end.line;
@@ -503,7 +511,12 @@ pub fn read_bytes(bytes: &[u8]) -> Result<Text, Fault> {
         Err(error) => {
             let before = String::from_utf8_lossy(&bytes[..error.valid_up_to()]);
             let line = 1 + before.matches('\n').count();
-            let column = 1 + before.rsplit('\n').next().unwrap_or_default().chars().count();
+            let column = 1 + before
+                .rsplit('\n')
+                .next()
+                .unwrap_or_default()
+                .chars()
+                .count();
             fault(Place { line, column }, "this is no text in UTF-8")
         }
     }

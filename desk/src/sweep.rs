@@ -1,6 +1,8 @@
 //! `desk sweep`: which settings suit a plan. Settings are tried over many runs (document 02, T-11) in
-//! rounds: many of them over short lists first, then the better ones over longer lists, and the best
-//! with the lists that a seed gives, so that `desk plan` finds the same again.
+//! rounds: all of them first, then the better ones over more runs and with other tries and flips, and
+//! the best with the lists that a seed gives, so that `desk plan` finds the same again. Every round
+//! has lists of full length: on a shorter one LBS, which takes big steps first, looks better than it
+//! is.
 
 use crate::console::{Console, Stop};
 use crate::daily::{asked, searched_by};
@@ -30,7 +32,7 @@ const FIRST_SHAPE: (u32, u32) = SHAPES[1];
 
 /// How many of the best go on from the first round and from the second, and how many seeds the last
 /// ones are searched with.
-const SECOND: usize = 8;
+const SECOND: usize = 10;
 const LAST: usize = 6;
 const SEEDS: u64 = 5;
 
@@ -46,7 +48,9 @@ pub struct Tried {
 impl Tried {
     /// The mean cost over the runs that found a plan.
     pub fn mean(&self) -> Option<f64> {
-        self.figures.cost.map(|(top, bottom)| top as f64 / bottom as f64)
+        self.figures
+            .cost
+            .map(|(top, bottom)| top as f64 / bottom as f64)
     }
 
     /// The share of runs that found one, in percent.
@@ -57,7 +61,10 @@ impl Tried {
 
     /// The least cost that some run is known to have reached: no mean is below all of its costs.
     fn reached(&self) -> Option<i64> {
-        let mean = self.figures.cost.map(|(top, bottom)| top.div_euclid(bottom as i64));
+        let mean = self
+            .figures
+            .cost
+            .map(|(top, bottom)| top.div_euclid(bottom as i64));
         let least = self.least.map(|(cost, _)| cost);
         mean.into_iter().chain(least).min()
     }
@@ -120,7 +127,7 @@ impl Sweep<'_, '_, '_> {
 
     /// Each setting over so many runs, the best first. The generator begins as Marsaglia printed it,
     /// with the seed added to its first word.
-    fn round(&mut self, what: &str, list: Vec<Settings>, runs: u32, count: usize) -> Result<Vec<Tried>, Stop> {
+    fn round(&mut self, what: &str, list: Vec<Settings>, runs: u32) -> Result<Vec<Tried>, Stop> {
         let first = 123_456_789_u32.wrapping_add(self.seed as u32);
         let trial = Trial {
             state: Xorwow {
@@ -128,7 +135,7 @@ impl Sweep<'_, '_, '_> {
                 counter: 6_615_241,
             },
             runs,
-            count: count.max(1) as u32,
+            count: self.numbers as u32,
         };
         let (mut tried, all) = (Vec::new(), list.len());
         for settings in list {
@@ -148,16 +155,21 @@ impl Sweep<'_, '_, '_> {
     fn seeds(&mut self, tried: &mut [Tried]) -> Result<(), Stop> {
         let all = tried.len();
         for (made, each) in tried.iter_mut().enumerate() {
-            self.progress("the best with seeds", made, all);
+            self.progress("the best with 5 seeds", made, all);
             for seed in self.seed..self.seed.saturating_add(SEEDS) {
-                let found = asked(self.planner.search(&each.settings, &drawn(seed, self.numbers)))?;
+                let found = asked(
+                    self.planner
+                        .search(&each.settings, &drawn(seed, self.numbers)),
+                )?;
                 let cost = found.assignment.map(|_| found.cost);
-                if let Some(cost) = cost.filter(|&cost| each.least.is_none_or(|(least, _)| cost < least)) {
+                if let Some(cost) =
+                    cost.filter(|&cost| each.least.is_none_or(|(least, _)| cost < least))
+                {
                     each.least = Some((cost, seed));
                 }
             }
         }
-        self.progress("the best with seeds", all, all);
+        self.progress("the best with 5 seeds", all, all);
         Ok(())
     }
 
@@ -181,13 +193,10 @@ impl Sweep<'_, '_, '_> {
 
     /// All rounds: the first one, and the best of the last.
     fn rounds(&mut self) -> Result<[Vec<Tried>; 2], Stop> {
-        let (runs, numbers) = (self.runs, self.numbers);
-        let first = self.round("round 1 of 3", grid(), runs, numbers / 4)?;
+        let first = self.round("round 1 of 2", grid(), self.runs)?;
         let second = shaped(&best_of(&first, SECOND));
-        let second = self.round("round 2 of 3", second, runs, numbers / 2)?;
-        let last = best_of(&second, LAST).iter().map(|tried| tried.settings).collect();
-        let last = self.round("round 3 of 3", last, 2 * runs, numbers)?;
-        let mut last = best_of(&last, LAST);
+        let second = self.round("round 2 of 2", second, 2 * self.runs)?;
+        let mut last = best_of(&second, LAST);
         self.seeds(&mut last)?;
         Ok([first, last])
     }
@@ -210,15 +219,18 @@ fn shaped(tried: &[Tried]) -> Vec<Settings> {
             ..settings
         })
     };
-    tried.iter().flat_map(|tried| shape(tried.settings)).collect()
+    tried
+        .iter()
+        .flat_map(|tried| shape(tried.settings))
+        .collect()
 }
 
 /// The best of each choice among these, to be drawn.
 fn of_each_choice(tried: &[Tried]) -> Vec<Settings> {
     let best = |&(_, heuristic, chance): &(&str, u32, u32)| {
-        let own = tried.iter().filter(|each| {
-            (each.settings.heuristic, each.settings.chance) == (heuristic, chance)
-        });
+        let own = tried
+            .iter()
+            .filter(|each| (each.settings.heuristic, each.settings.chance) == (heuristic, chance));
         own.min_by(|a, b| better(a, b)).map(|each| each.settings)
     };
     CHOICES.iter().filter_map(best).collect()
@@ -245,13 +257,20 @@ fn table(path: &str, last: &[Tried], best: i64, given: bool) -> String {
             walk(&tried.settings),
         );
     }
-    let whose = if given { "given" } else { "found in this sweep" };
+    let whose = if given {
+        "given"
+    } else {
+        "found in this sweep"
+    };
     text += &format!("best known: {}, {whose}\n", grouped(best));
     let cheapest = last.iter().filter_map(|tried| Some((tried.least?, tried)));
     match cheapest.min_by_key(|((cost, _), _)| *cost) {
         Some(((cost, seed), tried)) => {
             let line = walk(&tried.settings);
-            text + &format!("to have cost {cost} again: put '{}' into the text; desk plan {path} {seed}\n", line.trim_end())
+            text + &format!(
+                "to have cost {cost} again: put '{}' into the text; desk plan {path} {seed}\n",
+                line.trim_end()
+            )
         }
         None => text + "no settings found a plan: desk plan tells what stands in the way\n",
     }
@@ -265,15 +284,17 @@ pub fn sweep(path: &str, options: &Options, console: &mut Console) -> Result<u8,
         console,
         started: Instant::now(),
         seed: options.seed_or(None)?,
-        runs: options.runs.unwrap_or(2).min(500),
+        runs: options.runs.unwrap_or(1).min(500),
         numbers: options.numbers.unwrap_or(MOST_NUMBERS),
     };
     let [first, last] = sweep.rounds()?;
     let reached = first.iter().chain(&last).filter_map(Tried::reached).min();
     let best = options.best.into_iter().chain(reached).min();
     let all: Vec<Tried> = last.iter().chain(&first).cloned().collect();
-    let drawn: Result<Vec<Curve>, Stop> =
-        of_each_choice(&all).iter().map(|settings| sweep.curve(settings)).collect();
+    let drawn: Result<Vec<Curve>, Stop> = of_each_choice(&all)
+        .iter()
+        .map(|settings| sweep.curve(settings))
+        .collect();
     let given = best.is_some() && best == options.best;
     let table = table(path, &last, best.unwrap_or(0), given);
     let folder = box_folder(path, &options.folder);
@@ -288,7 +309,10 @@ pub fn sweep(path: &str, options: &Options, console: &mut Console) -> Result<u8,
     };
     write_file(&file, picture::page(&picture).as_bytes())?;
     let count = counted(first.len(), "setting");
-    console.say(&format!("{count} tried\n{table}the picture: {}\n", file.display()));
+    console.say(&format!(
+        "{count} tried\n{table}the picture: {}\n",
+        file.display()
+    ));
     console.say(searched_by(options.check));
     Ok(reached.is_none() as u8)
 }

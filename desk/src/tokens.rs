@@ -135,7 +135,9 @@ fn line_tokens<'a>(line: usize, text: &'a str, tokens: &mut Vec<Token<'a>>) -> R
         let before = &text[..text.len() - left.len()];
         let column = 1 + before.chars().count();
         let token = token(Place { line, column }, left)?;
-        left = left.split_at(left.chars().take(token.width).map(char::len_utf8).sum()).1;
+        left = left
+            .split_at(left.chars().take(token.width).map(char::len_utf8).sum())
+            .1;
         tokens.push(token);
     }
 }

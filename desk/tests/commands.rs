@@ -1,6 +1,7 @@
 //! The built tool: its commands, what it prints where, and its exit codes.
 
 use desk::command::HELP;
+use desk::settings::FIRST;
 use reference::file::{parse, parse_numbers, parse_settings};
 use std::fs;
 use std::path::PathBuf;
@@ -149,7 +150,7 @@ fn chosen_sites_by_name() {
     let out = "start\nford\ncost 310\nford is locked at 0\nbridge is locked at 1\n\
                every clause is met\n";
     assert_eq!(name("110"), printed(1, out));
-    for digits in ["", "-", "10", "1011", "1 1", "102"] {
+    for digits in ["", "10", "1011", "1 1", "102"] {
         let words = "an assignment of this plan is a row of 3 digits, each 0 or 1, not";
         assert_eq!(name(digits), said(1, &format!("{words} '{digits}'")));
     }
@@ -163,14 +164,20 @@ fn faults_of_a_text() {
         TEXT.replace("ford + bridge", "fjord"),
     )
     .unwrap();
-    let fault = said(1, "plan.txt:6: no variable is called 'fjord'");
+    let mark = " ".repeat(4 + 15);
+    let words = "plan.txt:6:16: no variable is called 'fjord'\n    clause start + fjord >= 2\n";
+    let fault = said(1, &format!("{words}{mark}^"));
     assert_eq!(desk(&folder, &["write", "plan.txt", ".", "7", "9"]), fault);
     assert_eq!(desk(&folder, &["name", "plan.txt", "101"]), fault);
-    fs::write(folder.join("plan.txt"), TEXT.replace("walk", "# walk")).unwrap();
-    let fault = said(1, "plan.txt:6: there is no walk statement");
-    assert_eq!(desk(&folder, &["write", "plan.txt", ".", "7", "9"]), fault);
     // Nothing was written.
     assert!(!folder.join("plan.bin").exists());
+    // Without a walk statement the settings are the desk's own, and so are seed and count.
+    fs::write(folder.join("plan.txt"), TEXT.replace("walk", "# walk")).unwrap();
+    assert_eq!(desk(&folder, &["write", "plan.txt", "."]).0, 0);
+    let file = |name| fs::read(folder.join(name)).unwrap();
+    assert_eq!(parse_settings(&file("walk.bin")), Ok(FIRST));
+    let numbers = parse_numbers(&file("numbers.bin")).unwrap();
+    assert_eq!((numbers.len(), numbers[0]), (16_384, 1_502_404_911));
     // Names of another plan.
     fs::write(folder.join("plan.txt"), TEXT).unwrap();
     fs::write(folder.join("other.txt"), "variable 1 start").unwrap();
@@ -219,12 +226,44 @@ fn commands_at_fault() {
     for arguments in [
         &[][..],
         &["plan.txt"],
-        &["write", "plan.txt", "."],
+        &["write", "plan.txt"],
+        &["write", "plan.txt", ".", "1", "2", "3"],
+        &["plan"],
+        &["sweep", "plan.txt", "7"],
+        &["festival", ".", "7", "plan.txt", "3"],
         &["show"],
         &["name", "plan.txt"],
         &["help", "me"],
     ] {
         assert_eq!(desk(&folder, arguments), said(2, &words));
+    }
+    for (arguments, words) in [
+        (
+            &["plan", "plan.txt", "--sed", "7"][..],
+            "no option is called '--sed'; try desk help",
+        ),
+        (
+            &["plan", "plan.txt", "--seed"],
+            "--seed has a value after it",
+        ),
+        (
+            &["plan", "plan.txt", "--numbers", "0"],
+            "--numbers is a whole number from 1 to 16384, not '0'",
+        ),
+        (
+            &["sweep", "plan.txt", "--runs", "1001"],
+            "--runs is a whole number from 1 to 1000, not '1001'",
+        ),
+        (
+            &["sweep", "plan.txt", "--best", "low"],
+            "--best is a whole number, not 'low'",
+        ),
+        (
+            &["plan", "plan.txt", "seven"],
+            "SEED is a whole number from 0 to 18446744073709551615, not 'seven'",
+        ),
+    ] {
+        assert_eq!(desk(&folder, arguments), said(2, words));
     }
     for help in ["help", "--help", "-h"] {
         assert_eq!(desk(&folder, &[help]), printed(0, HELP));

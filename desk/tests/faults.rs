@@ -6,8 +6,16 @@ use desk::tokens::Fault;
 /// Three variables on three lines, then the text from line 4 on.
 fn fault(text: &str) -> (usize, String) {
     let text = format!("variable 1 a\nvariable 2 b\nvariable 3 c-d\n{text}");
-    let Fault { line, words } = read(&text).expect_err(&text);
+    let Fault { line, words, .. } = read(&text).expect_err(&text);
     (line, words)
+}
+
+fn at(line: usize, column: usize, words: String) -> Fault {
+    Fault {
+        line,
+        column,
+        words,
+    }
 }
 
 fn faults(list: &[(&str, usize, &str)]) {
@@ -21,7 +29,7 @@ fn signs_and_numbers() {
     faults(&[
         ("clause a, b <= 2", 4, "',' has no meaning here"),
         ("\n\nclause a < 2", 6, "'<' has no meaning here"),
-        ("clause a ≤ 2", 4, "'≤' has no meaning here"),
+        ("clause a ≠ 2", 4, "'≠' has no meaning here"),
         ("clause a <= 2\n%", 5, "'%' has no meaning here"),
         // The first fault is told, of whichever kind.
         ("clause e <= 2\n%", 4, "no variable is called 'e'"),
@@ -40,10 +48,10 @@ fn signs_and_numbers() {
 
 #[test]
 fn statements() {
-    let why = "may not stand here: a statement begins with variable, variables, minimise, \
-               lock, clause or walk, and a clause's next rule with or";
+    let why = "may not stand here: a statement begins with variable, variables, site, marshal, \
+               course, minimise, lock, clause or walk, and a clause's next rule with or";
     for (text, line, word) in [
-        ("minimize a", 4, "minimize"),
+        ("maximise a", 4, "maximise"),
         ("\nor a <= 1", 5, "or"),
         ("clause a <= 1\n2 <= b", 5, "2"),
         ("clause 1 <= a >= 2", 4, ">="),
@@ -124,12 +132,15 @@ fn variables() {
         (
             "variable",
             4,
-            "expected a variable's number after 'variable', found the end",
+            "expected a name after 'variable', found the end",
         ),
+        ("site or", 4, "expected a name after 'site', found 'or'"),
+        ("marshal a", 4, "variable 1 is called 'a' already"),
+        ("course x4", 4, "'x4' names a variable by its number"),
         (
-            "variable e",
+            "variables 512 site e",
             4,
-            "expected a variable's number after 'variable', found 'e'",
+            "a plan has at most 512 variables",
         ),
         (
             "variables -4",
@@ -357,14 +368,14 @@ fn no_variable_at_all() {
     let none = |text: &str| read(text).unwrap_err();
     for (text, line) in [("", 1), ("# nothing\n\n", 1)] {
         let words = "a plan has at least one variable".to_string();
-        assert_eq!(none(text), Fault { line, words });
+        assert_eq!(none(text), at(line, 1, words));
     }
     let words = "a plan has at least one variable".to_string();
     let walk = "\nwalk noise 1 tries 1\nflips 1 mode lbs\n\n";
-    assert_eq!(none(walk), Fault { line: 3, words });
+    assert_eq!(none(walk), at(3, 17, words));
     // A name is known from its statement on.
     let words = "no variable is called 'a'".to_string();
-    assert_eq!(none("minimise a\nvariable 1 a"), Fault { line: 1, words });
+    assert_eq!(none("minimise a\nvariable 1 a"), at(1, 10, words));
 }
 
 #[test]
@@ -374,7 +385,7 @@ fn limits() {
     let clauses = |count: usize| format!("variables 512\n{}", clause.repeat(count));
     assert!(read(&clauses(512)).is_ok());
     let words = "a plan has at most 512 clauses".to_string();
-    assert_eq!(read(&clauses(513)), Err(Fault { line: 514, words }));
+    assert_eq!(read(&clauses(513)), Err(at(514, 1, words)));
 
     let rules = |count: usize| {
         format!(
@@ -384,7 +395,7 @@ fn limits() {
     };
     assert!(read(&rules(1_024)).is_ok());
     let words = "a plan has at most 1,024 rules".to_string();
-    assert_eq!(read(&rules(1_025)), Err(Fault { line: 1_026, words }));
+    assert_eq!(read(&rules(1_025)), Err(at(1_026, 10, words)));
 
     let sum = |terms: usize| -> String {
         let sum: Vec<String> = (1..=terms).map(|variable| format!("x{variable}")).collect();
@@ -393,7 +404,9 @@ fn limits() {
     let terms = |last: usize| format!("variables 512\n{}{}", sum(500).repeat(11), sum(last));
     assert!(read(&terms(500)).is_ok());
     let words = "a plan's rules have at most 6,000 terms".to_string();
-    assert_eq!(read(&terms(501)), Err(Fault { line: 13, words }));
+    // The line ends with its last token and a line feed.
+    let column = sum(501).len() - 1;
+    assert_eq!(read(&terms(501)), Err(at(13, column, words)));
     // The objective's terms do not count.
     let objective = sum(512).replace("clause", "minimise").replace(" >= 0", "");
     assert!(read(&(terms(500) + &objective)).is_ok());
@@ -403,5 +416,32 @@ fn limits() {
 fn bytes_that_are_no_text() {
     let words = "this is no text in UTF-8".to_string();
     let fault = read_bytes(b"variable 1 a\n\nvariable 2 \xFF\n").unwrap_err();
-    assert_eq!(fault, Fault { line: 3, words });
+    assert_eq!(fault, at(3, 12, words));
+}
+
+/// What is at fault is marked where it begins; what is missing, right behind the token before it. A
+/// column is a character, whatever bytes it has.
+#[test]
+fn columns() {
+    for (text, line, column) in [
+        ("variable a\nclause a + e <= 1", 2, 12),
+        ("variable a\nclause   e <= 1", 2, 10),
+        ("variable a\n\tclause\ta <= 1\te", 2, 16),
+        ("variable a\nclause a <=\n\nclause a >= 1", 2, 12),
+        ("variable a\nclause a ≤\n\nclause a >= 1", 2, 11),
+        ("variable Brücke\nclause Brücke + Brücke >= 1", 2, 17),
+        ("variable a\nlock a 2", 2, 8),
+        ("variable a\nclause a <= 1 % b", 2, 15),
+        ("variable a\nclause d: a <= 1 clause d: a <= 1", 2, 25),
+        ("variable a\nvariable 3 b", 2, 10),
+        ("variable a\nwalk noise 1001", 2, 12),
+    ] {
+        let fault = read(text).expect_err(text);
+        assert_eq!(
+            (fault.line, fault.column),
+            (line, column),
+            "{text:?}: {}",
+            fault.words
+        );
+    }
 }

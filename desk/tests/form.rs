@@ -1,6 +1,6 @@
 //! The text form: what each statement means, and how a plan is printed.
 
-use desk::names::Names;
+use desk::names::{Names, Role};
 use desk::print;
 use desk::read::{read, read_bytes, Text};
 use desk::report::{counted, grouped};
@@ -100,6 +100,63 @@ fn variables_with_and_without_names() {
     assert_eq!(text.names.find("x0"), None);
     assert_eq!(text.names.find("x99999999999999999999"), None);
     assert_eq!(accepted("variables 512").plan.variables, 512);
+}
+
+/// A name without a number is the next variable's, whatever it stands for.
+#[test]
+fn names_without_numbers() {
+    let text =
+        accepted("site start site 2 ford marshal west course long variable spare variables 6");
+    let called: Vec<String> = (1..=6).map(|each| text.names.called(each)).collect();
+    assert_eq!(called, ["start", "ford", "west", "long", "spare", "x6"]);
+    let roles: Vec<Role> = (1..=6).map(|each| text.names.role(each)).collect();
+    use Role::{Course, Marshal, Site, Variable};
+    assert_eq!(roles, [Site, Site, Marshal, Course, Variable, Variable]);
+    let printed = "site 1 start\nsite 2 ford\nmarshal 3 west\ncourse 4 long\nvariable 5 spare\n\
+                   variables 6\n";
+    assert_eq!(print::text(&text.plan, &text.names, None), printed);
+    assert_eq!(accepted(printed).names, text.names);
+}
+
+/// A clause may have a name, which the file does not keep and the texts do.
+#[test]
+fn names_of_clauses() {
+    let text = accepted(
+        "variable a variable b clause ford: 1 <= a + b <= 2 or a <= 0 clause b <= 1 clause b: b ≥ 0",
+    );
+    let names: Vec<Option<&str>> = (0..3).map(|place| text.names.clause(place)).collect();
+    assert_eq!(names, [Some("ford"), None, Some("b")]);
+    let printed = "variable 1 a\nvariable 2 b\nclause ford:\n  1 <= a + b <= 2\n  or a <= 0\n\
+                   clause b <= 1\nclause b: b >= 0\n";
+    assert_eq!(print::text(&text.plan, &text.names, None), printed);
+    assert_eq!(accepted(printed).names, text.names);
+    let clause = &text.plan.clauses[0];
+    assert_eq!(
+        print::clause_at(0, clause, &text.names),
+        "ford: 1 <= a + b <= 2 or a <= 0"
+    );
+}
+
+/// Other spellings: an editor's signs and the American one.
+#[test]
+fn other_spellings() {
+    let plain = accepted("variable a minimise a clause 0 <= a <= 1 clause a >= 1");
+    let other = accepted("variable a minimize a clause 0 ≤ a ≤ 1 clause a≥1");
+    assert_eq!(plain.plan, other.plan);
+}
+
+/// Comments lend the crew's page their words: the first line's, a variable's own and those above a
+/// clause, which the clauses after it share.
+#[test]
+fn what_comments_say() {
+    let text = accepted(
+        "# Heath race\n#\n# more\n\nsite a # boulder\nsite b\n\n# --- rules ---\n\n# One of\n# two.\n\
+         clause a + b >= 1 # here\nclause a <= 1\n\n# Not b.\nclause b <= 0\n",
+    );
+    assert_eq!(text.title, "Heath race");
+    assert_eq!(text.notes, ["boulder", ""]);
+    assert_eq!(text.clause_notes, ["One of two.", "One of two.", "Not b."]);
+    assert_eq!(accepted("variable a # first").title, "");
 }
 
 #[test]
