@@ -2,21 +2,21 @@
 //! several plans taught (docs/DESK.md): no one choice is best on all of them, so that `desk plan`
 //! tries each of these and keeps the one that finds the cheapest plan.
 
-use reference::walk::{Settings, LBS, LINEAR, NOVELTY, SKC};
+use reference::walk::{Settings, LINEAR, NOVELTY, SKC};
 
-/// Novelty+, which is the better choice on plans with many sites.
+/// Novelty+ as it does best on plans with a hundred sites and more.
 pub const FIRST: Settings = Settings {
-    noise: 400,
+    noise: 200,
     tries: 10,
     flips: 3_000,
     mode: LINEAR,
     heuristic: NOVELTY,
-    chance: 50,
+    chance: 10,
 };
 
-/// SKC, which is the better choice on plans of some dozens of sites.
+/// SKC, which does better on plans of some dozens of sites.
 pub const SECOND: Settings = Settings {
-    noise: 400,
+    noise: 500,
     tries: 20,
     flips: 1_000,
     mode: LINEAR,
@@ -24,11 +24,12 @@ pub const SECOND: Settings = Settings {
     chance: 0,
 };
 
-/// SKC with big steps, for costs that lie far apart.
+/// Novelty+ with more blind steps: the one that is least far off where only one may be tried.
 pub const THIRD: Settings = Settings {
-    noise: 800,
-    mode: LBS,
-    ..SECOND
+    tries: 20,
+    flips: 1_000,
+    chance: 100,
+    ..FIRST
 };
 
 pub const DEFAULTS: [Settings; 3] = [FIRST, SECOND, THIRD];

@@ -21,7 +21,7 @@ use std::time::Instant;
 pub const CHOICES: [(&str, u32, u32); 3] = [
     ("SKC", SKC, 0),
     ("Novelty+ 10", NOVELTY, 10),
-    ("Novelty+ 50", NOVELTY, 50),
+    ("Novelty+ 100", NOVELTY, 100),
 ];
 pub const MODES: [(&str, u32); 2] = [("linear", LINEAR), ("LBS", LBS)];
 pub const NOISES: [u32; 11] = [0, 100, 200, 300, 400, 500, 600, 700, 800, 900, 1_000];
@@ -173,22 +173,20 @@ impl Sweep<'_, '_, '_> {
         Ok(())
     }
 
-    /// The cost over the flips of growing parts of one list.
+    /// The cost over the flips of growing parts of one list: a 64th, twice as much up to a quarter,
+    /// then eighths.
     fn curve(&mut self, settings: &Settings) -> Result<Curve, Stop> {
         let numbers = drawn(self.seed, self.numbers);
         let mut points = Vec::new();
-        let mut part = (self.numbers / 64).max(1);
-        while part <= self.numbers {
-            let found = asked(self.planner.search(settings, &numbers[..part]))?;
+        for part in [1, 2, 4, 8, 16, 24, 32, 40, 48, 56, 64] {
+            let part = &numbers[..self.numbers * part / 64];
+            let found = asked(self.planner.search(settings, part))?;
             if found.assignment.is_some() {
                 points.push((found.flips, found.cost));
             }
-            part *= 2;
         }
-        Ok(Curve {
-            label: walk(settings).trim_end().to_string(),
-            points,
-        })
+        let label = walk(settings).trim_end().to_string();
+        Ok(Curve { label, points })
     }
 
     /// All rounds: the first one, and the best of the last.
@@ -202,12 +200,30 @@ impl Sweep<'_, '_, '_> {
     }
 }
 
-/// The best so many, best first.
+/// Settings that differ in tries and flips alone, and came to the same share and cost: the list was
+/// gone before the difference told.
+fn same_walk(a: &Tried, b: &Tried) -> bool {
+    let (tries, flips) = (a.settings.tries, a.settings.flips);
+    let shaped = Settings {
+        tries,
+        flips,
+        ..b.settings
+    };
+    let same_figures = a.figures.cost == b.figures.cost && a.figures.share == b.figures.share;
+    a.settings == shaped && same_figures
+}
+
+/// The best so many, best first; of those that make the same walk one is enough.
 fn best_of(tried: &[Tried], count: usize) -> Vec<Tried> {
     let mut sorted = tried.to_vec();
     sorted.sort_by(better);
-    sorted.truncate(count);
-    sorted
+    let mut best: Vec<Tried> = Vec::new();
+    for each in sorted {
+        if best.len() < count && !best.iter().any(|one| same_walk(one, &each)) {
+            best.push(each);
+        }
+    }
+    best
 }
 
 /// The same settings with every shape.
@@ -236,27 +252,28 @@ fn of_each_choice(tried: &[Tried]) -> Vec<Settings> {
     CHOICES.iter().filter_map(best).collect()
 }
 
+/// One line of the table; None where no seed found a plan.
+fn line(tried: &Tried, best: i64) -> Option<String> {
+    let (cost, seed) = tried.least?;
+    let mean = tried.mean()?;
+    Some(format!(
+        "{:>12} {seed:>6} {:>8} {:>12} {:>8} {:>4.0} %  {}",
+        grouped(cost),
+        percent(cost as f64, best),
+        grouped(mean.round() as i64),
+        percent(mean, best),
+        tried.share(),
+        walk(&tried.settings),
+    ))
+}
+
 /// The table of the best, and what to do with it.
 fn table(path: &str, last: &[Tried], best: i64, given: bool) -> String {
     let mut text = format!(
         "{:>12} {:>6} {:>8} {:>12} {:>8} {:>6}  settings\n",
         "least cost", "seed", "away", "mean cost", "away", "found"
     );
-    for tried in last {
-        let Some((cost, seed)) = tried.least else {
-            continue;
-        };
-        let mean = tried.mean().unwrap_or(f64::NAN);
-        text += &format!(
-            "{:>12} {seed:>6} {:>8} {:>12} {:>8} {:>4.0} %  {}",
-            grouped(cost),
-            percent(cost as f64, best),
-            grouped(mean.round() as i64),
-            percent(mean, best),
-            tried.share(),
-            walk(&tried.settings),
-        );
-    }
+    text.extend(last.iter().filter_map(|tried| line(tried, best)));
     let whose = if given {
         "given"
     } else {
@@ -264,16 +281,26 @@ fn table(path: &str, last: &[Tried], best: i64, given: bool) -> String {
     };
     text += &format!("best known: {}, {whose}\n", grouped(best));
     let cheapest = last.iter().filter_map(|tried| Some((tried.least?, tried)));
-    match cheapest.min_by_key(|((cost, _), _)| *cost) {
-        Some(((cost, seed), tried)) => {
-            let line = walk(&tried.settings);
-            text + &format!(
-                "to have cost {cost} again: put '{}' into the text; desk plan {path} {seed}\n",
-                line.trim_end()
-            )
-        }
-        None => text + "no settings found a plan: desk plan tells what stands in the way\n",
+    if let Some(((cost, seed), tried)) = cheapest.min_by_key(|((cost, _), _)| *cost) {
+        let walk = walk(&tried.settings);
+        text += &format!(
+            "to have cost {cost} again: put '{}' into the text; desk plan {path} {seed}\n",
+            walk.trim_end()
+        );
     }
+    text
+}
+
+/// What is said where no run found a plan.
+const NOTHING: &str = "no settings found a plan: desk plan tells what stands in the way\n";
+
+/// Writes the picture, and gives its path.
+fn draw(path: &str, options: &Options, picture: &Picture) -> Result<String, Stop> {
+    let folder = box_folder(path, &options.folder);
+    make_folder(&folder)?;
+    let file = folder.join("sweep.html");
+    write_file(&file, picture::page(picture).as_bytes())?;
+    Ok(file.display().to_string())
 }
 
 /// `desk sweep PLAN.txt`.
@@ -288,31 +315,24 @@ pub fn sweep(path: &str, options: &Options, console: &mut Console) -> Result<u8,
         numbers: options.numbers.unwrap_or(MOST_NUMBERS),
     };
     let [first, last] = sweep.rounds()?;
-    let reached = first.iter().chain(&last).filter_map(Tried::reached).min();
-    let best = options.best.into_iter().chain(reached).min();
     let all: Vec<Tried> = last.iter().chain(&first).cloned().collect();
-    let drawn: Result<Vec<Curve>, Stop> = of_each_choice(&all)
-        .iter()
-        .map(|settings| sweep.curve(settings))
-        .collect();
-    let given = best.is_some() && best == options.best;
-    let table = table(path, &last, best.unwrap_or(0), given);
-    let folder = box_folder(path, &options.folder);
-    make_folder(&folder)?;
-    let file = folder.join("sweep.html");
+    let choices = of_each_choice(&all);
+    let curves = choices.iter().map(|settings| sweep.curve(settings));
+    let curves = curves.collect::<Result<Vec<Curve>, Stop>>()?;
+    let reached = all.iter().filter_map(Tried::reached).min();
+    let best = reached.map(|reached| options.best.map_or(reached, |best| best.min(reached)));
+    let given = best == options.best;
     let picture = Picture {
         title: path,
         first: &first,
         last: &last,
         best,
-        curves: &drawn?,
+        curves: &curves,
     };
-    write_file(&file, picture::page(&picture).as_bytes())?;
+    let file = draw(path, options, &picture)?;
+    let told = best.map_or(NOTHING.to_string(), |best| table(path, &last, best, given));
     let count = counted(first.len(), "setting");
-    console.say(&format!(
-        "{count} tried\n{table}the picture: {}\n",
-        file.display()
-    ));
+    console.say(&format!("{count} tried\n{told}the picture: {file}\n"));
     console.say(searched_by(options.check));
-    Ok(reached.is_none() as u8)
+    Ok(best.is_none() as u8)
 }
