@@ -8,7 +8,9 @@
  * input; `help` lists them. It exits with 1 where a file is refused.
  *
  * Where FOLDER has a file races.txt it is a festival: a line of it has a race's stake and the name of the subfolder that
- * holds its plan.bin and walk.bin. All races are planned from FOLDER's numbers.bin, and what is chosen is shown.
+ * holds its plan.bin, walk.bin, names.txt and clauses.txt. All races are planned from FOLDER's numbers.bin, and what is
+ * chosen is shown. Commands are for one race, the first, until `race` takes another. A festival is not planned in parts
+ * of its list: with a shorter list each race would have other numbers, and not the first of those that it has.
  *
  * The planner's calls are proved. What this program does around them is not: it reads the files, and it judges walk.bin
  * and the length of numbers.bin itself, as docs/FORMAT.md says.
@@ -143,15 +145,17 @@ static int refuse(const char *what, uint32_t refusal, size_t offset) {
 /* ---- what is shown */
 
 /* A state's cost and how many clauses it does not meet. */
-static void show_standing(const planner_state *of) {
+static void show_standing_in(const planner_plan *in, const planner_state *of) {
     unsigned unmet = planner_state_unmet(of);
-    printf("cost %lld, ", (long long)planner_state_cost(of, &plan));
+    printf("cost %lld, ", (long long)planner_state_cost(of, in));
     if (unmet) {
-        printf("%u of %u clauses not met.\n", unmet, (unsigned)planner_plan_clauses(&plan));
+        printf("%u of %u clauses not met.\n", unmet, (unsigned)planner_plan_clauses(in));
     } else {
         printf("every clause met.\n");
     }
 }
+
+static void show_standing(const planner_state *of) { show_standing_in(&plan, of); }
 
 /* What is shown behind a site's name: nobody but the mapper may change a locked one. */
 static const char *locked(unsigned variable) {
@@ -289,6 +293,117 @@ static void flip(uint32_t variable) {
     show_changes(&trial, &state);
 }
 
+/* ---- a festival: a folder with numbers.bin, a subfolder for each race, and races.txt, a line for each race: its stake
+ * and the name of its subfolder */
+
+static planner_plan race_plans[PLANNER_MOST_RACES];
+static planner_state race_states[PLANNER_MOST_RACES];
+static planner_race races[PLANNER_MOST_RACES + 1];
+static char race_folders[PLANNER_MOST_RACES + 1][LINE_SIZE];
+
+/* How many races there are, 0 for a single plan; and which of them the commands are for. */
+static size_t race_count, race_shown;
+
+/* The races of races.txt, one more than there may be at most. */
+static size_t read_races(FILE *file) {
+    char line[LINE_SIZE];
+    size_t count = 0;
+    while (count <= PLANNER_MOST_RACES && read_line(file, line, sizeof line)) {
+        size_t digits = strspn(line, "0123456789"), stake = 0;
+        for (size_t i = 0; i < digits && stake <= 100; i++) stake = 10 * stake + (size_t)(line[i] - '0');
+        races[count].stake = stake;
+        snprintf(race_folders[count], LINE_SIZE, "%s", line + digits + strspn(line + digits, " "));
+        count++;
+    }
+    return count;
+}
+
+/* Reads one race's plan and settings; 1 where a file is refused. */
+static int read_race(const char *folder, size_t i) {
+    char path[4096];
+    size_t plan_length, walk_length;
+    snprintf(path, sizeof path, "%s/%s", folder, race_folders[i]);
+    int fits = read_file(path, "plan.bin", plan_file, &plan_length);
+    fits &= read_file(path, "walk.bin", walk_file, &walk_length);
+    if (!fits) return refuse(race_folders[i], PLANNER_FILE_TOO_LARGE, 0);
+    planner_loaded loaded = planner_plan_load(&race_plans[i], plan_file, plan_length);
+    if (loaded.refusal) return refuse(race_folders[i], loaded.refusal, loaded.offset);
+    planner_loaded walk = read_walk(walk_length, &races[i].settings);
+    if (walk.refusal) return refuse(race_folders[i], walk.refusal, walk.offset);
+    races[i].plan = &race_plans[i];
+    races[i].state = &race_states[i];
+    return 0;
+}
+
+/* The plan, the state and the words of one race are those that commands are for. */
+static void take_race(const char *folder, size_t i) {
+    char path[4096];
+    snprintf(path, sizeof path, "%s/%s", folder, race_folders[i]);
+    read_names(path);
+    read_clauses(path);
+    plan = race_plans[i];
+    state = race_states[i];
+    race_shown = i;
+}
+
+static void show_race(const char *folder, size_t i) {
+    const planner_searched *found = &races[i].answer;
+    printf("%s: numbers %zu to %zu. ", race_folders[i], races[i].first, races[i].first + races[i].length);
+    planner_opened opened = planner_state_open(&race_states[i], &race_plans[i]);
+    take_race(folder, i);
+    if (found->refusal || opened.refusal) {
+        refuse("The search", found->refusal ? found->refusal : opened.refusal, 0);
+        return;
+    }
+    printf("%s.\n", planner_ending_text(found->ending));
+    if (found->finds) printf("Cost %lld. ", (long long)found->cost);
+    printf("%zu found, %zu flips, %zu of %zu numbers used.\n", found->finds, found->flips, found->used, races[i].length);
+    show_chosen();
+}
+
+/* Plans every race. Where nothing is found the sites that are locked at yes stay chosen, and no other. */
+static int search_races(const char *folder, size_t count, size_t numbers_length) {
+    for (size_t i = 0; i < count && i < PLANNER_MOST_RACES; i++) {
+        memset(&race_states[i], 0, sizeof race_states[i]);
+        for (unsigned k = 0; k < planner_plan_variables(&race_plans[i]); k++) {
+            race_states[i].assignment[k] = planner_plan_lock(&race_plans[i], k + 1) == PLANNER_LOCKED_AT_1;
+        }
+    }
+    uint32_t refusal = planner_plan_races(races, count, numbers, numbers_length, &work);
+    if (refusal) return refuse("The festival", refusal, 0);
+    for (size_t i = 0; i < count; i++) show_race(folder, i);
+    take_race(folder, 0);
+    printf("Commands are for %s; race NAME takes another.\n", race_folders[0]);
+    return 0;
+}
+
+/* Every race with its number, cost and unmet clauses. */
+static void show_races(void) {
+    race_states[race_shown] = state;
+    for (size_t i = 0; i < race_count; i++) {
+        printf("%5zu  %s: ", i + 1, race_folders[i]);
+        show_standing_in(&race_plans[i], &race_states[i]);
+    }
+}
+
+/* Another race, by its number or by the name of its subfolder. */
+static void change_race(const char *folder, const char *words) {
+    size_t i = 0;
+    char number[24];
+    for (; i < race_count; i++) {
+        snprintf(number, sizeof number, "%zu", i + 1);
+        if (strcmp(words, number) == 0 || strcmp(words, race_folders[i]) == 0) break;
+    }
+    if (i == race_count) {
+        printf("No race is called '%s'.\n", words);
+        return;
+    }
+    race_states[race_shown] = state;
+    take_race(folder, i);
+    printf("%s.\n", race_folders[i]);
+    show_chosen();
+}
+
 /* ---- commands */
 
 /* A variable by its number, or else by its name; whether there is one so called. A number without room stands for the
@@ -317,6 +432,8 @@ static void show_help(void) {
     printf("try SITE         what turning a site over would do\n");
     printf("flip SITE        turn it over\n");
     printf("search           from the files, again\n");
+    printf("races            every race of a festival\n");
+    printf("race NAME        take another race, by number or name\n");
     printf("quit\n");
     printf("SITE is a number or a name.\n");
 }
@@ -333,7 +450,54 @@ static void turn(const char *command, const char *words) {
     }
 }
 
-static void run_commands(planner_settings settings, size_t numbers_length) {
+/* What was read, for commands that need it again. */
+typedef struct {
+    const char *folder;
+    planner_settings settings;
+    size_t numbers_length;
+} session;
+
+/* A command that is for a single plan or for a festival, as the folder has it. */
+static void search_again(const session *of) {
+    if (race_count) {
+        search_races(of->folder, race_count, of->numbers_length);
+    } else {
+        search(of->settings, of->numbers_length);
+    }
+}
+
+/* A command about the races of a festival. */
+static void about_races(const session *of, const char *command, const char *words) {
+    if (!race_count) {
+        printf("This is no festival.\n");
+    } else if (strcmp(command, "races") == 0) {
+        show_races();
+    } else {
+        change_race(of->folder, words);
+    }
+}
+
+static void run_command(const session *of, const char *command, const char *words) {
+    if (strcmp(command, "show") == 0) {
+        show_chosen();
+    } else if (strcmp(command, "all") == 0) {
+        show_all();
+    } else if (strcmp(command, "unmet") == 0) {
+        show_unmet();
+    } else if (strcmp(command, "search") == 0) {
+        search_again(of);
+    } else if (strcmp(command, "races") == 0 || strcmp(command, "race") == 0) {
+        about_races(of, command, words);
+    } else if (strcmp(command, "help") == 0) {
+        show_help();
+    } else if (strcmp(command, "try") == 0 || strcmp(command, "flip") == 0) {
+        turn(command, words);
+    } else if (command[0]) {
+        printf("No command is called '%s'; try help.\n", command);
+    }
+}
+
+static void run_commands(const session *of) {
     char line[LINE_SIZE];
     fflush(stdout);
     while (read_line(stdin, line, sizeof line)) {
@@ -344,128 +508,53 @@ static void run_commands(planner_settings settings, size_t numbers_length) {
         }
         words += strspn(words, " ");
         if (strcmp(line, "quit") == 0) return;
-        if (strcmp(line, "show") == 0) {
-            show_chosen();
-        } else if (strcmp(line, "all") == 0) {
-            show_all();
-        } else if (strcmp(line, "unmet") == 0) {
-            show_unmet();
-        } else if (strcmp(line, "search") == 0) {
-            search(settings, numbers_length);
-        } else if (strcmp(line, "help") == 0) {
-            show_help();
-        } else if (strcmp(line, "try") == 0 || strcmp(line, "flip") == 0) {
-            turn(line, words);
-        } else if (line[0]) {
-            printf("No command is called '%s'; try help.\n", line);
-        }
+        run_command(of, line, words);
         fflush(stdout);
     }
 }
 
-/* ---- a festival: a folder with numbers.bin, a subfolder for each race, and races.txt, a line for each race: its stake
- * and the name of its subfolder */
-
-static planner_plan race_plans[PLANNER_MOST_RACES];
-static planner_state race_states[PLANNER_MOST_RACES];
-static planner_race races[PLANNER_MOST_RACES + 1];
-static char race_folders[PLANNER_MOST_RACES + 1][LINE_SIZE];
-
-/* The races of races.txt, one more than there may be at most. */
-static size_t read_races(FILE *file) {
-    char line[LINE_SIZE];
-    size_t count = 0;
-    while (count <= PLANNER_MOST_RACES && read_line(file, line, sizeof line)) {
-        size_t digits = strspn(line, "0123456789"), stake = 0;
-        for (size_t i = 0; i < digits && stake <= 100; i++) stake = 10 * stake + (size_t)(line[i] - '0');
-        races[count].stake = stake;
-        snprintf(race_folders[count], LINE_SIZE, "%s", line + digits + strspn(line + digits, " "));
-        count++;
-    }
-    return count;
-}
-
-/* Reads one race's plan and settings; 1 where a file is refused. Where nothing is found the sites that are locked at yes
- * stay chosen, and no other. */
-static int read_race(const char *folder, size_t i) {
-    char path[4096];
-    size_t plan_length, walk_length;
-    snprintf(path, sizeof path, "%s/%s", folder, race_folders[i]);
-    int fits = read_file(path, "plan.bin", plan_file, &plan_length);
-    fits &= read_file(path, "walk.bin", walk_file, &walk_length);
-    if (!fits) return refuse(race_folders[i], PLANNER_FILE_TOO_LARGE, 0);
-    planner_loaded loaded = planner_plan_load(&race_plans[i], plan_file, plan_length);
-    if (loaded.refusal) return refuse(race_folders[i], loaded.refusal, loaded.offset);
-    planner_loaded walk = read_walk(walk_length, &races[i].settings);
-    if (walk.refusal) return refuse(race_folders[i], walk.refusal, walk.offset);
-    for (unsigned k = 0; k < planner_plan_variables(&race_plans[i]); k++) {
-        race_states[i].assignment[k] = planner_plan_lock(&race_plans[i], k + 1) == PLANNER_LOCKED_AT_1;
-    }
-    races[i].plan = &race_plans[i];
-    races[i].state = &race_states[i];
-    return 0;
-}
-
-static void show_race(const char *folder, size_t i) {
-    char path[4096];
-    const planner_searched *found = &races[i].answer;
-    printf("%s: numbers %zu to %zu. ", race_folders[i], races[i].first, races[i].first + races[i].length);
-    if (found->refusal) {
-        refuse("The search", found->refusal, 0);
-        return;
-    }
-    printf("%s.\n", planner_ending_text(found->ending));
-    if (found->finds) printf("Cost %lld. ", (long long)found->cost);
-    printf("%zu found, %zu flips, %zu of %zu numbers used.\n", found->finds, found->flips, found->used, races[i].length);
-    snprintf(path, sizeof path, "%s/%s", folder, race_folders[i]);
-    read_names(path);
-    plan = race_plans[i];
-    state = race_states[i];
-    planner_opened opened = planner_state_open(&state, &plan);
-    if (opened.refusal) {
-        refuse("The opening", opened.refusal, 0);
-        return;
-    }
-    show_chosen();
-}
-
 /* Plans every race of a festival from its one list of numbers. */
-static int plan_festival(const char *folder, FILE *list) {
-    size_t numbers_length, count = read_races(list);
+static int run_festival(const char *folder, FILE *list) {
+    session of = {folder, planner_settings_of(0, 0, 0, 0), 0};
+    size_t count = read_races(list);
     fclose(list);
-    if (!read_file(folder, "numbers.bin", numbers, &numbers_length)) {
+    if (!read_file(folder, "numbers.bin", numbers, &of.numbers_length)) {
         return refuse("numbers.bin", PLANNER_FILE_TOO_LARGE, 0);
     }
-    if (numbers_length % 4 != 0) return refuse("numbers.bin", PLANNER_CUT_NUMBER, 0);
+    if (of.numbers_length % 4 != 0) return refuse("numbers.bin", PLANNER_CUT_NUMBER, 0);
     for (size_t i = 0; i < count && i < PLANNER_MOST_RACES; i++) {
         if (read_race(folder, i)) return 1;
     }
-    uint32_t refusal = planner_plan_races(races, count, numbers, numbers_length, &work);
-    if (refusal) return refuse("The festival", refusal, 0);
-    for (size_t i = 0; i < count; i++) show_race(folder, i);
+    if (search_races(folder, count, of.numbers_length)) return 1;
+    race_count = count;
+    run_commands(&of);
+    return 0;
+}
+
+/* Plans one folder and shows it. */
+static int run_plan(const char *folder) {
+    session of = {folder, planner_settings_of(0, 0, 0, 0), 0};
+    size_t plan_length, walk_length;
+    int fits = read_file(folder, "plan.bin", plan_file, &plan_length);
+    fits &= read_file(folder, "walk.bin", walk_file, &walk_length);
+    fits &= read_file(folder, "numbers.bin", numbers, &of.numbers_length);
+    if (!fits) return refuse("One of the files", PLANNER_FILE_TOO_LARGE, 0);
+
+    planner_loaded loaded = planner_plan_load(&plan, plan_file, plan_length);
+    if (loaded.refusal) return refuse("plan.bin", loaded.refusal, loaded.offset);
+    planner_loaded walk = read_walk(walk_length, &of.settings);
+    if (walk.refusal) return refuse("walk.bin", walk.refusal, walk.offset);
+    if (of.numbers_length % 4 != 0) return refuse("numbers.bin", PLANNER_CUT_NUMBER, 0);
+
+    read_names(folder);
+    read_clauses(folder);
+    if (search(of.settings, of.numbers_length)) return 1;
+    run_commands(&of);
     return 0;
 }
 
 int main(int count, char **arguments) {
     const char *folder = count > 1 ? arguments[1] : ".";
     FILE *festival = open_file(folder, "races.txt");
-    if (festival) return plan_festival(folder, festival);
-    size_t plan_length, walk_length, numbers_length;
-    int fits = read_file(folder, "plan.bin", plan_file, &plan_length);
-    fits &= read_file(folder, "walk.bin", walk_file, &walk_length);
-    fits &= read_file(folder, "numbers.bin", numbers, &numbers_length);
-    if (!fits) return refuse("One of the files", PLANNER_FILE_TOO_LARGE, 0);
-
-    planner_loaded loaded = planner_plan_load(&plan, plan_file, plan_length);
-    if (loaded.refusal) return refuse("plan.bin", loaded.refusal, loaded.offset);
-    planner_settings settings = planner_settings_of(0, 0, 0, 0);
-    planner_loaded walk = read_walk(walk_length, &settings);
-    if (walk.refusal) return refuse("walk.bin", walk.refusal, walk.offset);
-    if (numbers_length % 4 != 0) return refuse("numbers.bin", PLANNER_CUT_NUMBER, 0);
-
-    read_names(folder);
-    read_clauses(folder);
-    if (search(settings, numbers_length)) return 1;
-    run_commands(settings, numbers_length);
-    return 0;
+    return festival ? run_festival(folder, festival) : run_plan(folder);
 }

@@ -7,7 +7,7 @@ use reference::counts::Count;
 use reference::file::{parse, parse_numbers, parse_settings, Refusal};
 use reference::plan::Plan;
 use reference::program::{contents, MOST_BYTES};
-use reference::races::{split, RACES};
+use reference::races::{split, Part, RACES};
 use reference::tallies::Tallies;
 use reference::walk::{self, Ending, Settings};
 use std::path::Path;
@@ -27,6 +27,8 @@ unmet            the clauses that are not met
 try SITE         what turning a site over would do
 flip SITE        turn it over
 search           from the files, again
+races            every race of a festival
+race NAME        take another race, by number or name
 quit
 SITE is a number or a name.
 ";
@@ -361,6 +363,7 @@ impl Screen<'_> {
             b"unmet" => self.unmet(),
             b"search" => self.search(),
             b"help" => self.say(HELP),
+            b"races" | b"race" => self.say("This is no festival.\n"),
             b"try" | b"flip" => match self.variable(words) {
                 None => self.say_with("No site is called '", words, "'.\n"),
                 Some(variable) if command == b"flip" => self.flip(variable),
@@ -402,8 +405,15 @@ fn plainly(what: &str, number: u32) -> Vec<u8> {
     refused(what, Refusal { number, offset: 0 })
 }
 
+/// What races.txt and the files of its races say.
+struct Festival {
+    names: Vec<String>,
+    parts: Vec<Part>,
+    files: Vec<Files>,
+}
+
 /// A festival: every race of races.txt with its part of the folder's numbers.
-fn festival(folder: &Path, list: &[u8]) -> Result<Vec<u8>, Vec<u8>> {
+fn read_festival(folder: &Path, list: &[u8]) -> Result<Festival, Vec<u8>> {
     let mut left = list;
     let mut lines = Vec::new();
     while lines.len() <= RACES {
@@ -423,34 +433,135 @@ fn festival(folder: &Path, list: &[u8]) -> Result<Vec<u8>, Vec<u8>> {
     }
     let stakes: Vec<usize> = lines.iter().map(|(stake, _)| *stake).collect();
     let parts = split(&stakes, numbers.len()).map_err(|number| plainly("The festival", number))?;
-    let mut shown = Vec::new();
-    for (((_, name), (plan, settings)), part) in lines.iter().zip(read).zip(parts) {
-        let end = part.first + part.length;
-        shown.extend(format!("{name}: numbers {} to {end}. ", part.first).into_bytes());
-        let subfolder = folder.join(name);
-        let files = Files {
-            plan,
-            settings,
-            numbers: numbers[part.first..end].to_vec(),
-        };
-        let mut screen = Screen {
-            names: lines_of(&subfolder.join("names.txt"), files.plan.variables, NAME),
-            clauses: Vec::new(),
-            files: &files,
-            bits: Vec::new(),
-            shown: Vec::new(),
-        };
-        screen.search_whole();
-        shown.extend(screen.shown);
+    let files = read.into_iter().zip(&parts);
+    let files = files.map(|((plan, settings), part)| Files {
+        plan,
+        settings,
+        numbers: numbers[part.first..part.first + part.length].to_vec(),
+    });
+    Ok(Festival {
+        names: lines.iter().map(|(_, name)| name.clone()).collect(),
+        files: files.collect(),
+        parts,
+    })
+}
+
+/// The festival's races on the screen, and which of them commands are for.
+struct Races<'a> {
+    festival: &'a Festival,
+    screens: Vec<Screen<'a>>,
+    taken: usize,
+    shown: Vec<u8>,
+}
+
+impl Races<'_> {
+    fn say(&mut self, text: &str) {
+        self.shown.extend(text.as_bytes());
     }
-    Ok(shown)
+
+    /// What a race's screen has to show comes after what was shown before.
+    fn gather(&mut self, place: usize) {
+        let shown = std::mem::take(&mut self.screens[place].shown);
+        self.shown.extend(shown);
+    }
+
+    fn search(&mut self) {
+        for place in 0..self.screens.len() {
+            let part = self.festival.parts[place];
+            let (name, end) = (&self.festival.names[place], part.first + part.length);
+            let line = format!("{name}: numbers {} to {end}. ", part.first);
+            self.say(&line);
+            self.screens[place].search_whole();
+            self.gather(place);
+        }
+        self.taken = 0;
+        let first = &self.festival.names[0];
+        self.say(&format!(
+            "Commands are for {first}; race NAME takes another.\n"
+        ));
+    }
+
+    fn list(&mut self) {
+        for place in 0..self.screens.len() {
+            let screen = &self.screens[place];
+            let (name, standing) = (&self.festival.names[place], screen.standing(&screen.bits));
+            let line = format!("{:5}  {name}: {standing}", place + 1);
+            self.say(&line);
+        }
+    }
+
+    fn take(&mut self, words: &[u8]) {
+        let names = self.festival.names.iter().enumerate();
+        let called = |(place, name): (usize, &String)| {
+            let number = (place + 1).to_string();
+            (number.as_bytes() == words || name.as_bytes() == words).then_some(place)
+        };
+        let Some(place) = names.into_iter().find_map(called) else {
+            self.say("No race is called '");
+            self.shown.extend(words);
+            return self.say("'.\n");
+        };
+        self.taken = place;
+        let name = &self.festival.names[place];
+        self.say(&format!("{name}.\n"));
+        self.screens[place].show();
+        self.gather(place);
+    }
+
+    /// Carries out one command; whether there may be another.
+    fn command(&mut self, line: &[u8]) -> bool {
+        let end = line.iter().position(|&byte| byte == b' ');
+        let (command, words) = line.split_at(end.unwrap_or(line.len()));
+        match command {
+            b"search" => self.search(),
+            b"races" => self.list(),
+            b"race" => self.take(words.trim_ascii()),
+            _ => {
+                let more = self.screens[self.taken].command(line);
+                self.gather(self.taken);
+                return more;
+            }
+        }
+        true
+    }
+}
+
+/// What is shown of a festival.
+fn festival_session(folder: &Path, festival: &Festival, mut input: &[u8]) -> Vec<u8> {
+    let screen = |(name, files)| screen_of(&folder.join::<&String>(name), files);
+    let screens = festival.names.iter().zip(&festival.files).map(screen);
+    let mut races = Races {
+        festival,
+        screens: screens.collect(),
+        taken: 0,
+        shown: Vec::new(),
+    };
+    races.search();
+    while let Some(line) = line(&mut input, LINE) {
+        if !races.command(&line) {
+            break;
+        }
+    }
+    races.shown
+}
+
+/// A screen of one folder, before anything is shown.
+fn screen_of<'a>(folder: &Path, files: &'a Files) -> Screen<'a> {
+    let plan = &files.plan;
+    Screen {
+        names: lines_of(&folder.join("names.txt"), plan.variables, NAME),
+        clauses: lines_of(&folder.join("clauses.txt"), plan.clauses.len(), CLAUSE),
+        files,
+        bits: Vec::new(),
+        shown: Vec::new(),
+    }
 }
 
 /// What is shown, and the exit code.
 pub fn session(folder: &Path, mut input: &[u8]) -> (Vec<u8>, u8) {
     if let Ok(list) = std::fs::read(folder.join("races.txt")) {
-        return match festival(folder, &list) {
-            Ok(shown) => (shown, 0),
+        return match read_festival(folder, &list) {
+            Ok(festival) => (festival_session(folder, &festival, input), 0),
             Err(refused) => (refused, 1),
         };
     }
@@ -458,17 +569,7 @@ pub fn session(folder: &Path, mut input: &[u8]) -> (Vec<u8>, u8) {
         Ok(files) => files,
         Err(refused) => return (refused, 1),
     };
-    let mut screen = Screen {
-        names: lines_of(&folder.join("names.txt"), files.plan.variables, NAME),
-        clauses: lines_of(
-            &folder.join("clauses.txt"),
-            files.plan.clauses.len(),
-            CLAUSE,
-        ),
-        files: &files,
-        bits: Vec::new(),
-        shown: Vec::new(),
-    };
+    let mut screen = screen_of(folder, &files);
     screen.search();
     while let Some(line) = line(&mut input, LINE) {
         if !screen.command(&line) {
