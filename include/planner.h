@@ -46,6 +46,12 @@
 extern "C" {
 #endif
 
+/* ---- version: of header and archives together (CHANGELOG.md). Where the first number changes, programs have to */
+
+#define PLANNER_VERSION "1.0.0"
+/* The same for the preprocessor: 10,000 times the first number, 100 times the second, and the third. */
+#define PLANNER_VERSION_NUMBER 10000
+
 /* ---- sizes */
 
 /* The buffers in bytes (docs/FORMAT.md). None is larger than 64 KiB. Larger ones may be lent: places past these sizes
