@@ -1,6 +1,6 @@
-//! Links the proved archives where `rt staticlib` has written them, with the calls of
-//! `src/archive.c`. Where they are not there yet the tool is built all the same: it then searches by
-//! the reference alone, and says so.
+//! Links the proved archives where `rt staticlib` has written them, or in the folder that
+//! PLANNER_ARCHIVES names, with the calls of `src/archive.c`. Where they are not there yet the tool is
+//! built all the same: it then searches by the reference alone, and says so.
 
 use std::env;
 use std::path::{Path, PathBuf};
@@ -42,7 +42,11 @@ fn main() {
     let root = Path::new(env!("CARGO_MANIFEST_DIR")).join("..");
     let out = PathBuf::from(env::var_os("OUT_DIR").expect("cargo gives a folder to write into"));
     let archives = ["planner", "csv"];
-    let folder = root.join("target/staticlib");
+    println!("cargo:rerun-if-env-changed=PLANNER_ARCHIVES");
+    let folder = match env::var_os("PLANNER_ARCHIVES") {
+        Some(folder) => PathBuf::from(folder),
+        None => root.join("target/staticlib"),
+    };
     let paths = archives.map(|name| folder.join(format!("lib{name}.a")));
     println!("cargo:rustc-check-cfg=cfg(proved)");
     for path in &paths {

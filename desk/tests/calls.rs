@@ -44,6 +44,9 @@ fn declared() -> (BTreeMap<String, String>, BTreeMap<String, String>) {
             }
             let end = rest.find([';', '{']).unwrap();
             let whole = in_one_line(&rest[..end]);
+            if !name_of(&whole).starts_with("planner_") {
+                continue;
+            }
             match whole.strip_prefix("static inline ") {
                 Some(own) => inline.insert(name_of(own).to_string(), own.to_string()),
                 None => calls.insert(name_of(&whole).to_string(), whole.clone()),
