@@ -23,6 +23,9 @@ pub struct Report<'a> {
     pub how: &'a str,
 }
 
+/// A list of so many rows is not broken over columns.
+const SHORT: usize = 12;
+
 /// The chosen variables of a role.
 fn chosen_of(report: &Report, role: Role) -> Vec<usize> {
     let variables = 1..=report.text.plan.variables;
@@ -72,7 +75,9 @@ fn section(report: &Report, role: Role, heading: &str) -> String {
     let sum: i64 = chosen.iter().map(|&each| metres(report.text, each)).sum();
     let (count, sum) = (chosen.len(), grouped(sum));
     let table = table("chosen", &["", "metres"], &rows);
-    format!("<section><h2>{heading}: {count}, {sum} m</h2>\n{table}</section>\n")
+    // A short list stays in one column.
+    let class = if count <= SHORT { "short" } else { "long" };
+    format!("<section class=\"{class}\"><h2>{heading}: {count}, {sum} m</h2>\n{table}</section>\n")
 }
 
 /// A clause is a crossing where it has an 'or', and its first rule says between how many and how
@@ -193,6 +198,7 @@ fn style(report: &Report) -> String {
          h1 {{ font-size: 1.5em; margin: 0 0 .2em; }} h2 {{ font-size: 1.1em; margin: .6em 0 .1em; }}\n\
          p {{ margin: .2em 0; }} small {{ color: #444; }}\n\
          .columns {{ columns: {columns}; column-gap: 8mm; }}\n\
+         .short, tr {{ break-inside: avoid; }} h2 {{ break-after: avoid; }}\n\
          table {{ border-collapse: collapse; width: 100%; }}\n\
          td, th {{ padding: 0 .4em; text-align: left; border-bottom: .3pt solid #bbb; vertical-align: top; }}\n\
          .chosen td:last-child, .chosen th:last-child {{ text-align: right; }}\n\
@@ -208,19 +214,30 @@ fn title(report: &Report, path: &str) -> String {
     }
 }
 
+/// What is chosen, role by role.
+fn sections(report: &Report) -> String {
+    let variables = 1..=report.text.plan.variables;
+    let told_apart = variables
+        .into_iter()
+        .any(|each| report.text.names.role(each) != Role::Variable);
+    let others = if told_apart { "Also chosen" } else { "Chosen" };
+    let roles = [
+        (Role::Site, "Sites that get a unit"),
+        (Role::Marshal, "Marshals"),
+        (Role::Course, "Courses held"),
+        (Role::Variable, others),
+    ];
+    let sections = roles.iter();
+    sections
+        .map(|&(role, heading)| section(report, role, heading))
+        .collect()
+}
+
 /// The whole page.
 pub fn page(report: &Report, path: &str) -> String {
     let title = title(report, path);
     let cost = grouped(report.text.plan.cost(report.assignment));
-    let sections: String = [
-        (Role::Site, "Sites that get a unit"),
-        (Role::Marshal, "Marshals"),
-        (Role::Course, "Courses held"),
-        (Role::Variable, "Chosen"),
-    ]
-    .iter()
-    .map(|&(role, heading)| section(report, role, heading))
-    .collect();
+    let sections = sections(report);
     let body = format!(
         "<h1>{}</h1>\n<p><b id=\"cost\">{cost} metres</b> in all. {}</p>\n{}\
          <div class=\"columns\">\n{sections}</div>\n{}",

@@ -51,7 +51,7 @@ fn the_race_day_for_the_crew() {
         "Sites that get a unit: 10, 3,430 m",
         "Marshals: 4, 810 m",
         "Courses held: 3, -1,200 m",
-        "Chosen: 1, 0 m",
+        "Also chosen: 1, 0 m",
         "Crossings: 3",
     ] {
         assert!(page.contains(&format!("<h2>{heading}</h2>")), "{heading}");
