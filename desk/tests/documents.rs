@@ -17,7 +17,11 @@ fn pages() -> Vec<PathBuf> {
     let folders = [
         "",
         "docs",
+        "docs/calls",
         "docs/requests",
+        "examples/big-race",
+        "examples/festival",
+        "examples/mapper",
         "examples/race-day",
         "examples/two-sites",
         "tests/vectors",

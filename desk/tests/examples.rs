@@ -149,7 +149,7 @@ fn the_example_of_the_desk_s_page() {
         assert_eq!(desk(&folder, &arguments), printed);
         commands += 1;
     }
-    assert_eq!(commands, 3);
+    assert_eq!(commands, 5);
     let lines = program(&folder);
     let (first, second) = lines.trim_end().split_once('\n').unwrap();
     assert!(page.contains(&format!("prints `{first}` and `{second}`:")));
