@@ -1,6 +1,7 @@
 //! The documents: every link leads to a file, every name that is said to stand in a file does, and
 //! every quoted statement is there line by line.
 
+use desk::command::run;
 use std::fs;
 use std::path::{Path, PathBuf};
 
@@ -153,8 +154,37 @@ fn the_lines_shown_are_those_printed() {
     let words: Vec<&str> = lines[0].split(' ').collect();
     let shown = format!(": cost {} after {} flips`", words[1], words[3]);
     assert!(readme.contains(&shown));
-    assert!(readme.contains(&format!(
-        "desk name examples/race-day/plan.txt {}\n",
-        lines[1]
+}
+
+/// The commands of README.md's section for the planner, run as they stand there, in a folder of this
+/// test's own: the first ends with the race day's cost.
+#[test]
+fn the_commands_at_the_desk() {
+    let readme = text(&root().join("README.md"));
+    let (_, section) = readme.split_once("\n## At the desk\n").unwrap();
+    let (section, _) = section.split_once("\n## ").unwrap();
+    let folder = PathBuf::from(env!("CARGO_TARGET_TMPDIR")).join("readme");
+    let examples = format!("{}/examples/", root().display());
+    let lines = section
+        .lines()
+        .filter_map(|line| line.strip_prefix("    tests/target/release/desk "));
+    let mut outputs = Vec::new();
+    for line in lines {
+        let words = line.replace("target/race", &folder.display().to_string());
+        let words = words.replace("examples/", &examples);
+        let done = run(&words.split(' ').collect::<Vec<&str>>());
+        assert_eq!(done.code, 0, "{line}: {}", done.err);
+        outputs.push(done.out);
+    }
+    assert_eq!(outputs.len(), 3);
+    let expected = text(&root().join("examples/race-day/expected.txt"));
+    let cost = expected.split(' ').nth(1).unwrap();
+    assert!(section.contains(&format!(
+        "ends with `cost {cost}` and `every clause is met`"
     )));
+    assert!(outputs[0].contains(&format!("\ncost {cost}\nevery clause is met\n")));
+    for name in ["report.html", "sweep.html"] {
+        assert!(section.contains(&format!("`target/race/{name}`")));
+        assert!(folder.join(name).exists(), "{name}");
+    }
 }
