@@ -5,6 +5,7 @@ use crate::console::{faulty, unable, Console, Done, Outcome, Stop};
 use crate::daily;
 use crate::festival::festival;
 use crate::files::{bytes_of, five_files, names_and_clauses, text_of, write_all, write_file};
+use crate::lists;
 use crate::names::Names;
 use crate::options::Options;
 use crate::page;
@@ -14,8 +15,9 @@ use crate::report::{counted, grouped, judged, plain, show, why};
 use crate::screen::ending_named;
 use crate::settings::FIRST;
 use crate::sweep;
-use reference::csv::{lists, Refusal as ListRefusal, Site, Zone};
+use reference::csv;
 use reference::file::{parse, Refusal};
+use reference::plan::Plan;
 use std::fs;
 use std::path::Path;
 
@@ -49,7 +51,8 @@ The files:
       and each clause that it does not meet; - takes the program's two
       lines: tent | desk name PLAN.txt -
   desk csv SITES.csv ZONES.csv FOLDER [SEED [COUNT]]
-      writes the same files from a mapper's two lists
+      writes the same files from a mapper's two lists, and their plan
+      as a text, plan.txt
   desk squeeze plan.bin NEW.bin [PLAN.txt]
       writes the plan without its locked variables, and prints what an
       assignment of the old plan costs more than one of the new, and
@@ -83,46 +86,6 @@ fn write_files(path: &str, folder: &str, drawn: &[&str], options: &Options) -> D
     Ok((write_all(Path::new(folder), &files)?, true))
 }
 
-/// The words of a refusal of the mapper's lists. include/mapper.h and docs/REFUSALS.md have the same.
-fn list_words(number: u32) -> &'static str {
-    match number {
-        51 => "the row is malformed",
-        52 => "a number is out of its range",
-        53 => "an earlier row has this code or zone",
-        54 => "the zone list does not have this zone",
-        55 => "no site lies in this zone",
-        _ => "there is no site, or there are more than 512",
-    }
-}
-
-/// A name on one line.
-fn on_a_line(name: &[u8]) -> String {
-    String::from_utf8_lossy(name).replace(['\r', '\n'], " ")
-}
-
-/// Why lists are turned away.
-fn lists_refused(paths: [&str; 2], refusal: ListRefusal) -> String {
-    let (number, words) = (refusal.number, list_words(refusal.number));
-    match refusal.list {
-        0 => format!("the lists are refused ({number}): {words}"),
-        list => {
-            let path = paths[list as usize - 1];
-            format!("{path}, row {}: {words} ({number})", refusal.row)
-        }
-    }
-}
-
-/// The codes as names and the zones as clauses, a line for each.
-fn list_lines(sites: &[Site], zones: &[Zone]) -> [String; 2] {
-    let names = sites.iter().map(|site| on_a_line(&site.code) + "\n");
-    let clauses = zones.iter().map(|zone| {
-        let or = if zone.may_be_empty { ", or none" } else { "" };
-        let (name, least, most) = (on_a_line(&zone.name), zone.least, zone.most);
-        format!("{name}: {least} to {most} of its sites{or}\n")
-    });
-    [names.collect(), clauses.collect()]
-}
-
 fn map_lists(paths: [&str; 2], folder: &str, drawn: &[&str], options: &Options) -> Done {
     let seed = options.seed_or(drawn.first().copied())?;
     let count = options.count_or(drawn.get(1).copied())?;
@@ -131,13 +94,15 @@ fn map_lists(paths: [&str; 2], folder: &str, drawn: &[&str], options: &Options) 
         bytes_of(Path::new(paths[1]))?,
     ];
     let mapped = daily::asked(planner::map(&sites, &zones, options.check))?;
-    let both = mapped.and_then(|file| Ok((file, lists(&sites, &zones)?)));
+    let both = mapped.and_then(|file| Ok((file, csv::lists(&sites, &zones)?)));
     let (file, (sites, zones)) = match both {
         Ok(both) => both,
-        Err(refusal) => return faulty(lists_refused(paths, refusal)),
+        Err(refusal) => return faulty(lists::refused(paths, refusal)),
     };
     let plan = parse(&file).expect("accepted lists have a plan that loads");
-    let files = five_files(&plan, &FIRST, seed, count, list_lines(&sites, &zones));
+    let mut files = five_files(&plan, &FIRST, seed, count, lists::lines(&sites, &zones));
+    let text = lists::text(&plan, &sites, &zones);
+    files.push(("plan.txt", text.into_bytes(), String::new()));
     Ok((write_all(Path::new(folder), &files)?, true))
 }
 
@@ -153,7 +118,7 @@ fn show_files(path: &str, text: Option<&str>) -> Done {
         false => (bytes_of(path)?, None, None),
     };
     let names = match (text, parse(&plan)) {
-        (Some(_), Ok(plan)) => Some(lent_names(text, plan.variables)?),
+        (Some(_), Ok(plan)) => Some(lent_names(text, &plan)?),
         _ => None,
     };
     let mut shown = show(&plan, walk.as_deref(), numbers.as_deref(), names.as_ref());
@@ -224,18 +189,22 @@ fn name_chosen(path: &str, digits: &str, console: &mut Console) -> Done {
     Ok((before + &out, right))
 }
 
-/// The names that a text lends a plan of so many variables.
-fn lent_names(text: Option<&str>, variables: usize) -> Result<Names, Stop> {
+/// The names that a text lends a plan. Those of clauses are of as many clauses as the text has.
+fn lent_names(text: Option<&str>, plan: &Plan) -> Result<Names, Stop> {
     let Some(text) = text else {
-        return Ok(Names::unnamed(variables));
+        return Ok(Names::unnamed(plan.variables));
     };
-    let Text { names, .. } = text_of(text)?;
-    match names.variables() == variables {
-        true => Ok(names),
-        false => faulty(format!(
-            "the text names {}, the plan has {variables}",
-            counted(names.variables(), "variable"),
-        )),
+    let text = text_of(text)?;
+    if text.plan.variables != plan.variables {
+        return faulty(format!(
+            "the text names {}, the plan has {}",
+            counted(text.plan.variables, "variable"),
+            plan.variables,
+        ));
+    }
+    match text.plan.clauses.len() == plan.clauses.len() {
+        true => Ok(text.names),
+        false => Ok(text.names.without_clauses()),
     }
 }
 
@@ -246,7 +215,7 @@ fn squeeze_file(path: &str, new: &str, text: Option<&str>, options: &Options) ->
         Ok(plan) => plan,
         Err(refusal) => return faulty(why(path, refusal, "")),
     };
-    let names = lent_names(text, plan.variables)?;
+    let names = lent_names(text, &plan)?;
     let squeezed = match daily::asked(planner::squeeze(&bytes, options.check))? {
         Ok(squeezed) => squeezed,
         Err(number) => return faulty(why(path, Refusal { number, offset: 0 }, "")),

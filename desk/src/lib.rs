@@ -14,6 +14,7 @@ pub mod festival;
 pub mod files;
 pub mod finds;
 pub mod html;
+pub mod lists;
 pub mod names;
 pub mod options;
 pub mod page;

@@ -114,10 +114,7 @@ impl Names {
     pub fn find(&self, word: &str) -> Option<usize> {
         match numbered(word) {
             Some(number) => (1..=self.variables()).contains(&number).then_some(number),
-            None => {
-                let place = (1..=self.variables()).find(|&each| self.own(each) == Some(word));
-                place
-            }
+            None => (1..=self.variables()).find(|&each| self.own(each) == Some(word)),
         }
     }
 
@@ -129,6 +126,14 @@ impl Names {
     /// Whether some clause has this name.
     pub fn has_clause(&self, name: &str) -> bool {
         self.clauses.values().any(|each| each == name)
+    }
+
+    /// The same names of variables, and none of clauses.
+    pub fn without_clauses(self) -> Names {
+        Names {
+            clauses: BTreeMap::new(),
+            ..self
+        }
     }
 
     /// Gives the clause at a place a name.

@@ -1,8 +1,10 @@
 //! From a mapper's two lists to the box's files: what is written, and what is said of a row at fault.
 
 use desk::command::run;
+use desk::names::Role;
+use desk::read::read_bytes;
 use reference::csv::{mapped, LEAST_ROOM};
-use reference::file::{parse, parse_settings};
+use reference::file::{parse, parse_settings, write};
 use std::fs;
 use std::path::{Path, PathBuf};
 
@@ -45,6 +47,37 @@ fn the_files_of_two_lists() {
     let clauses = String::from_utf8(file("clauses.txt")).unwrap();
     let second = clauses.lines().nth(1);
     assert_eq!(second, Some("crossing, east: 2 to 4 of its sites, or none"));
+}
+
+/// The text of the lists is their plan, with names that a text may have; codes that are none stand in
+/// comments, and so on the crew's page.
+#[test]
+fn the_text_of_two_lists() {
+    let folder = folder("text");
+    let path = |name: &str| folder.join(name).display().to_string();
+    let [sites, zones] = ["sites.csv", "zones.csv"].map(path);
+    let codes = ["31", "s31", "lock", "x7", "\"a, \"\"b\"\"\"", "--", "north"];
+    let rows: Vec<String> = codes
+        .iter()
+        .map(|code| format!("{code},10,\"w, 1\""))
+        .collect();
+    fs::write(&sites, rows.join("\r\n")).unwrap();
+    fs::write(&zones, "\"w, 1\",2,3,yes\r\n").unwrap();
+    let done = run(&["csv", &sites, &zones, &folder.display().to_string()]);
+    assert_eq!((done.code, done.err.as_str()), (0, ""));
+    let text = read_bytes(&fs::read(path("plan.txt")).unwrap()).unwrap();
+    assert_eq!(write(&text.plan), fs::read(path("plan.bin")).unwrap());
+    let called: Vec<String> = (1..=7).map(|each| text.names.called(each)).collect();
+    assert_eq!(
+        called,
+        ["s31", "s31-2", "slock", "sx7", "a-b", "s", "north"]
+    );
+    assert_eq!(
+        text.notes,
+        ["31", "s31", "lock", "x7", "a, \"b\"", "--", ""]
+    );
+    assert_eq!(text.names.clause(0), Some("w-1"));
+    assert!((1..=7).all(|each| text.names.role(each) == Role::Site));
 }
 
 #[test]

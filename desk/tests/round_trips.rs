@@ -1,6 +1,6 @@
 //! From text to plan.bin and back, on random plans and on damaged texts.
 
-use desk::names::Names;
+use desk::names::{Names, Role};
 use desk::print;
 use desk::read::{read, read_bytes};
 use desk::report::show;
@@ -28,13 +28,21 @@ fn random_plan(random: &mut Random) -> Plan {
     }
 }
 
-/// Names for some of the variables, none of them twice.
-fn random_names(random: &mut Random, variables: usize) -> Names {
+/// Names for some of the variables and clauses, none of them twice.
+fn random_names(random: &mut Random, plan: &Plan) -> Names {
     let mut names = Names::default();
-    for variable in 1..=variables {
+    let roles = [Role::Variable, Role::Site, Role::Marshal, Role::Course];
+    for variable in 1..=plan.variables {
         let kind = ["ford", "c", "north-crossing-", "x-", "orø", "walk_"][random.below(6)];
-        let name = random.percent(70).then(|| format!("{kind}{variable}"));
-        names.push(name);
+        match random.percent(70) {
+            true => names.push_as(Some(format!("{kind}{variable}")), roles[random.below(4)]),
+            false => names.push(None),
+        }
+    }
+    for clause in 0..plan.clauses.len() {
+        if random.percent(20) {
+            names.name_clause(clause, format!("zone-{clause}"));
+        }
     }
     names
 }
@@ -44,7 +52,7 @@ fn plans_to_text_and_back() {
     let mut random = Random::new(71);
     for _ in 0..400 {
         let plan = random_plan(&mut random);
-        let names = random_names(&mut random, plan.variables);
+        let names = random_names(&mut random, &plan);
         let settings = settings(&mut random);
         let text = print::text(&plan, &names, Some(&settings));
         let again = read(&text).unwrap();
@@ -68,7 +76,7 @@ fn files_to_text_and_back() {
         assert_eq!(write(&text.plan), file);
         assert_eq!(write_settings(&text.settings.unwrap()), walk);
         // With names, and once more.
-        let names = random_names(&mut random, plan.variables);
+        let names = random_names(&mut random, &plan);
         let named = show(&file, Some(&walk), None, Some(&names));
         let text = read(&named.text).unwrap();
         assert_eq!(write(&text.plan), file);
@@ -130,7 +138,7 @@ fn a_damaged_text_is_turned_away_or_gives_an_accepted_file() {
             true => small_plan(&mut random),
             false => small_met_plan(&mut random),
         };
-        let names = random_names(&mut random, plan.variables);
+        let names = random_names(&mut random, &plan);
         let text = print::text(&plan, &names, Some(&settings(&mut random)));
         let bytes = damaged(&mut random, &text);
         match read_bytes(&bytes) {
@@ -142,6 +150,13 @@ fn a_damaged_text_is_turned_away_or_gives_an_accepted_file() {
             Err(fault) => {
                 let lines = 1 + bytes.iter().filter(|&&byte| byte == b'\n').count();
                 assert!((1..=lines).contains(&fault.line) && !fault.words.is_empty());
+                // A column is a character of that line, or right behind its last one.
+                let text = String::from_utf8_lossy(&bytes);
+                let line = text.split('\n').nth(fault.line - 1).unwrap();
+                assert!(
+                    (1..=1 + line.chars().count()).contains(&fault.column),
+                    "{fault:?}"
+                );
                 turned_away += 1;
             }
         }
