@@ -89,23 +89,26 @@ static inline "
     pages.sort();
     assert_eq!(pages, calls.keys().cloned().collect::<Vec<String>>());
     let index = text("docs/calls/README.md");
+    for name in calls.keys() {
+        let link = format!("[{name}]({name}.md)");
+        assert!(index.contains(&link), "{name} is not in the index");
+    }
+}
+
+/// A page shows its call, and the inline functions that it names, as the headers declare them.
+#[test]
+fn prototypes_as_they_are() {
+    let (calls, inline) = declared();
     for (name, prototype) in &calls {
         let page = text(&format!("docs/calls/{name}.md"));
-        let blocks: Vec<String> = blocks(&page)
-            .iter()
-            .map(|block| in_one_line(block))
-            .collect();
         assert!(page.starts_with(&format!("# {name}\n")));
+        let blocks = blocks(&page);
+        let lines: Vec<String> = blocks.iter().map(|block| in_one_line(block)).collect();
         assert!(
-            blocks.contains(&format!("{prototype};")),
+            lines.contains(&format!("{prototype};")),
             "{name} has another prototype"
         );
-        assert!(
-            index.contains(&format!("[{name}]({name}.md)")),
-            "{name} is not in the index"
-        );
-        // An inline function that a page shows is shown as it is.
-        for block in &blocks {
+        for block in &lines {
             let shown = block
                 .strip_suffix(';')
                 .filter(|block| !block.contains(['{', ';']));

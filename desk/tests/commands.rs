@@ -237,6 +237,15 @@ fn commands_at_fault() {
     ] {
         assert_eq!(desk(&folder, arguments), said(2, &words));
     }
+    for help in ["help", "--help", "-h"] {
+        assert_eq!(desk(&folder, &[help]), printed(0, HELP));
+    }
+}
+
+#[test]
+fn options_at_fault() {
+    let folder = folder("options");
+    fs::write(folder.join("plan.txt"), TEXT).unwrap();
     for (arguments, words) in [
         (
             &["plan", "plan.txt", "--sed", "7"][..],
@@ -264,9 +273,6 @@ fn commands_at_fault() {
         ),
     ] {
         assert_eq!(desk(&folder, arguments), said(2, words));
-    }
-    for help in ["help", "--help", "-h"] {
-        assert_eq!(desk(&folder, &[help]), printed(0, HELP));
     }
 }
 

@@ -75,20 +75,36 @@ fn colours_of_the_heat_map() {
     );
 }
 
-/// Whole, on a small plan, over short lists: both planners agree in all figures, the table's least
-/// cost is the one that the same settings and seed find again, and the picture has all of it.
+const LISTS: [&str; 2] = ["--numbers", "600"];
+
+/// The race day without its settings, in a folder of its own: the text and its path.
+fn race_day(folder: &Path) -> (String, String) {
+    let example = Path::new(env!("CARGO_MANIFEST_DIR")).join("../examples/race-day/plan.txt");
+    let text = fs::read_to_string(example).unwrap();
+    let text = text.replace("\nwalk ", "\n# walk ");
+    let path = folder.join("race.txt").display().to_string();
+    fs::write(&path, &text).unwrap();
+    (text, path)
+}
+
+/// The sweep's advice: the least cost, the settings that found it, and the seed.
+fn advice(out: &str) -> [String; 3] {
+    let line = out.lines().find(|line| line.starts_with("to have cost "));
+    let parts: Vec<&str> = line.unwrap().split('\'').collect();
+    let cost = parts[0].split(' ').nth(3).unwrap();
+    let seed = parts[2].rsplit(' ').next().unwrap();
+    [cost, parts[1], seed].map(str::to_string)
+}
+
+/// Whole, on a small plan, over short lists: both planners agree in all figures, a progress line is
+/// shown, the least cost is the one that the same settings and seed find again, and its row says how
+/// far that is from the best known.
 #[test]
 fn a_sweep_of_the_race_day() {
     let folder = folder("race-day");
-    let example = Path::new(env!("CARGO_MANIFEST_DIR")).join("../examples/race-day/plan.txt");
-    let text = fs::read_to_string(example)
-        .unwrap()
-        .replace("\nwalk ", "\n# walk ");
-    let path = folder.join("race.txt").display().to_string();
-    fs::write(&path, &text).unwrap();
-    let numbers = ["--numbers", "600"];
+    let (text, path) = race_day(&folder);
     let done = run(&[
-        "sweep", &path, "--best", "3040", "--check", numbers[0], numbers[1],
+        "sweep", &path, "--best", "3040", "--check", LISTS[0], LISTS[1],
     ]);
     assert_eq!(done.code, 0, "{}", done.err);
     assert!(
@@ -97,40 +113,37 @@ fn a_sweep_of_the_race_day() {
         done.err
     );
     assert!(done.err.ends_with(" s \n"));
-    let lines: Vec<&str> = done.out.lines().collect();
-    assert_eq!(lines[0], "66 settings tried");
+    assert!(done.out.starts_with("66 settings tried\n"));
     assert!(
         done.out.contains("\nbest known: 3,040, given\n"),
         "{}",
         done.out
     );
-    let advice = lines
-        .iter()
-        .find(|line| line.starts_with("to have cost "))
-        .unwrap();
-    let words: Vec<&str> = advice.split('\'').collect();
-    let cost = words[0].split(' ').nth(3).unwrap();
-    let seed = words[2].rsplit(' ').next().unwrap();
-    fs::write(&path, format!("{text}\n{}\n", words[1])).unwrap();
-    let again = run(&["plan", &path, seed, numbers[0], numbers[1]]);
+    let [cost, walk, seed] = advice(&done.out);
+    fs::write(&path, format!("{text}\n{walk}\n")).unwrap();
+    let again = run(&["plan", &path, &seed, LISTS[0], LISTS[1]]);
     assert!(
         again.out.contains(&format!("\ncost {cost}\n")),
-        "{advice}\n{}",
-        again.out
+        "{cost} {walk} {seed}"
     );
-    // Its row says how far that is from the best known.
     let far = 100.0 * (cost.parse::<f64>().unwrap() - 3_040.0) / 3_040.0;
-    let row = lines[2..8]
-        .iter()
-        .find(|line| line.ends_with(words[1]))
-        .unwrap();
+    let row = done.out.lines().find(|line| line.ends_with(&walk)).unwrap();
     assert!(row.contains(&format!(" {far:.1} %")), "{row}");
+}
+
+/// The picture has a cell for each setting, a curve for each choice, the table and the best cost.
+#[test]
+fn the_picture_of_a_sweep() {
+    let folder = folder("picture");
+    let (_, path) = race_day(&folder);
+    let done = run(&["sweep", &path, "--best", "3040", LISTS[0], LISTS[1]]);
+    let [_, walk, _] = advice(&done.out);
     let picture = fs::read_to_string(folder.join("race.box/sweep.html")).unwrap();
     for part in [
         "id=\"heat\"",
         "id=\"flips\"",
         "best known 3,040",
-        words[1],
+        &walk,
         "Novelty+ 100, LBS",
     ] {
         assert!(picture.contains(part), "{part}");
