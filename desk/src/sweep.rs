@@ -110,15 +110,25 @@ struct Sweep<'a, 'c, 'p> {
     planner: Planner<'p>,
     console: &'a mut Console<'c>,
     started: Instant,
+    /// How many searches were made.
+    made: u32,
     seed: u64,
     runs: u32,
     numbers: usize,
 }
 
 impl Sweep<'_, '_, '_> {
+    /// How many searches the whole sweep makes at most: of both rounds, and with seeds.
+    fn searches(&self) -> u32 {
+        let second = 2 * (SECOND * SHAPES.len()) as u32;
+        (grid().len() as u32 + second) * self.runs + LAST as u32 * SEEDS as u32
+    }
+
+    /// One line that is written over: where the sweep is, and how long it will take.
     fn progress(&mut self, what: &str, made: usize, all: usize) {
-        let seconds = self.started.elapsed().as_secs();
-        let line = format!("\rsweep: {what}, {made} of {all}, {seconds} s ");
+        let seconds = self.started.elapsed().as_secs_f64();
+        let about = seconds * self.searches() as f64 / self.made.max(1) as f64;
+        let line = format!("\rsweep: {what}, {made} of {all}, {seconds:.0} of about {about:.0} s ");
         self.console.note(&line);
         if made == all {
             self.console.note("\n");
@@ -141,6 +151,7 @@ impl Sweep<'_, '_, '_> {
         for settings in list {
             self.progress(what, tried.len(), all);
             let figures = asked(self.planner.runs(&settings, &trial))?;
+            self.made += runs;
             tried.push(Tried {
                 settings,
                 figures,
@@ -157,10 +168,9 @@ impl Sweep<'_, '_, '_> {
         for (made, each) in tried.iter_mut().enumerate() {
             self.progress("the best with 5 seeds", made, all);
             for seed in self.seed..self.seed.saturating_add(SEEDS) {
-                let found = asked(
-                    self.planner
-                        .search(&each.settings, &drawn(seed, self.numbers)),
-                )?;
+                let list = drawn(seed, self.numbers);
+                let found = asked(self.planner.search(&each.settings, &list))?;
+                self.made += 1;
                 let cost = found.assignment.map(|_| found.cost);
                 if let Some(cost) =
                     cost.filter(|&cost| each.least.is_none_or(|(least, _)| cost < least))
@@ -310,6 +320,7 @@ pub fn sweep(path: &str, options: &Options, console: &mut Console) -> Result<u8,
         planner: Planner::new(&text.plan, options.check),
         console,
         started: Instant::now(),
+        made: 0,
         seed: options.seed_or(None)?,
         runs: options.runs.unwrap_or(1).min(500),
         numbers: options.numbers.unwrap_or(MOST_NUMBERS),
