@@ -1,6 +1,6 @@
-//! The settings that the desk takes where a text has no walk statement. They are what sweeps over
-//! several plans taught (docs/DESK.md): no one choice is best on all of them, so that `desk plan`
-//! tries each of these and keeps the one that finds the cheapest plan.
+//! The settings that the desk takes where a text has no walk statement. docs/DESK.md tells how they
+//! were chosen, on several plans, and how they do on others: no one choice is best on all of them, so
+//! that `desk plan` tries each of these and keeps the one that finds the cheapest plan.
 
 use reference::walk::{Settings, LINEAR, NOVELTY, SKC};
 
@@ -24,7 +24,7 @@ pub const SECOND: Settings = Settings {
     chance: 0,
 };
 
-/// Novelty+ with more blind steps: the one that is least far off where only one may be tried.
+/// Novelty+ with more blind steps: never the best, and never far off.
 pub const THIRD: Settings = Settings {
     tries: 20,
     flips: 1_000,
