@@ -24,7 +24,7 @@ pub const SECOND: Settings = Settings {
     chance: 0,
 };
 
-/// Novelty+ with more blind steps: never the best, and never far off.
+/// Novelty+ with more blind steps: seldom the best, and never far off.
 pub const THIRD: Settings = Settings {
     tries: 20,
     flips: 1_000,

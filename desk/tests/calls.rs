@@ -14,7 +14,12 @@ fn text(name: &str) -> String {
     fs::read_to_string(root().join(name)).unwrap_or_else(|error| panic!("{name}: {error}"))
 }
 
-const HEADERS: [&str; 3] = ["planner.h", "mapper.h", "races.h"];
+/// Every header that there is.
+fn headers() -> Vec<String> {
+    let files = fs::read_dir(root().join("include")).unwrap();
+    let names = files.map(|file| file.unwrap().file_name().into_string().unwrap());
+    names.filter(|name| name.ends_with(".h")).collect()
+}
 
 /// With one blank between two words, wherever lines end.
 fn in_one_line(text: &str) -> String {
@@ -31,7 +36,7 @@ fn name_of(prototype: &str) -> &str {
 /// ';' or '{'.
 fn declared() -> (BTreeMap<String, String>, BTreeMap<String, String>) {
     let (mut calls, mut inline) = (BTreeMap::new(), BTreeMap::new());
-    for header in HEADERS {
+    for header in headers() {
         let header = text(&format!("include/{header}"));
         for (place, _) in header.match_indices('\n') {
             let rest = &header[place + 1..];
@@ -67,9 +72,10 @@ fn blocks(page: &str) -> Vec<String> {
 #[test]
 fn a_page_for_each_call() {
     let (calls, inline) = declared();
-    let headers = HEADERS
+    let files = headers().into_iter();
+    let headers: String = files
         .map(|header| text(&format!("include/{header}")))
-        .concat();
+        .collect();
     assert_eq!(
         inline.len(),
         headers
