@@ -11,9 +11,9 @@
  *     planner_opened opened = planner_state_open(&state, &plan);
  *     planner_flipped flipped = planner_state_flip(&state, &plan, 7);
  *
- * There are two layers. The archive exports eight calls on pointers and lengths: planner_load, planner_open,
- * planner_flip, planner_counts, planner_search, planner_runs, planner_squeeze and planner_races. What the comments say
- * of them is proved. The structs and the inline functions after them are plain C, which is tested and not proved: they
+ * There are two layers. The archive exports nine calls on pointers and lengths: planner_load,
+ * planner_read_opb, planner_open, planner_flip, planner_counts, planner_search, planner_runs, planner_squeeze and
+ * planner_races. What the comments say of them is proved. The structs and the inline functions after them are plain C, which is tested and not proved: they
  * lend buffers of the right sizes, so that none is mixed up, and read what the calls leave. A program that uses these
  * alone need not change when a call gains an argument or an answer a field.
  *
@@ -123,6 +123,10 @@ enum planner_refusal {
     PLANNER_WRONG_RUNS = 42,  /* runs not from 1 to 1,000 */
     PLANNER_WRONG_COUNT = 43, /* numbers of a run not from 1 to 16,384 */
 
+    /* By an OPB text, with the offset of the line at fault. 4, 5 and 6 are its refusals too. */
+    PLANNER_WRONG_TEXT = 31,  /* a line is no statement of its form, or the text ends without a line feed */
+    PLANNER_WRONG_TOTAL = 32, /* a variable is above n, or, with offset 0, the constraints are not m */
+
     /* By what the program lends: a fault of the program, and none of the plan. */
     PLANNER_BUFFER_TOO_SMALL = 21, /* a buffer below its size above: the inline functions lend the right ones */
     PLANNER_NOT_LOADED = 22,       /* tables that no accepted loading left: load first, and write nothing there */
@@ -171,6 +175,8 @@ static inline const char *planner_refusal_text(uint32_t refusal) {
     case PLANNER_WRONG_VARIABLE: return "the plan has no such variable";
     case PLANNER_NOT_BITS: return "the assignment has a byte other than 0 and 1";
     case PLANNER_STALE_TALLIES: return "the tallies are not those of this assignment";
+    case PLANNER_WRONG_TEXT: return "this line of the text is no statement of its form";
+    case PLANNER_WRONG_TOTAL: return "a variable is above the text's number of variables, or the constraints are not as many as it says";
     case PLANNER_LOCKED: return "the plan has locked this variable";
     case PLANNER_WRONG_RACES: return "there is no race, or there are more than 8";
     case PLANNER_WRONG_STAKE: return "a race's stake is not from 1 to 100";
@@ -258,7 +264,7 @@ static inline const char *planner_ending_text(uint32_t ending) {
     }
 }
 
-/* ---- the eight calls; the refusals of each stand in the order in which they are tried */
+/* ---- the nine calls; the refusals of each stand in the order in which they are tried */
 
 /* Loads a plan file of any length and content into the two tables.
  * PLANNER_BUFFER_TOO_SMALL, then the file's own: PLANNER_CUT_SHORT to PLANNER_BYTES_AFTER_END and PLANNER_WRONG_LOCK,
@@ -266,6 +272,16 @@ static inline const char *planner_ending_text(uint32_t ending) {
  * Accepted: the tables are those of the plan, unused entries 0. */
 planner_loaded planner_load(const uint8_t *file, size_t file_length, uint8_t *tables, size_t tables_length,
                             uint8_t *terms, size_t terms_length);
+
+/* Reads an OPB text of any length and content into the two tables: "* #variable= n #constraint= m", comment lines,
+ * "min:" and constraints with ">=" or "=", one to a line that ends in a line feed. Each constraint is a clause of one
+ * rule, "=" with both bounds; there is no lock.
+ * PLANNER_BUFFER_TOO_SMALL, then the text's own, with the offset of the line at fault; in a line PLANNER_WRONG_TEXT,
+ * PLANNER_WRONG_TOTAL (a variable above n), PLANNER_TOO_LARGE, PLANNER_WRONG_BOUND, PLANNER_WRONG_TERM; last
+ * PLANNER_WRONG_TOTAL with offset 0 for a number of constraints other than m.
+ * Accepted: the tables are those that loading the plan would leave. */
+planner_loaded planner_read_opb(const uint8_t *text, size_t text_length, uint8_t *tables, size_t tables_length,
+                                uint8_t *terms, size_t terms_length);
 
 /* Counts the tallies of an assignment afresh and writes them, 0 in unused entries. Writes nothing else. The first n
  * bytes of an assignment are its values, variable 1 first, n being the plan's number of variables. It may disagree with
@@ -452,6 +468,11 @@ static inline planner_settings planner_novelty_of(uint32_t noise, uint32_t tries
 /* planner_load: the plan of a file. A refused file leaves the plan that was there. */
 static inline planner_loaded planner_plan_load(planner_plan *plan, const uint8_t *file, size_t file_length) {
     return planner_load(file, file_length, PLANNER_LEND(plan->tables), PLANNER_LEND(plan->terms));
+}
+
+/* planner_read_opb: the plan of an OPB text. A refused text leaves the plan that was there. */
+static inline planner_loaded planner_plan_read_opb(planner_plan *plan, const uint8_t *text, size_t text_length) {
+    return planner_read_opb(text, text_length, PLANNER_LEND(plan->tables), PLANNER_LEND(plan->terms));
 }
 
 /* planner_search: the state's assignment is the last one found, if there is one. Its tallies are not written: open

@@ -44,7 +44,7 @@ pub fn counted(count: usize, what: &str) -> String {
 
 /// Every refusal in plain words, by its number: those of the files, of the settings, and of what a
 /// program lends. include/planner.h and docs/REFUSALS.md have the same words.
-pub const REFUSALS: [(u32, &str); 29] = [
+pub const REFUSALS: [(u32, &str); 31] = [
     (1, "the file ends in the middle of a field"),
     (2, "a field of this kind may not stand here"),
     (3, "no field of this kind has this length"),
@@ -79,6 +79,11 @@ pub const REFUSALS: [(u32, &str); 29] = [
     (24, "the assignment has a byte other than 0 and 1"),
     (25, "the tallies are not those of this assignment"),
     (26, "the plan has locked this variable"),
+    (31, "this line of the text is no statement of its form"),
+    (
+        32,
+        "a variable is above the text's number of variables, or the constraints are not as many as it says",
+    ),
     (41, "the five words of the generator's state are all 0"),
     (42, "the number of runs is not from 1 to 1,000"),
     (43, "the numbers of a run are not from 1 to 16,384"),

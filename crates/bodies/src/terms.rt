@@ -39,7 +39,7 @@ pub fn bounds_lawful(mode: u8, lower: i32, upper: i32) -> bool
 }
 
 // "5: a term's variable outside 1 to n or not above the one before, or a coefficient 0 or outside ±1,000,000."
-fn term_fits(variable: u32, size: u32, before: u32, variables: u32) -> bool
+pub fn term_fits(variable: u32, size: u32, before: u32, variables: u32) -> bool
     ensures { λ r. ⌜ r ≡ termLawful variables before (record { variable = variable; weight = pos size }) ⌝ }
 {
     if variable <= before {

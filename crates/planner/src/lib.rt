@@ -13,9 +13,10 @@ ghost use Rattle.reports.specs.Calls.{Reports};
 ghost use Rattle.trials.specs.Trials.{trial};
 ghost use Rattle.squeeze.specs.Calls.{Answers, outcome};
 ghost use Rattle.division.specs.Split.{refusalAfter, partsAfter};
-ghost use Rattle.races.specs.Races.{stakesIn, partsPut};
-ghost use Rattle.festival.specs.Own.{works};
 ghost use Rattle.festival.specs.Festival.{given, buffers, raced, roomRefusal};
+ghost use Rattle.festival.specs.Own.{works};
+ghost use Rattle.opb_read.specs.Reads.{reading, tablesRead, termsRead};
+ghost use Rattle.races.specs.Races.{stakesIn, partsPut};
 ghost use Rattle.tables.specs.Load.{refusalOf, offsetOf, loading, tablesAfter, termsAfter};
 use answers::Answer as Searched;
 use calls::counts::Counted;
@@ -25,6 +26,7 @@ use calls::flip::flip;
 use calls::open::open;
 use festival::plan_races;
 use figures::Figures;
+use opb_read::read_opb;
 use reports::report;
 use search::search;
 use settings::Settings;
@@ -43,6 +45,16 @@ pub extern "C" fn planner_load(file: &[u8], tables: &mut [u8], terms: &mut [u8])
     ensures { λ _. ⌜ now (terms .exit) ≡ termsAfter (now (file .entry)) (now (tables .entry)) (now (terms .entry)) ⌝ }
 {
     numbers(load(file, tables, terms))
+}
+
+#[no_mangle]
+pub extern "C" fn planner_read_opb(text: &[u8], tables: &mut [u8], terms: &mut [u8]) -> Loaded
+    ensures { λ r. ⌜ (r .refusal ≡ refusalOf (reading (now (text .entry)) (now (tables .entry)) (now (terms .entry))))
+        × (r .offset ≡ offsetOf (reading (now (text .entry)) (now (tables .entry)) (now (terms .entry)))) ⌝ }
+    ensures { λ _. ⌜ now (tables .exit) ≡ tablesRead (now (text .entry)) (now (tables .entry)) (now (terms .entry)) ⌝ }
+    ensures { λ _. ⌜ now (terms .exit) ≡ termsRead (now (text .entry)) (now (tables .entry)) (now (terms .entry)) ⌝ }
+{
+    numbers(read_opb(text, tables, terms))
 }
 
 #[no_mangle]

@@ -48,7 +48,7 @@ unfolding inRange all
 range-rest t ts h = and-right _ _ h
 
 -- Lawful terms of at most 512 variables are such.
-lawful-range : (n v : ℕ) (ts : List Term) → n ≤ 512 → risingAbove v ts ≡ true → all (termWithin n) ts ≡ true → inRange ts ≡ true
+pub lawful-range : (n v : ℕ) (ts : List Term) → n ≤ 512 → risingAbove v ts ≡ true → all (termWithin n) ts ≡ true → inRange ts ≡ true
 unfolding inRange all risingAbove termWithin
 lawful-range n v [] l r w = refl
 lawful-range n v (t ∷ ts) l r w =

@@ -22,7 +22,8 @@ fn put4(out: &mut [u8], a: u32, b: u32, c: u32, d: u32)
     write_two(out, 2, c, d);
 }
 
-fn put5(out: &mut [u8], a: u32, b: u32, c: u32, d: u32, e: u32)
+// Five words, as a rule's entry has them.
+pub fn put5(out: &mut [u8], a: u32, b: u32, c: u32, d: u32, e: u32)
     requires { ⌜ 20 ≤ length (now out) ⌝ }
     ensures { λ _. ⌜ now (out .exit) ≡ front (wordBytes (a ∷ b ∷ c ∷ d ∷ e ∷ [])) (now (out .entry)) ⌝ }
 {

@@ -9,7 +9,7 @@ ghost use Rattle.format.specs.Tables.{baseWords, termWords, tableSize, termSize
 ghost use Rattle.tables.specs.Load.{loading, tablesAfter, termsAfter};
 ghost use Rattle.tables.specs.Places.{Accepts, planOfFile};
 
-mod entries;
+pub mod entries;
 pub mod fields;
 pub mod sections;
 

@@ -10,6 +10,7 @@ pub mod loading;
 pub mod making;
 pub mod mapping;
 pub mod racing;
+pub mod reading;
 pub mod searching;
 pub mod squeezing;
 pub mod trials;
@@ -18,8 +19,8 @@ use figures::Figures;
 use reference::random::Random;
 
 /// The calls, in the order in which the figures show them.
-pub const CALLS: [&str; 9] = [
-    "load", "open", "flip", "counts", "search", "squeeze", "map", "runs", "races",
+pub const CALLS: [&str; 10] = [
+    "load", "read", "open", "flip", "counts", "search", "squeeze", "map", "runs", "races",
 ];
 
 /// One call. It panics where the library and the reference differ.
@@ -27,6 +28,7 @@ fn case(random: &mut Random, figures: &mut Figures) {
     let call = random.below(CALLS.len());
     match CALLS[call] {
         "load" => figures.count(call, loading::case(random)),
+        "read" => figures.count(call, reading::case(random)),
         "squeeze" => figures.count(call, squeezing::case(random)),
         "runs" => figures.count(call, trials::case(random).refusal),
         "races" => figures.count(call, racing::case(random)),

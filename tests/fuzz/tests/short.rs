@@ -5,8 +5,9 @@ use fuzz::figures::CASES;
 #[test]
 fn a_short_run() {
     let figures = fuzz::run(2026, |number| number < 250_000);
-    let calls: [(&str, &[u32]); 9] = [
+    let calls: [(&str, &[u32]); 10] = [
         ("load", &[0, 1, 2, 3, 4, 5, 6, 7, 10, 21]),
+        ("read", &[0, 5, 21, 31, 32]),
         ("open", &[0, 21, 22, 24]),
         ("flip", &[0, 21, 22, 23, 24, 25, 26]),
         ("counts", &[0, 21, 22, 23, 24, 25]),

@@ -163,6 +163,14 @@ pub mod raw {
             terms: *mut u8,
             terms_length: usize,
         ) -> Loaded;
+        pub fn planner_read_opb(
+            text: *const u8,
+            text_length: usize,
+            tables: *mut u8,
+            tables_length: usize,
+            terms: *mut u8,
+            terms_length: usize,
+        ) -> Loaded;
         pub fn planner_open(
             tables: *const u8,
             tables_length: usize,
@@ -269,6 +277,19 @@ pub fn load(file: &[u8], tables: &mut [u8], terms: &mut [u8]) -> Loaded {
         raw::planner_load(
             file.as_ptr(),
             file.len(),
+            tables.as_mut_ptr(),
+            tables.len(),
+            terms.as_mut_ptr(),
+            terms.len(),
+        )
+    }
+}
+
+pub fn read_opb(text: &[u8], tables: &mut [u8], terms: &mut [u8]) -> Loaded {
+    unsafe {
+        raw::planner_read_opb(
+            text.as_ptr(),
+            text.len(),
             tables.as_mut_ptr(),
             tables.len(),
             terms.as_mut_ptr(),

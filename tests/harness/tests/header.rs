@@ -182,6 +182,8 @@ fn sizes_offsets_and_numbers() {
         ("PLANNER_FILE_SIZE", 54_446),
         ("PLANNER_LOCKS_PLACE", SECTIONS[2]),
         ("PLANNER_WRONG_LOCK", 10),
+        ("PLANNER_WRONG_TEXT", 31),
+        ("PLANNER_WRONG_TOTAL", 32),
         ("PLANNER_LOCKED", 26),
         ("PLANNER_INPUT_SIZE", MOST_BYTES),
         ("PLANNER_LINEAR", LINEAR as usize),
@@ -315,6 +317,7 @@ fn prototypes() {
     );
     for (name, parameters) in [
         ("planner_load", 6),
+        ("planner_read_opb", 6),
         ("planner_open", 8),
         ("planner_flip", 9),
         ("planner_counts", 9),

@@ -17,6 +17,7 @@ pub mod literals;
 pub mod making;
 pub mod mapper;
 pub mod novelty;
+pub mod opb_read;
 pub mod plan;
 pub mod program;
 pub mod races;

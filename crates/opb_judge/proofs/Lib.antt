@@ -1,0 +1,3 @@
+-- The laws of the judge.
+pub mod Faults
+pub mod Steps

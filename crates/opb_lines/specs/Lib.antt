@@ -1,0 +1,3 @@
+-- What an OPB text says, line by line.
+pub mod ReadText
+pub mod Lines

@@ -1,0 +1,3 @@
+-- The laws of a text read.
+pub mod Whole
+pub mod Holding

@@ -1,0 +1,2 @@
+-- What reading an OPB text answers and leaves.
+pub mod Reads

@@ -1,0 +1,3 @@
+-- The laws of the statements' parts.
+pub mod Parts
+pub mod Sums

@@ -1,0 +1,3 @@
+-- The laws of the items.
+pub mod Runs
+pub mod Numbers

@@ -1,0 +1,2 @@
+-- The items of an OPB text by their places.
+pub mod Tokens
