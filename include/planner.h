@@ -11,11 +11,11 @@
  *     planner_opened opened = planner_state_open(&state, &plan);
  *     planner_flipped flipped = planner_state_flip(&state, &plan, 7);
  *
- * There are two layers. The archive exports nine calls on pointers and lengths: planner_load,
- * planner_read_opb, planner_open, planner_flip, planner_counts, planner_search, planner_runs, planner_squeeze and
- * planner_races. What the comments say of them is proved. The structs and the inline functions after them are plain C, which is tested and not proved: they
- * lend buffers of the right sizes, so that none is mixed up, and read what the calls leave. A program that uses these
- * alone need not change when a call gains an argument or an answer a field.
+ * There are two layers. The archive exports ten calls on pointers and lengths: planner_load, planner_read_opb,
+ * planner_open, planner_flip, planner_counts, planner_search, planner_runs, planner_squeeze, planner_races and
+ * planner_write_opb. What the comments say of them is proved. The structs and the inline functions after them are plain
+ * C, which is tested and not proved: they lend buffers of the right sizes, so that none is mixed up, and read what the
+ * calls leave. A program that uses these alone need not change when a call gains an argument or an answer a field.
  *
  * What holds of every call:
  * - It may be made with anything at all. It returns, and gives what it was asked for or one of the refusals below.
@@ -134,6 +134,8 @@ enum planner_refusal {
     PLANNER_NOT_BITS = 24,         /* one of the plan's assignment bytes is neither 0 nor 1 */
     PLANNER_STALE_TALLIES = 25,    /* tallies that are not those of this assignment: open again */
 
+    PLANNER_TEXT_OUTGROWS = 33,    /* the text is longer than the buffer: lend as much as the answer's length says */
+
     /* By the plan: no fault of anyone's. */
     PLANNER_LOCKED = 26,     /* a flip of a variable that the plan has locked: show it, and let another be turned over */
     PLANNER_WRONG_RACES = 61, /* a festival of no race, or of more than 8 */
@@ -177,6 +179,7 @@ static inline const char *planner_refusal_text(uint32_t refusal) {
     case PLANNER_STALE_TALLIES: return "the tallies are not those of this assignment";
     case PLANNER_WRONG_TEXT: return "this line of the text is no statement of its form";
     case PLANNER_WRONG_TOTAL: return "a variable is above the text's number of variables, or the constraints are not as many as it says";
+    case PLANNER_TEXT_OUTGROWS: return "the text is longer than the buffer";
     case PLANNER_LOCKED: return "the plan has locked this variable";
     case PLANNER_WRONG_RACES: return "there is no race, or there are more than 8";
     case PLANNER_WRONG_STAKE: return "a race's stake is not from 1 to 100";
@@ -251,6 +254,11 @@ typedef struct {
     int64_t constant; /* what the locked variables cost: an assignment costs so much more than the new plan says */
 } planner_squeezed;
 
+typedef struct {
+    uint32_t refusal; /* PLANNER_ACCEPTED, or the rest is 0, but for PLANNER_TEXT_OUTGROWS */
+    size_t length;    /* of the text; with PLANNER_TEXT_OUTGROWS what it needs */
+} planner_written;
+
 /* An ending by its name and in plain words, for a screen. */
 static inline const char *planner_ending_text(uint32_t ending) {
     switch (ending) {
@@ -264,7 +272,7 @@ static inline const char *planner_ending_text(uint32_t ending) {
     }
 }
 
-/* ---- the nine calls; the refusals of each stand in the order in which they are tried */
+/* ---- the ten calls; the refusals of each stand in the order in which they are tried */
 
 /* Loads a plan file of any length and content into the two tables.
  * PLANNER_BUFFER_TOO_SMALL, then the file's own: PLANNER_CUT_SHORT to PLANNER_BYTES_AFTER_END and PLANNER_WRONG_LOCK,
@@ -391,6 +399,14 @@ uint32_t planner_races(size_t *races, size_t races_length, const uint8_t *number
                        uint8_t *work_tables, size_t work_tables_length, uint8_t *work_terms, size_t work_terms_length,
                        uint8_t *work_assignment, size_t work_assignment_length, uint8_t *work_tallies,
                        size_t work_tallies_length, uint8_t *work_marks, size_t work_marks_length);
+
+/* Writes the plan of two tables as a text in the form of the 2006 pseudo-Boolean evaluation (OPB). A clause with 'or'
+ * has three new variables for each of its rules, so that the text may pass the limits of a plan.
+ * PLANNER_BUFFER_TOO_SMALL, PLANNER_NOT_LOADED, PLANNER_TEXT_OUTGROWS.
+ * Accepted: the text stands at the front of the buffer, with no 0 behind it; the bytes beyond it stay. To ask for its
+ * length alone, lend NULL and 0. */
+planner_written planner_write_opb(const uint8_t *tables, size_t tables_length, const uint8_t *terms,
+                                  size_t terms_length, uint8_t *text, size_t text_length);
 
 /* ---- plan, state and work */
 
@@ -586,6 +602,11 @@ static inline planner_squeezed planner_file_squeeze(uint8_t *file, size_t file_l
     return planner_squeeze(file, file_length, PLANNER_LEND(old->numbers));
 }
 
+/* planner_write_opb: a loaded plan as an OPB text. */
+static inline planner_written planner_plan_write_opb(const planner_plan *plan, char *text, size_t text_length) {
+    return planner_write_opb(PLANNER_LEND(plan->tables), PLANNER_LEND(plan->terms), (uint8_t *)text, text_length);
+}
+
 /* ---- readers of a loaded plan and of an opened state; of any other they give some number and read nothing outside */
 
 /* The number that stands in the 4 bytes at a place. */
@@ -664,6 +685,7 @@ PLANNER_GUARD(sizeof(planner_figures) == 56 && offsetof(planner_figures, share_t
 PLANNER_GUARD(PLANNER_ALL_SETTINGS_SIZE == PLANNER_MOST_RACES * 6 * sizeof(uint32_t));
 PLANNER_GUARD(PLANNER_ALL_ASSIGNMENTS_SIZE == PLANNER_MOST_RACES * PLANNER_ASSIGNMENT_SIZE);
 PLANNER_GUARD(PLANNER_ALL_ANSWERS_SIZE == PLANNER_MOST_RACES * sizeof(planner_searched));
+PLANNER_GUARD(sizeof(planner_written) == 16 && offsetof(planner_written, length) == 8);
 PLANNER_GUARD(sizeof(planner_squeezed) == 32 && offsetof(planner_squeezed, offset) == 8);
 PLANNER_GUARD(offsetof(planner_squeezed, length) == 16 && offsetof(planner_squeezed, constant) == 24);
 PLANNER_GUARD(PLANNER_LIST_SIZE == 4 * PLANNER_MOST_VARIABLES && sizeof(planner_list) == PLANNER_LIST_SIZE);

@@ -20,6 +20,7 @@ void desk_search(desk_room *room, const uint32_t *settings, const uint8_t *numbe
 void desk_runs(desk_room *room, const uint32_t *settings, const uint32_t *from, uint32_t runs, uint32_t count,
                int64_t *answer);
 void desk_squeeze(uint8_t *file, size_t length, uint32_t *old, int64_t *answer);
+void desk_write_opb(const desk_room *room, char *text, size_t length, int64_t *answer);
 void desk_races(desk_room *const *rooms, const uint64_t *stakes, const uint32_t *settings, size_t count,
                 const uint8_t *numbers, size_t length, int64_t *answers, uint8_t *assignments, int64_t *refusal);
 void desk_map(const uint8_t *sites, size_t sites_length, const uint8_t *zones, size_t zones_length, uint8_t *plan,
@@ -87,6 +88,13 @@ void desk_squeeze(uint8_t *file, size_t length, uint32_t *old, int64_t *answer) 
     answer[2] = (int64_t)squeezed.length;
     answer[3] = squeezed.constant;
     for (uint32_t i = 0; i < PLANNER_MOST_VARIABLES; i++) old[i] = planner_list_old(&list, i + 1);
+}
+
+/* Refusal, length. */
+void desk_write_opb(const desk_room *room, char *text, size_t length, int64_t *answer) {
+    planner_written written = planner_plan_write_opb(&room->plan, text, length);
+    answer[0] = written.refusal;
+    answer[1] = (int64_t)written.length;
 }
 
 /* Of each of the races, 8 at most, a search's six numbers, then its first place and its length in the list; and 512

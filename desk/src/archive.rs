@@ -29,6 +29,10 @@ mod linked {
         pub fn runs(&mut self, _: &Settings, _: &Trial) -> Answered<Figures> {
             None
         }
+
+        pub fn opb(&self) -> Answered<String> {
+            None
+        }
     }
 
     pub fn squeeze(_: &[u8]) -> Answered<Squeezed> {
@@ -72,6 +76,7 @@ mod linked {
                 answer: *mut i64,
             );
             pub fn desk_squeeze(file: *mut u8, length: usize, old: *mut u32, answer: *mut i64);
+            pub fn desk_write_opb(room: *const u8, text: *mut u8, length: usize, answer: *mut i64);
             pub fn desk_races(
                 rooms: *const *mut u8,
                 stakes: *const u64,
@@ -94,6 +99,9 @@ mod linked {
             );
         }
     }
+
+    /// PLANNER_TEXT_OUTGROWS: the answer's length is what the text needs.
+    const OUTGROWS: u32 = 33;
 
     /// The buffers of one loaded plan.
     pub struct Room {
@@ -197,6 +205,32 @@ mod linked {
                 flips: (flips, of_flips as u64),
                 cost: (some == 1).then_some((cost, costs as u64)),
             }))
+        }
+
+        /// The refusal and the length of the plan's OPB text, which is written where it has room.
+        fn opb_into(&self, text: &mut [u8]) -> (u32, usize) {
+            let mut answer = [0; 2];
+            let (bytes, length) = (text.as_mut_ptr(), text.len());
+            unsafe {
+                raw::desk_write_opb(self.bytes.as_ptr(), bytes, length, answer.as_mut_ptr());
+            }
+            (answer[0] as u32, answer[1] as usize)
+        }
+
+        /// The plan as an OPB text, which is lent as much room as it asks for.
+        pub fn opb(&self) -> Answered<String> {
+            let mut text = Vec::new();
+            let mut answer = self.opb_into(&mut text);
+            if answer.0 == OUTGROWS {
+                text.resize(answer.1, 0);
+                answer = self.opb_into(&mut text);
+            }
+            let (refusal, length) = answer;
+            if refusal != 0 {
+                return Some(Err(refusal));
+            }
+            text.truncate(length);
+            Some(Ok(String::from_utf8(text).expect("an OPB text is ASCII")))
         }
     }
 

@@ -9,7 +9,7 @@ use crate::lists;
 use crate::names::Names;
 use crate::options::Options;
 use crate::page;
-use crate::planner;
+use crate::planner::{self, Planner};
 use crate::read::Text;
 use crate::report::{counted, grouped, judged, plain, show, why};
 use crate::screen::ending_named;
@@ -62,6 +62,9 @@ The files:
       each race's stake, 1 to 100, and subfolder, and in the subfolder,
       called race1, race2, .., plan.bin, walk.bin, names.txt, clauses.txt;
       then plans every race
+  desk opb PLAN.txt NEW.opb
+      writes the plan in the text form of the 2006 pseudo-Boolean
+      evaluation, for a solver
   desk version
   desk help
 
@@ -233,6 +236,29 @@ fn squeeze_file(path: &str, new: &str, text: Option<&str>, options: &Options) ->
     Ok((out, true))
 }
 
+/// How many variables and constraints an OPB text has, by its first line:
+/// `* #variable= n #constraint= m`.
+fn opb_sizes(text: &str) -> [usize; 2] {
+    let words: Vec<&str> = text.split_ascii_whitespace().take(5).collect();
+    [2, 4].map(|place| words[place].parse().expect("a number of the first line"))
+}
+
+/// A plan as an OPB text (document 02, T-02).
+fn write_opb(path: &str, new: &str, options: &Options) -> Done {
+    let plan = text_of(path)?.plan;
+    let text = daily::asked(Planner::new(&plan, options.check).opb())?;
+    write_file(Path::new(new), text.as_bytes())?;
+    let [variables, constraints] = opb_sizes(&text);
+    let out = format!(
+        "wrote {new}: {}, {}, of them {} new, {}\n",
+        counted(text.len(), "byte"),
+        counted(variables, "variable"),
+        grouped((variables - plan.variables) as i64),
+        counted(constraints, "constraint"),
+    );
+    Ok((out, true))
+}
+
 /// Prints what a command leaves.
 fn said(done: Done, console: &mut Console) -> Result<u8, Stop> {
     let (out, right) = done?;
@@ -271,6 +297,7 @@ fn command(words: &[&str], options: &Options, console: &mut Console) -> Result<u
         ["name", text, assignment] => name_chosen(text, assignment, console),
         ["squeeze", path, new] => squeeze_file(path, new, None, options),
         ["squeeze", path, new, text] => squeeze_file(path, new, Some(text), options),
+        ["opb", text, new] => write_opb(text, new, options),
         ["version"] => Ok((format!("desk {VERSION}\n"), true)),
         ["help" | "--help" | "-h"] => Ok((HELP.to_string(), true)),
         _ => return daily_command(words, options, console),

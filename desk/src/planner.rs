@@ -5,6 +5,7 @@ use crate::archive::{self, Answered, Room};
 use crate::report::plain;
 use reference::csv::{self, LEAST_ROOM};
 use reference::file::{parse, write, write_numbers, Refusal};
+use reference::opb_write;
 use reference::plan::Plan;
 use reference::races::split;
 use reference::squeeze::squeezed;
@@ -92,10 +93,7 @@ fn accepted<T>(answer: Answered<T>) -> Result<Option<T>, String> {
     match answer {
         None => Ok(None),
         Some(Ok(answer)) => Ok(Some(answer)),
-        Some(Err(number)) => Err(format!(
-            "the search is refused ({number}): {}",
-            plain(number)
-        )),
+        Some(Err(number)) => Err(format!("the planner refuses ({number}): {}", plain(number))),
     }
 }
 
@@ -133,6 +131,12 @@ impl<'a> Planner<'a> {
             reference::figures::figures(&answers)
         };
         agreed(self.check, accepted(proved)?, reference)
+    }
+
+    /// The plan as an OPB text.
+    pub fn opb(&self) -> Result<String, String> {
+        let reference = || opb_write::write(self.plan);
+        agreed(self.check, accepted(self.room.opb())?, reference)
     }
 }
 

@@ -44,7 +44,7 @@ pub fn counted(count: usize, what: &str) -> String {
 
 /// Every refusal in plain words, by its number: those of the files, of the settings, and of what a
 /// program lends. include/planner.h and docs/REFUSALS.md have the same words.
-pub const REFUSALS: [(u32, &str); 31] = [
+pub const REFUSALS: [(u32, &str); 32] = [
     (1, "the file ends in the middle of a field"),
     (2, "a field of this kind may not stand here"),
     (3, "no field of this kind has this length"),
@@ -84,6 +84,7 @@ pub const REFUSALS: [(u32, &str); 31] = [
         32,
         "a variable is above the text's number of variables, or the constraints are not as many as it says",
     ),
+    (33, "the text is longer than the buffer"),
     (41, "the five words of the generator's state are all 0"),
     (42, "the number of runs is not from 1 to 1,000"),
     (43, "the numbers of a run are not from 1 to 16,384"),

@@ -277,6 +277,22 @@ fn options_at_fault() {
 }
 
 #[test]
+fn a_plan_becomes_an_opb_text() {
+    let folder = folder("opb");
+    let text = "variables 2\nminimise x1 + 2 x2\nlock x1 1\nclause x1 + x2 >= 1\n";
+    fs::write(folder.join("plan.txt"), text).unwrap();
+    let out = "wrote new.opb: 80 bytes, 2 variables, of them 0 new, 2 constraints\n";
+    assert_eq!(
+        desk(&folder, &["opb", "plan.txt", "new.opb"]),
+        printed(0, out)
+    );
+    let wanted =
+        "* #variable= 2 #constraint= 2\nmin: +1 x1 +2 x2 ;\n+1 x1 +1 x2 >= 1 ;\n+1 x1 = 1 ;\n";
+    assert_eq!(fs::read_to_string(folder.join("new.opb")).unwrap(), wanted);
+    assert_eq!(desk(&folder, &["opb", "nothing.txt", "new.opb"]).0, 2);
+}
+
+#[test]
 fn a_plan_is_squeezed() {
     let folder = folder("squeeze");
     let locked = TEXT.replace("clause start >= 1", "lock start 1\nclause start >= 1");

@@ -20,7 +20,7 @@ use Rattle.words.specs.Writes.{front}
 use Rattle.words.proofs.Writes.{lent-tail}
 use Rattle.answers.specs.Found.{hasPlan}
 use Rattle.lines.specs.Text.{text, line, decimal, signedDecimal, endingOf, endingWord, resultLine, assignmentLine}
-use Rattle.lines.proofs.Decimal.{twenty}
+use Rattle.texts.proofs.Decimal.{twenty}
 use Rattle.lines.proofs.Writing.{characters, length-characters}
 use Rattle.lines.proofs.Items.{next-item, result-items}
 

@@ -16,7 +16,6 @@ use Rattle.words.specs.Words.{numAt}
 use Rattle.format.specs.File.{lengthAt, termsIn, termsAt, fieldTerms, modeAt, lowerAt, upperAt, boundOf, ruleAt}
 use Rattle.format.specs.Writer.{mode, boundNumber}
 use Rattle.format.proofs.Peel.{length-termsAt}
-use Rattle.counting.proofs.Signed.{size-sum}
 use Rattle.tables.specs.Places.{behindField}
 use Rattle.squeezed.specs.Squeezed.{Becomes, givenTotal, putIn, greatestTotal, possible, trimmed}
 use Rattle.fates.specs.Codes.{decoded}
@@ -79,15 +78,6 @@ pub upper-written : (m : ℕ) (b s : ℤ) {t : Bool} {r : ℤ} → t ≡ atMost 
     → r ≡ boundNumber (cond (atMost (boundOf 1 m b) s) absent (boundOf 1 m b))
 unfolding boundOf
 upper-written m b s e h = h ∙ ap (λ t. boundNumber (cond t absent (present b))) e ∙ written-upper m b s (eqb m 1) refl
-
--- The size of a difference.
-size-negated : (y : ℤ) → natAbs (negℤ y) ≡ natAbs y
-size-negated (pos zero) = refl
-size-negated (pos (suc n)) = refl
-size-negated (negsuc n) = refl
-
-pub size-less : (x y : ℤ) → natAbs (x -ℤ y) ≤ natAbs x + natAbs y
-size-less x y = omega (arith, size-sum x (negℤ y), size-negated y)
 
 -- ---- a rule's field
 

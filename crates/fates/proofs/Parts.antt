@@ -9,10 +9,7 @@ use mathlib.Core.List.{List, [], _∷_}
 use lib.Dec.{eqb, leb}
 use lib.ListN.{length}
 use lib.IntN.{ℤ, pos, negsuc, natAbs, _+ℤ_, +ℤ-idl, +ℤ-idr, +ℤ-assoc}
-use lib.Signed.{ltZ}
-use mir.Syntax.{w32}
-use mir.Val.{SFits}
-use borrow.Author.Tests.{eq-eqb, ne-eqb, leb-true, ltb-true}
+use borrow.Author.Tests.{eq-eqb, ne-eqb, leb-true}
 use Rattle.plpb.specs.Lists.{_and_, all}
 use Rattle.plpb.specs.Plan.{Term, negativePart, leastTotal}
 use Rattle.words.specs.Words.{numAt, wordAt, signed}
@@ -26,38 +23,6 @@ use Rattle.fates.specs.Codes.{decode, decoded}
 use Rattle.fates.specs.Sums.{partOf, partTotal, smallTerms}
 use Rattle.fates.specs.declared.sums.Part.{Part}
 use Rattle.fates.specs.declared.sums.Part.the-variants.{Given, Least, Greatest}
-
--- A number that is small either way fits.
-pub small-fits : (z : ℤ) → natAbs z < 2_147_483_648 → SFits w32 z
-small-fits (pos n) h = record { sfits = h }
-small-fits (negsuc n) h = record { sfits = omega arith }
-
--- What the test `weight < 0` tells.
-pub positive-taken : (w : ℤ) → ltZ w (pos 0) ≡ true → pos 0 ≡ positivePart w
-unfolding positivePart
-positive-taken (pos n) h = absurd (none n (ltb-true n 0 h))
-  where
-    none : (n : ℕ) → n < 0 → ⊥
-    none n l = omega arith
-positive-taken (negsuc n) h = refl
-
-pub positive-left : (w : ℤ) → ltZ w (pos 0) ≡ false → w ≡ positivePart w
-unfolding positivePart
-positive-left (pos n) h = refl
-positive-left (negsuc n) h = absurd (let z : _≡_ {A = ℕ} 0 1 = cc in omega arith)
-
-pub negative-taken : (w : ℤ) → ltZ w (pos 0) ≡ true → w ≡ negativePart w
-unfolding negativePart
-negative-taken (pos n) h = absurd (none n (ltb-true n 0 h))
-  where
-    none : (n : ℕ) → n < 0 → ⊥
-    none n l = omega arith
-negative-taken (negsuc n) h = refl
-
-pub negative-left : (w : ℤ) → ltZ w (pos 0) ≡ false → pos 0 ≡ negativePart w
-unfolding negativePart
-negative-left (pos n) h = refl
-negative-left (negsuc n) h = absurd (let z : _≡_ {A = ℕ} 0 1 = cc in omega arith)
 
 -- ---- codes
 

@@ -1,8 +1,6 @@
 // The bounds of a rule against its least and greatest sum: "A rule is judged by its least and greatest sum alone."
 ghost use mathlib.Core.Path.{_≡_};
 ghost use mathlib.Core.Bool.{cond};
-ghost use Prim.Native.Nat.{_+_, _<_};
-ghost use lib.IntN.{natAbs, _-ℤ_};
 ghost use Rattle.plpb.specs.Plan.{absent, present, atLeast, atMost};
 ghost use Rattle.format.specs.File.{boundOf};
 ghost use Rattle.format.specs.Writer.{boundNumber};
@@ -56,13 +54,6 @@ fn written(met: bool, bound: i32) -> i32
     ensures { λ r. ⌜ r ≡ boundNumber (cond met absent (present bound)) ⌝ }
 {
     if met { 0 } else { bound }
-}
-
-pub fn minus(a: i32, b: i32) -> i32
-    requires { ⌜ natAbs a + natAbs b < 2_147_483_648 ⌝ }
-    ensures { λ r. ⌜ r ≡ a -ℤ b ⌝ }
-{
-    a - b
 }
 
 // What is left of a rule: its mode, 0 where all values meet it and 4 where none do, and its bounds as they are written.

@@ -30,7 +30,7 @@ fn less(file: &[u8], at: usize, given: i32) -> i32
     requires { ⌜ (at + 4 ≤ length (now file)) × (natAbs (signed (numAt 4 (now file) at)) ≤ maxBound) × (natAbs given ≤ maxTotal) ⌝ }
     ensures { λ r. ⌜ r ≡ signed (numAt 4 (now (file .entry)) at) -ℤ given ⌝ }
 {
-    bounds::minus(words::read_i32(file, at), given)
+    integers::minus(words::read_i32(file, at), given)
 }
 
 pub fn fate(file: &[u8], at: usize, map: &[u8]) -> Fate

@@ -1,33 +1,20 @@
 // Sums over the terms of a field: what the locked variables give, and the least and the greatest sum of the others.
 ghost use mathlib.Core.Path.{_≡_};
 ghost use mathlib.Core.Bool.{true};
-ghost use Prim.Native.Nat.{_+_, _*_, _≤_, _<_};
-ghost use lib.IntN.{natAbs, _+ℤ_};
+ghost use Prim.Native.Nat.{_+_, _*_, _≤_};
 ghost use lib.ListN.{length};
-ghost use Rattle.plpb.specs.Plan.{negativePart};
 ghost use Rattle.format.specs.Limits.{maxVariables};
 ghost use Rattle.format.specs.File.{termsAt};
-ghost use Rattle.squeezed.specs.Squeezed.{positivePart};
 ghost use Rattle.fates.specs.Codes.{decode, decoded, mapSize};
 ghost use Rattle.fates.specs.Sums.{partOf, partTotal, smallTerms};
+use integers::negative;
+use integers::plus;
+use integers::positive;
 
 pub enum Part {
     Given,
     Least,
     Greatest,
-}
-
-// A weight where it is negative, else 0; and where it is not.
-fn negative(weight: i32) -> i32
-    ensures { λ r. ⌜ r ≡ negativePart weight ⌝ }
-{
-    if weight < 0 { weight } else { 0 }
-}
-
-fn positive(weight: i32) -> i32
-    ensures { λ r. ⌜ r ≡ positivePart weight ⌝ }
-{
-    if weight < 0 { 0 } else { weight }
 }
 
 // What a term gives to a sum: of a variable that is locked at 1, and of one that goes on.
@@ -62,13 +49,6 @@ fn part_of(part: Part, code: u32, weight: i32) -> i32
         return part_on(part, weight);
     }
     part_left(part, weight)
-}
-
-fn plus(a: i32, b: i32) -> i32
-    requires { ⌜ natAbs a + natAbs b < 2_147_483_648 ⌝ }
-    ensures { λ r. ⌜ r ≡ a +ℤ b ⌝ }
-{
-    a + b
 }
 
 pub fn sum(file: &[u8], from: usize, count: usize, map: &[u8], part: Part) -> i32

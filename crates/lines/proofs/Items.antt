@@ -15,7 +15,7 @@ use Rattle.plpb.specs.Search.{Ending, floor, ended, none, short-found, short-no
 use Rattle.words.specs.Writes.{front, put}
 use Rattle.words.proofs.Writes.{front-put, put-put}
 use Rattle.lines.specs.Text.{text, decimal, signedDecimal, line, endingOf, endingWord, resultLine, assignmentLine, refusalLine}
-use Rattle.lines.proofs.Decimal.{twenty}
+use Rattle.texts.proofs.Decimal.{twenty}
 use Rattle.lines.proofs.Signs.{read, Negative, Natural}
 use Rattle.lines.proofs.Writing.{stored, front-more, put-more, characters, length-characters}
 

@@ -1,5 +1,4 @@
--- The laws of digits, items and lines.
-pub mod Decimal
+-- The laws of items and lines.
 pub mod Signs
 pub mod Writing
 pub mod Items

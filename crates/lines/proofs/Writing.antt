@@ -13,7 +13,7 @@ use Rattle.words.proofs.Writes.{put-sets, front-put, put-put, length-put}
 use Rattle.numbers.proofs.Keep.{getD-map}
 use Rattle.numbers.proofs.Taking.{write-more}
 use Rattle.lines.specs.Text.{digit, decimal}
-use Rattle.lines.proofs.Decimal.{decimal-small, decimal-large, length-large}
+use Rattle.texts.proofs.Decimal.{decimal-small, decimal-large, length-large}
 
 -- One byte stored is one written.
 pub stored : (s : List ℕ) (at b : ℕ) → at < length s → set s at b ≡ put at (b ∷ []) s

@@ -1,45 +1,14 @@
 -- What the program prints, as lists of bytes (document 01, "The program and its two lines").
 -- Assumes nothing.
-use Prim.Native.Nat.{ℕ, zero, suc, _+_, _/_, _%_}
-use Prim.Native.Char.{code}
-use Prim.Native.String.{String, [] as empty, _∷_ as _then_}
+use Prim.Native.Nat.{ℕ}
 use mathlib.Core.Bool.{Bool, cond}
 use mathlib.Core.List.{List, [], _∷_, _++_, map}
-use lib.Dec.{ltb, eqb}
-use lib.IntN.{ℤ, pos, negsuc}
+use lib.Dec.{eqb}
+use lib.IntN.{ℤ}
 use lib.ListN.{take}
+pub use Rattle.texts.specs.Texts.{digit}
+unfoldable pub use Rattle.texts.specs.Texts.{text, decimalIn, decimal, signedDecimal, line}
 use Rattle.plpb.specs.Search.{Ending, floor, ended, none, short-found, short-none, Reached, failed, reached, Answer}
-
--- The bytes of a text.
-unfoldable pub text : String → List ℕ
-text empty = []
-text (c then rest) = code c ∷ text rest
-
--- The characters 0 to 9 stand one behind the other, from 48 on.
-abbrev pub digit : ℕ → ℕ
-digit d = 48 + d
-
--- A number in decimal: one below 10 is a digit; any other has its last digit behind the decimal of a tenth of it. A tenth is less than the
--- number, so that n steps are enough.
-unfoldable pub decimalIn : ℕ → ℕ → List ℕ
-decimalIn zero n = digit n ∷ []
-decimalIn (suc left) n =
-    let more = decimalIn left (n / 10) ++ (digit (n % 10) ∷ []) in
-    cond (ltb n 10) (digit n ∷ []) more
-
-unfoldable pub decimal : ℕ → List ℕ
-decimal n = decimalIn n n
-
--- With '-' in front of a number below 0.
-unfoldable pub signedDecimal : ℤ → List ℕ
-signedDecimal (pos n) = decimal n
-signedDecimal (negsuc n) = text "-" ++ decimal (suc n)
-
--- "One space stands between two items, and each line ends with a line feed."
-unfoldable pub line : List (List ℕ) → List ℕ
-line [] = text "\n"
-line (item ∷ []) = item ++ text "\n"
-line (item ∷ next ∷ rest) = item ++ (text " " ++ line (next ∷ rest))
 
 -- The ending of a number (`endingNumber` of the search's contract); one that is not among them counts as the last.
 unfoldable pub endingOf : ℕ → Ending

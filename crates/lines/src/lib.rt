@@ -8,6 +8,7 @@ ghost use lib.IntN.{natAbs};
 ghost use lib.ListN.{length, take};
 ghost use Rattle.words.specs.Writes.{front, put};
 ghost use Rattle.lines.specs.Text.{digit as digitOf, decimal, signedDecimal, endingOf, endingWord, resultLine, assignmentLine, refusalLine};
+use texts::digit;
 
 const SPACE: u8 = 32;
 
@@ -22,13 +23,6 @@ fn put_word(out: &mut [u8], word: &[u8], end: u8) -> usize
     let at = word.len();
     out[at] = end;
     at + 1
-}
-
-fn digit(d: u64) -> u8
-    requires { ⌜ d < 10 ⌝ }
-    ensures { λ r. ⌜ r ≡ digitOf d ⌝ }
-{
-    48 + (d as u8)
 }
 
 // A number's digits from a place on. Answers the next place.

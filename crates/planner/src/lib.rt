@@ -17,6 +17,7 @@ ghost use Rattle.festival.specs.Festival.{given, buffers, raced, roomRefusal};
 ghost use Rattle.festival.specs.Own.{works};
 ghost use Rattle.opb_read.specs.Reads.{reading, tablesRead, termsRead};
 ghost use Rattle.races.specs.Races.{stakesIn, partsPut};
+ghost use Rattle.writer.specs.Calls.{writeRefusal, writeLength, textAfter};
 ghost use Rattle.tables.specs.Load.{refusalOf, offsetOf, loading, tablesAfter, termsAfter};
 use answers::Answer as Searched;
 use calls::counts::Counted;
@@ -35,6 +36,8 @@ use squeeze::squeeze;
 use tables::load;
 use verdict::Loaded;
 use verdict::numbers;
+use writer::Written;
+use writer::write_opb;
 use xorwow::Xorwow;
 
 #[no_mangle]
@@ -310,4 +313,14 @@ pub extern "C" fn planner_races<'a>(
         work_tallies,
         work_marks,
     )
+}
+
+// The plan of two tables as an OPB text.
+#[no_mangle]
+pub extern "C" fn planner_write_opb(tables: &[u8], terms: &[u8], text: &mut [u8]) -> Written
+    ensures { λ r. ⌜ (r .refusal ≡ writeRefusal (now (tables .entry)) (now (terms .entry)) (now (text .entry)))
+        × (r .length ≡ writeLength (now (tables .entry)) (now (terms .entry))) ⌝ }
+    ensures { λ _. ⌜ now (text .exit) ≡ textAfter (now (tables .entry)) (now (terms .entry)) (now (text .entry)) ⌝ }
+{
+    write_opb(tables, terms, text)
 }

@@ -11,7 +11,7 @@ use lib.Dec.{T, ltb, ltb→lt, le→leb, lt→ltb}
 use lib.IntN.{ℤ, pos, negsuc, natAbs, predℤ, subℕ, suc-pred, _+ℤ_, _-ℤ_, _*ℤ_, sucℤ-*ℤ, zero-*ℤ, -ℤ-one, +ℤ-idl, +ℤ-idr, +ℤ-assoc, +ℤ-comm}
 use lib.Signed.{leZ, ltZ}
 use Rattle.plpb.specs.Lists.{_and_, _or_, any, all}
-use Rattle.plpb.specs.Plan.{Bound, absent, present, Term, Plan, Assignment, value, isVariable, lockOf, agrees, obeys, total, atLeast, atMost, ruleHolds, clauseHolds, satisfies, cost, negativePart, leastTotal, leastOf, leastCost, floorCost}
+use Rattle.plpb.specs.Plan.{Bound, absent, present, Term, Plan, Assignment, value, isVariable, lockOf, agrees, obeys, total, atLeast, atMost, ruleHolds, clauseHolds, satisfies, cost, negativePart, leastTotal, positivePart, greatestTotal, leastOf, leastCost, floorCost}
 use Rattle.plpb.specs.Settings.{Mode, linear, lbs}
 use Rattle.plpb.specs.Search.{tightened, third, lbsBound, linearBound, boundIn, atFloor, gap}
 use Rattle.plpb.proofs.Integers.{ltZ-suc, ltZ-shift, leZ-difference, leZ-refl, leZ-antisym, leZ-add, leZ-ltZ-trans}
@@ -32,6 +32,21 @@ least-total a [] = tt
 least-total a (t ∷ ts) =
     leZ-add (negativePart (t .weight)) (cond (value a (t .variable)) (t .weight) (pos 0)) (leastTotal ts) (total a ts)
     (negative-part (value a (t .variable)) (t .weight)) (least-total a ts)
+
+-- .. and none more than that of the positive ones.
+positive-part : (b : Bool) (w : ℤ) → T (leZ (cond b w (pos 0)) (positivePart w))
+unfolding positivePart
+positive-part true (pos n) = leZ-refl (pos n)
+positive-part true (negsuc n) = tt
+positive-part false (pos n) = le→leb 0 n zero-le
+positive-part false (negsuc n) = tt
+
+pub greatest-total : (a : Assignment) (ts : List Term) → T (leZ (total a ts) (greatestTotal ts))
+unfolding total greatestTotal
+greatest-total a [] = tt
+greatest-total a (t ∷ ts) =
+    leZ-add (cond (value a (t .variable)) (t .weight) (pos 0)) (positivePart (t .weight)) (total a ts) (greatestTotal ts)
+    (positive-part (value a (t .variable)) (t .weight)) (greatest-total a ts)
 
 -- What a coefficient counts in l(O) is at least its negative part, and at most what a value that agrees with the lock gives.
 least-part : (k : Bound Bool) (w : ℤ) → T (leZ (negativePart w) (leastOf k w))

@@ -132,6 +132,15 @@ unfoldable pub leastTotal : List Term → ℤ
 leastTotal [] = pos 0
 leastTotal (t ∷ ts) = negativePart (t .weight) +ℤ leastTotal ts
 
+unfoldable pub positivePart : ℤ → ℤ
+positivePart (pos n) = pos n
+positivePart (negsuc n) = pos 0
+
+-- .. of the positive ones: none give more.
+unfoldable pub greatestTotal : List Term → ℤ
+greatestTotal [] = pos 0
+greatestTotal (t ∷ ts) = positivePart (t .weight) +ℤ greatestTotal ts
+
 -- What a coefficient counts: "l(O) is the sum of its negative coefficients", "l(O) now counts locked variables at their value."
 unfoldable pub leastOf : Bound Bool → ℤ → ℤ
 leastOf absent w = negativePart w

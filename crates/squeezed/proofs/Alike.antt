@@ -16,7 +16,7 @@ use Rattle.plpb.specs.Lists.{_and_, _or_, keep, any, all, row}
 use Rattle.plpb.specs.Plan.{Bound, absent, present, mapBound, Term, Rule, Clause, Plan, Assignment, value, isVariable, total, atLeast, atMost, ruleHolds, clauseHolds, satisfies, cost, leastTotal}
 use Rattle.plpb.proofs.Lists.{is-true, T-true, false-T, and-left, and-right, and-both, or-left, or-right}
 use Rattle.plpb.proofs.Integers.{leZ-shift, leZ-trans, leZ-refl, leZ-add}
-use Rattle.plpb.proofs.Costs.{least-total}
+use Rattle.plpb.proofs.Costs.{least-total, greatest-total}
 use Rattle.squeezed.specs.Squeezed.{Becomes, locked, renumbered, becomes, given, givenTotal, stays, termsLeft, putIn, positivePart, greatestTotal, possible, always, trimmed, rulesLeft, remains, clausesLeft, squeezed, constant}
 use Rattle.squeezed.specs.Claims.{valueOf, extended, Alike}
 
@@ -86,21 +86,7 @@ unfolding atMost mapBound
 upper-less absent g s = refl
 upper-less (present u) g s = ap (leZ (g +ℤ s)) (sym (less u g)) ∙ leZ-shift g s (u -ℤ g)
 
--- ---- the least and the greatest sum
-
-positive-part : (b : Bool) (w : ℤ) → T (leZ (cond b w (pos 0)) (positivePart w))
-unfolding positivePart
-positive-part true (pos n) = leZ-refl (pos n)
-positive-part true (negsuc n) = tt
-positive-part false (pos n) = le→leb 0 n zero-le
-positive-part false (negsuc n) = tt
-
-pub greatest-total : (a : Assignment) (ts : List Term) → T (leZ (total a ts) (greatestTotal ts))
-unfolding total greatestTotal
-greatest-total a [] = tt
-greatest-total a (t ∷ ts) =
-    leZ-add (cond (value a (t .variable)) (t .weight) (pos 0)) (positivePart (t .weight)) (total a ts) (greatestTotal ts)
-    (positive-part (value a (t .variable)) (t .weight)) (greatest-total a ts)
+-- ---- bounds
 
 -- A lower bound that a sum meets is met by every greater one; an upper bound by every smaller one.
 pub higher : (l : Bound ℤ) (s t : ℤ) → T (leZ s t) → T (atLeast l s) → T (atLeast l t)

@@ -9,6 +9,7 @@ use lib.IntN.{ℤ, pos, negsuc, _+ℤ_, _-ℤ_}
 use lib.ListN.{length}
 use Rattle.plpb.specs.Lists.{_and_, keep, count, any, isEmpty, row}
 use Rattle.plpb.specs.Plan.{Bound, absent, present, mapBound, Term, Rule, Clause, Plan, isVariable, lockOf, isLocked, atLeast, atMost, leastTotal}
+unfoldable pub use Rattle.plpb.specs.Plan.{positivePart, greatestTotal}
 
 -- "the unlocked variables (all kept)", by their old numbers: "which old variable each new one was".
 unfoldable pub isUnlocked : Plan → ℕ → Bool
@@ -60,16 +61,7 @@ putIn f r =
       terms = termsLeft f (r .terms);
     }
 
--- "A rule is judged by its least and greatest sum alone." The least is `leastTotal`, the sum of the negative coefficients.
-unfoldable pub positivePart : ℤ → ℤ
-positivePart (pos n) = pos n
-positivePart (negsuc n) = pos 0
-
-unfoldable pub greatestTotal : List Term → ℤ
-greatestTotal [] = pos 0
-greatestTotal (t ∷ ts) = positivePart (t .weight) +ℤ greatestTotal ts
-
--- "a rule that no values can meet" is one that is not possible.
+-- "A rule is judged by its least and greatest sum alone." "a rule that no values can meet" is one that is not possible.
 unfoldable pub possible : Rule → Bool
 possible r = atLeast (r .lower) (greatestTotal (r .terms)) and atMost (r .upper) (leastTotal (r .terms))
 

@@ -14,13 +14,14 @@ pub mod reading;
 pub mod searching;
 pub mod squeezing;
 pub mod trials;
+pub mod writing;
 
 use figures::Figures;
 use reference::random::Random;
 
 /// The calls, in the order in which the figures show them.
-pub const CALLS: [&str; 10] = [
-    "load", "read", "open", "flip", "counts", "search", "squeeze", "map", "runs", "races",
+pub const CALLS: [&str; 11] = [
+    "load", "read", "open", "flip", "counts", "search", "squeeze", "map", "runs", "races", "write",
 ];
 
 /// One call. It panics where the library and the reference differ.
@@ -33,6 +34,7 @@ fn case(random: &mut Random, figures: &mut Figures) {
         "runs" => figures.count(call, trials::case(random).refusal),
         "races" => figures.count(call, racing::case(random)),
         "map" => figures.count(call, mapping::case(random)),
+        "write" => figures.count(call, writing::case(random)),
         "search" => {
             let answer = searching::case(random, figures);
             figures.count(call, answer.refusal);

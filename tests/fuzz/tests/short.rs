@@ -5,7 +5,7 @@ use fuzz::figures::CASES;
 #[test]
 fn a_short_run() {
     let figures = fuzz::run(2026, |number| number < 250_000);
-    let calls: [(&str, &[u32]); 10] = [
+    let calls: [(&str, &[u32]); 11] = [
         ("load", &[0, 1, 2, 3, 4, 5, 6, 7, 10, 21]),
         ("read", &[0, 5, 21, 31, 32]),
         ("open", &[0, 21, 22, 24]),
@@ -16,6 +16,7 @@ fn a_short_run() {
         ("map", &[0, 21, 51, 52, 53, 54, 55]),
         ("runs", &[0, 11, 12, 13, 14, 15, 16, 21, 22, 41, 42, 43]),
         ("races", &[0, 21, 61, 62]),
+        ("write", &[0, 21, 22, 33]),
     ];
     for (call, refusals) in calls {
         for &refusal in refusals {

@@ -97,6 +97,14 @@ pub struct Searched {
     pub used: usize,
 }
 
+/// What writing a plan as an OPB text answers.
+#[repr(C)]
+#[derive(Clone, Copy, Debug, PartialEq, Eq)]
+pub struct Written {
+    pub refusal: u32,
+    pub length: usize,
+}
+
 /// What a squeeze answers.
 #[repr(C)]
 #[derive(Clone, Copy, Debug, PartialEq, Eq)]
@@ -152,7 +160,7 @@ impl From<figures::Figures> for Figures {
 
 /// The functions as they are exported.
 pub mod raw {
-    use super::{Counted, Figures, Flipped, Loaded, Searched, Squeezed};
+    use super::{Counted, Figures, Flipped, Loaded, Searched, Squeezed, Written};
 
     extern "C" {
         pub fn planner_load(
@@ -263,6 +271,14 @@ pub mod raw {
             work_marks: *mut u8,
             work_marks_length: usize,
         ) -> Figures;
+        pub fn planner_write_opb(
+            tables: *const u8,
+            tables_length: usize,
+            terms: *const u8,
+            terms_length: usize,
+            text: *mut u8,
+            text_length: usize,
+        ) -> Written;
         pub fn planner_squeeze(
             file: *mut u8,
             file_length: usize,
@@ -449,4 +465,17 @@ pub fn runs(
 
 pub fn squeeze(file: &mut [u8], old: &mut [u8]) -> Squeezed {
     unsafe { raw::planner_squeeze(file.as_mut_ptr(), file.len(), old.as_mut_ptr(), old.len()) }
+}
+
+pub fn write_opb(tables: &[u8], terms: &[u8], text: &mut [u8]) -> Written {
+    unsafe {
+        raw::planner_write_opb(
+            tables.as_ptr(),
+            tables.len(),
+            terms.as_ptr(),
+            terms.len(),
+            text.as_mut_ptr(),
+            text.len(),
+        )
+    }
 }

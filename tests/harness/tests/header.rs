@@ -1,8 +1,8 @@
 //! include/planner.h against what this harness declares of the library: every size, offset, limit
-//! and ending, and the eight prototypes, word for word; and the prototype of include/races.h.
+//! and ending, and the prototypes, word for word; and the prototype of include/races.h.
 
 use harness::layout::{self, ASSIGNMENT, KEPT, MARKS, SECTIONS, TABLES, TALLIES, TERM_TABLE};
-use harness::planner::{Counted, Figures, Flipped, Loaded, Searched, Squeezed};
+use harness::planner::{Counted, Figures, Flipped, Loaded, Searched, Squeezed, Written};
 use harness::program::{printed_by_c, root};
 use harness::searching::{ending, ENDINGS};
 use reference::figures::NUMBERS;
@@ -153,6 +153,16 @@ fn sizes_offsets_and_numbers() {
             offset_of!(Squeezed, constant),
         ),
         ("((planner_squeezed){.constant = -1}).constant < 0", 1),
+        ("sizeof(planner_written)", size_of::<Written>()),
+        (
+            "offsetof(planner_written, refusal)",
+            offset_of!(Written, refusal),
+        ),
+        (
+            "offsetof(planner_written, length)",
+            offset_of!(Written, length),
+        ),
+        ("PLANNER_TEXT_OUTGROWS", 33),
         ("PLANNER_LIST_SIZE", LIST),
         ("sizeof(planner_list)", LIST),
         ("PLANNER_ALL_LOCKED", 71),
@@ -271,6 +281,7 @@ fn c_type(words: &str) -> &'static str {
         "planner_searched" => "Searched",
         "planner_figures" => "Figures",
         "planner_squeezed" => "Squeezed",
+        "planner_written" => "Written",
         other => panic!("'{other}' is no type of the interface"),
     }
 }
@@ -325,6 +336,7 @@ fn prototypes() {
         ("planner_runs", 32),
         ("planner_squeeze", 4),
         ("planner_races", 52),
+        ("planner_write_opb", 6),
     ] {
         let declared = prototype_in_c(&header, name);
         assert_eq!(declared.1.len(), parameters, "{name}");

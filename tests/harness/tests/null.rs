@@ -2,7 +2,9 @@
 //! elsewhere.
 
 use harness::layout::{self, ASSIGNMENT, KEPT, MARKS, TABLES, TALLIES, TERM_TABLE};
-use harness::planner::{self, raw, squeeze, Counted, Figures, Flipped, Loaded, Searched, Squeezed};
+use harness::planner::{
+    self, raw, squeeze, write_opb, Counted, Figures, Flipped, Loaded, Searched, Squeezed, Written,
+};
 use harness::searching::refused;
 use reference::figures::{Trial, Xorwow};
 use reference::making::{example_plan, settings};
@@ -161,4 +163,18 @@ fn no_file_and_no_list_to_squeeze() {
     assert_eq!(answer, refused(21));
     assert_eq!(file, before);
     assert_eq!(squeeze(&mut [], &mut []), refused(21));
+}
+
+#[test]
+fn no_tables_and_no_room_for_a_text() {
+    let (tables, terms) = layout::tables(&example_plan());
+    let refused = |refusal, length| Written { refusal, length };
+    assert_eq!(write_opb(&[], &terms, &mut []), refused(21, 0));
+    assert_eq!(write_opb(&tables, &[], &mut []), refused(21, 0));
+    let answer = unsafe {
+        let (a, b) = (tables.as_ptr(), terms.as_ptr());
+        raw::planner_write_opb(a, tables.len(), b, terms.len(), null_mut(), 0)
+    };
+    let length = reference::opb_write::write(&example_plan()).len();
+    assert_eq!(answer, refused(33, length));
 }

@@ -18,6 +18,7 @@ pub mod making;
 pub mod mapper;
 pub mod novelty;
 pub mod opb_read;
+pub mod opb_write;
 pub mod plan;
 pub mod program;
 pub mod races;

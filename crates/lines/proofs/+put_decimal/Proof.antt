@@ -11,7 +11,7 @@ use Rattle.lines.proofs.Writing.{digit-room, one-digit, tenth-room, las
 use Rattle.lines.proofs.put_decimal.Reads as put-decimal
 use Rattle.lines.proofs.put_decimal.Kinds as put-decimal-kinds
 use Rattle.lines.proofs.+put_decimal.Lts-put_decimal as lts
-use Rattle.lines.proofs.digit.Reads as digit-reads
+use Rattle.texts.proofs.digit.Reads as digit-reads
 use Rattle.lines.proofs.+put_decimal.{statement}
 use Rattle.lines.proofs.+put_decimal.Tie.{close}
 

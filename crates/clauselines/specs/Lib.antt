@@ -1,0 +1,2 @@
+-- What writing the clauses' lines needs.
+pub mod Clauses

@@ -1,0 +1,2 @@
+-- Constraints as the code puts them.
+pub mod Bytes

@@ -1,0 +1,3 @@
+-- The laws of the two sums.
+pub mod Terms
+pub mod Summing

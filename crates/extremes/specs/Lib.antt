@@ -1,0 +1,2 @@
+-- Terms in a table of words.
+pub mod Terms

@@ -1,0 +1,2 @@
+-- The sizes of signed numbers.
+pub mod Sizes

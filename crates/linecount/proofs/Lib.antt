@@ -1,0 +1,3 @@
+-- The laws of counting.
+pub mod Down
+pub mod Lines

@@ -1,0 +1,2 @@
+-- What counting a text's lines needs.
+pub mod Counts

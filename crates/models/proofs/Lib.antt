@@ -1,0 +1,4 @@
+-- The theorems on the text of a plan.
+pub mod Sums
+pub mod Rules
+pub mod Extends

@@ -1,0 +1,2 @@
+-- What is claimed of the text of a plan.
+pub mod Claims

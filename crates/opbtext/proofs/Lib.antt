@@ -1,0 +1,3 @@
+-- The laws of the whole text.
+pub mod Parts
+pub mod Whole

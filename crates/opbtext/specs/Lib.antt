@@ -1,0 +1,2 @@
+-- What writing a plan's text needs.
+pub mod Whole

@@ -1,0 +1,3 @@
+-- The laws of a rule's lines.
+pub mod Lines
+pub mod Entries

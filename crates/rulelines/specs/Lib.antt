@@ -1,0 +1,2 @@
+-- What writing a rule's lines needs.
+pub mod Rules

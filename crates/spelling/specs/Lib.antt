@@ -1,0 +1,2 @@
+-- What it is to put bytes into a lent buffer.
+pub mod Overlay

@@ -1,0 +1,2 @@
+-- The laws of digits.
+pub mod Decimal

@@ -1,0 +1,2 @@
+-- Texts, decimals and lines as lists of bytes.
+pub mod Texts
