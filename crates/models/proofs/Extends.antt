@@ -418,7 +418,7 @@ read-solves a t = lines (t .lines)
             → all (clauseHolds a) (map (λ c. lineRule c ∷ []) (c ∷ cs)) ≡ all (meets a) (c ∷ cs)
         more c cs h = unfold all in ap₂ _and_ (line-holds a c) h
 
-no-atoms : (cs : List Clause) → T (all isSingle cs) → sumBy newAtoms cs ≡ 0
+pub no-atoms : (cs : List Clause) → T (all isSingle cs) → sumBy newAtoms cs ≡ 0
 unfolding all sumBy newAtoms
 no-atoms [] t = refl
 no-atoms (c ∷ cs) t = rw (is-true (isSingle c) (and-left _ _ t)) (zero-add (sumBy newAtoms cs) ∙ no-atoms cs (and-right (isSingle c) _ t))
