@@ -92,6 +92,52 @@ static void squeeze(uint32_t refusal, const uint8_t *file, size_t length, size_t
     free(old);
 }
 
+/* A plan's text written into blocks that are short, absent and exact, and read from a block of exactly its length into
+ * tables that are short, absent and exact. A text within the limits is read without a refusal, one past them with 4. */
+static void text(const uint8_t *file, size_t length) {
+    uint8_t *tables = block(sizes[0]), *terms = block(sizes[1]);
+    const uint32_t small = PLANNER_BUFFER_TOO_SMALL;
+    expect("load", planner_load(file, length, tables, sizes[0], terms, sizes[1]).refusal, 0);
+    expect("write", planner_write_opb(tables, sizes[0] - 1, terms, sizes[1], NULL, 0).refusal, small);
+    expect("write", planner_write_opb(tables, sizes[0], NULL, 0, NULL, 0).refusal, small);
+    planner_written needed = planner_write_opb(tables, sizes[0], terms, sizes[1], NULL, 0);
+    expect("write", needed.refusal, PLANNER_TEXT_OUTGROWS);
+    uint8_t *less = block(needed.length - 1), *bytes = block(needed.length);
+    planner_written refused = planner_write_opb(tables, sizes[0], terms, sizes[1], less, needed.length - 1);
+    expect("write", refused.refusal, PLANNER_TEXT_OUTGROWS);
+    if (refused.length != needed.length) exit(1);
+    free(less);
+    planner_written written = planner_write_opb(tables, sizes[0], terms, sizes[1], bytes, needed.length);
+    expect("write", written.refusal, 0);
+    if (written.length != needed.length) exit(1);
+    uint8_t *short_tables = block(sizes[0] - 1), *short_terms = block(sizes[1] - 1);
+    expect("read", planner_read_opb(bytes, needed.length, short_tables, sizes[0] - 1, terms, sizes[1]).refusal, small);
+    expect("read", planner_read_opb(bytes, needed.length, tables, sizes[0], short_terms, sizes[1] - 1).refusal, small);
+    expect("read", planner_read_opb(bytes, needed.length, NULL, 0, terms, sizes[1]).refusal, small);
+    expect("read", planner_read_opb(bytes, needed.length, tables, sizes[0], NULL, 0).refusal, small);
+    expect("read", planner_read_opb(NULL, 0, tables, sizes[0], terms, sizes[1]).refusal, PLANNER_WRONG_TEXT);
+    free(short_tables);
+    free(short_terms);
+    /* Tables that hold nothing yet. */
+    free(tables);
+    free(terms);
+    tables = block(sizes[0]);
+    terms = block(sizes[1]);
+    char first[64] = "";
+    unsigned variables = 0, constraints = 0;
+    memcpy(first, bytes, needed.length < sizeof first ? needed.length : sizeof first - 1);
+    if (sscanf(first, "* #variable= %u #constraint= %u\n", &variables, &constraints) != 2) exit(1);
+    uint32_t again = variables > PLANNER_MOST_VARIABLES || constraints > PLANNER_MOST_CLAUSES ? PLANNER_TOO_LARGE : 0;
+    expect("read", planner_read_opb(bytes, needed.length, tables, sizes[0], terms, sizes[1]).refusal, again);
+    if (!again) {
+        /* The tables read are lawful, and no byte of them is without a value. */
+        expect("write", planner_write_opb(tables, sizes[0], terms, sizes[1], NULL, 0).refusal, PLANNER_TEXT_OUTGROWS);
+    }
+    free(bytes);
+    free(tables);
+    free(terms);
+}
+
 /* A festival of so many races in blocks of these sizes for the settings, assignments and answers of 8. The first race
  * has a plan, the others have none. */
 static void races(uint32_t refusal, size_t count, const size_t *size, const uint8_t *file, size_t length,
@@ -146,6 +192,7 @@ int main(int count, char **arguments) {
     squeeze(small, file, length, 0);
     squeeze(PLANNER_CUT_SHORT, file, length - 1, PLANNER_LIST_SIZE);
     squeeze(PLANNER_CUT_SHORT, NULL, 0, PLANNER_LIST_SIZE);
+    text(file, length);
     const size_t eight[3] = {PLANNER_ALL_SETTINGS_SIZE, PLANNER_ALL_ASSIGNMENTS_SIZE, PLANNER_ALL_ANSWERS_SIZE};
     races(0, 1, eight, file, length, numbers, listed);
     races(0, PLANNER_MOST_RACES, eight, file, length, numbers, listed);

@@ -62,6 +62,27 @@ static void squeeze(planner_plan *plan, uint8_t *file, size_t length) {
     free(old);
 }
 
+/* Writes the plan as a text into a block of exactly its length, and reads that into a plan that holds nothing yet. What
+ * is read without a refusal, written again, takes as many bytes unless a lock's line was among them. */
+static void text(const planner_plan *plan) {
+    planner_plan *again = block(sizeof *again);
+    size_t length = planner_plan_write_opb(plan, NULL, 0).length;
+    char *bytes = block(length);
+    planner_written written = planner_plan_write_opb(plan, bytes, length);
+    expect("write", written.refusal);
+    if (written.length != length || bytes[0] != '*' || bytes[length - 1] != '\n') exit(1);
+    planner_loaded read = planner_plan_read_opb(again, (const uint8_t *)bytes, length);
+    if (read.refusal != PLANNER_TOO_LARGE && read.refusal != PLANNER_WRONG_TERM) {
+        expect("read", read.refusal);
+        uint32_t locks = 0;
+        for (uint32_t x = 1; x <= planner_plan_variables(plan); x++) locks += planner_plan_lock(plan, x) != PLANNER_FREE;
+        planner_written second = planner_plan_write_opb(again, NULL, 0);
+        if (second.refusal != PLANNER_TEXT_OUTGROWS || (!locks && second.length != length)) exit(1);
+    }
+    free(bytes);
+    free(again);
+}
+
 /* A few runs from a state: the share is of the runs, and every byte lent for writing is 0 after them. */
 static void runs(const planner_plan *plan, planner_settings settings, planner_work *work) {
     planner_scratch *scratch = block(sizeof *scratch);
@@ -130,6 +151,7 @@ int main(int count, char **arguments) {
         printf("%s: the readers disagree\n", arguments[1]);
         return 1;
     }
+    text(plan);
     squeeze(plan, file, length);
     printf("%s: %s, %zu found, %zu flips\n", arguments[1], planner_ending_text(found.ending), found.finds, found.flips);
     free(file);

@@ -246,7 +246,7 @@ pub fn turn_a_bit(random: &mut Random, plan: &Plan, tables: &mut [u8], terms: &m
     let [_, _, locks, ends, order] = SECTIONS;
     let place = match random.below(8) {
         0 => random.below(16 + 4 * plan.variables),
-        1 => TABLES + random.below(8 * plan.clauses.len()),
+        1 => TABLES + random.below(8 * plan.clauses.len().max(1)),
         2 => locks + random.below(4 * plan.variables),
         // The lowest two bits of a lock.
         3 => locks + 4 * random.below(plan.variables),

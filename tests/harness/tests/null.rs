@@ -166,6 +166,27 @@ fn no_file_and_no_list_to_squeeze() {
 }
 
 #[test]
+fn no_text_and_no_tables_to_read_it_into() {
+    let text = b"* #variable= 1 #constraint= 0\n";
+    for absent in 0..=NONE_ABSENT {
+        let mut buffers = Buffers::new(absent);
+        let before = buffers.bytes.clone();
+        let [(tables, a), (terms, b)] = [0, 1].map(|place| buffers.lend(place));
+        let refusal = if absent < 2 { 21 } else { 31 };
+        let refused = |refusal| Loaded { refusal, offset: 0 };
+        let answer = unsafe { raw::planner_read_opb(null(), 0, tables, a, terms, b) };
+        assert_eq!(answer, refused(refusal), "no text, buffer {absent}");
+        assert!(buffers.bytes == before);
+        if absent < 2 {
+            let (bytes, length) = (text.as_ptr(), text.len());
+            let answer = unsafe { raw::planner_read_opb(bytes, length, tables, a, terms, b) };
+            assert_eq!(answer, refused(21), "buffer {absent}");
+            assert!(buffers.bytes == before);
+        }
+    }
+}
+
+#[test]
 fn no_tables_and_no_room_for_a_text() {
     let (tables, terms) = layout::tables(&example_plan());
     let refused = |refusal, length| Written { refusal, length };

@@ -53,7 +53,7 @@ fn check(random: &mut Random, text: &[u8], tables: usize, terms: usize) -> u32 {
 #[test]
 fn cases_of_a_separately_written_program() {
     let mut random = Random::new(140);
-    for case in include_str!("../../vectors/opb_read.txt").lines() {
+    for case in include_str!("../../vectors/opb-read.txt").lines() {
         let (text, wanted) = case.split_once(" = ").unwrap();
         let text = from_hexadecimal(text);
         let refusal = check(&mut random, &text, TABLES, TERM_TABLE);

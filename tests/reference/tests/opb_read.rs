@@ -9,7 +9,7 @@ use std::collections::BTreeSet;
 #[test]
 fn cases_of_a_separately_written_program() {
     let mut kinds = BTreeSet::new();
-    for case in include_str!("../../vectors/opb_read.txt").lines() {
+    for case in include_str!("../../vectors/opb-read.txt").lines() {
         let (text, wanted) = case.split_once(" = ").unwrap();
         let text = from_hexadecimal(text);
         let answer = match read(&text) {
