@@ -7,7 +7,7 @@
 #include <string.h>
 #include <ucontext.h>
 
-enum { SIZE = 1 << 20, PAINT = 0xa5, CALLS = 9, LISTED = 4 * 200 };
+enum { SIZE = 1 << 20, PAINT = 0xa5, CALLS = 11, LISTED = 4 * 200 };
 
 static uint8_t file[PLANNER_INPUT_SIZE], numbers[LISTED];
 static planner_plan plan;
@@ -47,6 +47,16 @@ static void races(void) {
 #undef NONE
     if (!refusal) refusal = answers[0].refusal;
 }
+static void write(void) {
+    static char text[SIZE];
+    refusal = planner_plan_write_opb(&plan, text, sizeof text).refusal;
+}
+/* A text of its own: those of the plans may pass the limits. */
+static void read(void) {
+    static const char text[] = "* #variable= 3 #constraint= 2\nmin: +1 x1 -2 x3 ;\n+1 x1 +1 x2 >= 1 ;\n-1 x2 = -1 ;\n";
+    static planner_plan other;
+    refusal = planner_plan_read_opb(&other, (const uint8_t *)text, sizeof text - 1).refusal;
+}
 static void squeeze(void) { refusal = planner_file_squeeze(file, length, &old).refusal; }
 
 static size_t touched(void (*call)(void)) {
@@ -72,8 +82,9 @@ static size_t contents(const char *name, uint8_t *bytes, size_t most) {
 }
 
 int main(int count, char **names) {
-    void (*calls[CALLS])(void) = {nothing, load, search, runs, races, open, flip, counts, squeeze};
-    const char *called[CALLS] = {"nothing", "load", "search", "runs", "races", "open", "flip", "counts", "squeeze"};
+    void (*calls[CALLS])(void) = {nothing, load, search, runs, races, open, flip, counts, read, write, squeeze};
+    const char *called[CALLS] = {"nothing", "load",   "search", "runs",  "races",  "open",
+                                 "flip",    "counts", "read",   "write", "squeeze"};
     size_t deepest[CALLS] = {0};
     if (count < 3) {
         printf("usage: stack NUMBERS PLAN...\n");

@@ -178,7 +178,8 @@ static inline const char *planner_refusal_text(uint32_t refusal) {
     case PLANNER_NOT_BITS: return "the assignment has a byte other than 0 and 1";
     case PLANNER_STALE_TALLIES: return "the tallies are not those of this assignment";
     case PLANNER_WRONG_TEXT: return "this line of the text is no statement of its form";
-    case PLANNER_WRONG_TOTAL: return "a variable is above the text's number of variables, or the constraints are not as many as it says";
+    case PLANNER_WRONG_TOTAL:
+        return "a variable is above the text's number of variables, or the constraints are not as many as it says";
     case PLANNER_TEXT_OUTGROWS: return "the text is longer than the buffer";
     case PLANNER_LOCKED: return "the plan has locked this variable";
     case PLANNER_WRONG_RACES: return "there is no race, or there are more than 8";

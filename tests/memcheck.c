@@ -75,7 +75,9 @@ static void text(const planner_plan *plan) {
     if (read.refusal != PLANNER_TOO_LARGE && read.refusal != PLANNER_WRONG_TERM) {
         expect("read", read.refusal);
         uint32_t locks = 0;
-        for (uint32_t x = 1; x <= planner_plan_variables(plan); x++) locks += planner_plan_lock(plan, x) != PLANNER_FREE;
+        for (uint32_t x = 1; x <= planner_plan_variables(plan); x++) {
+            locks += planner_plan_lock(plan, x) != PLANNER_FREE;
+        }
         planner_written second = planner_plan_write_opb(again, NULL, 0);
         if (second.refusal != PLANNER_TEXT_OUTGROWS || (!locks && second.length != length)) exit(1);
     }

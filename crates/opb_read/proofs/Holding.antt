@@ -1,7 +1,6 @@
 -- Tables that a text was read into are tables that an accepted loading leaves.
 -- Assumes nothing.
 use Prim.Native.Nat.{ℕ}
-use native.Mathlib.Omega.{arith}
 use mathlib.Core.Path.{_≡_, refl, sym, ap, _∙_}
 use mathlib.Core.Bool.{Bool, true, false}
 use mathlib.Core.List.{List}
@@ -15,15 +14,13 @@ use Rattle.verdict.specs.declared.Answer.{Answer}
 use Rattle.verdict.specs.declared.Answer.the-variants.{Accepted, Refused}
 use Rattle.verdict.specs.Answers.{outcome}
 use Rattle.tables.specs.Load.{tooSmall, tablesOf, termsOf}
+use Rattle.tables.proofs.Whole.{not-accepted}
 use Rattle.tables.proofs.Holding.{words-hold}
 use Rattle.opb_lines.specs.ReadText.{planOfText, readText}
 use Rattle.opb_fill.specs.Fill.{Says}
 use Rattle.opb_fill.proofs.Accepted.{text-lawful}
 use Rattle.opb_read.specs.Reads.{reading, tablesRead, termsRead, ReadingHolds}
 use Rattle.opb_read.proofs.Whole.{says}
-
-not-accepted : (n o : ℕ) → _≡_ {A = Answer} (Refused n o) Accepted → ⊥
-not-accepted n o e = let z : _≡_ {A = ℕ} 0 1 = cc in omega arith
 
 module _ (s t u : List ℕ) where
   abbrev Claim : List ℕ → List ℕ → Type 0

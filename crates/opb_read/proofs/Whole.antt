@@ -12,6 +12,7 @@ use Rattle.plpb.specs.Lists.{_or_, row}
 use Rattle.plpb.specs.Plan.{Plan, Bound, absent, lockAmong, lockOf, isVariable, rising, risingAbove}
 use Rattle.plpb.specs.Lists.{all}
 use Rattle.plpb.specs.Tallies.{rulesOf}
+use Rattle.plpb.proofs.Lists.{or-true}
 use Rattle.words.specs.Words.{wordBytes, unsigned}
 use Rattle.words.specs.Writes.{front}
 use Rattle.words.proofs.Words.{length-wordBytes}
@@ -24,7 +25,7 @@ use Rattle.verdict.specs.declared.Answer.the-variants.{Accepted, Refused}
 use Rattle.verdict.specs.Answers.{outcome}
 use Rattle.tables.specs.Load.{tooSmall, tablesOf, termsOf}
 use Rattle.tables.specs.Sections.{lockWords, placed}
-use Rattle.tables.proofs.Whole.{terms-long}
+use Rattle.tables.proofs.Whole.{terms-long, not-accepted, refused-tables, refused-terms}
 use Rattle.tables.proofs.Dense.{dense}
 use Rattle.tokens.specs.Tokens.{seen}
 use Rattle.tokens.proofs.Numbers.{seen-small}
@@ -35,9 +36,6 @@ use Rattle.opb_lines.specs.declared.First.{First}
 use Rattle.opb_fill.specs.Fill.{Says}
 use Rattle.opb_fill.proofs.Accepted.{constraintPlaces, said, lawful-text}
 use Rattle.opb_read.specs.Reads.{reading, tablesRead, termsRead}
-
-not-accepted : (n o : ℕ) → _≡_ {A = Answer} (Refused n o) Accepted → ⊥
-not-accepted n o e = let z : _≡_ {A = ℕ} 0 1 = cc in omega arith
 
 plan-here : (s : List ℕ) {p : Plan} → readText s ≡ accepted p → Says s
 plan-here s {p} e = e ∙ ap accepted (said s p e .0)
@@ -77,21 +75,6 @@ pub no-locks : (s : List ℕ) → replicate 2_048 0 ≡ wordBytes (lockWords (pl
 unfolding lockWords placed coefficient unsigned rising risingAbove all planOfText
 no-locks s =
     dense 0 [] (λ x. lockWord (lockOf (planOfText s) x)) (omega arith) (record { rise = refl; within = refl }) (λ x l. free (planOfText s) x refl)
-
-or-true : (b : Bool) → (b or true) ≡ true
-unfolding _or_
-or-true true = refl
-or-true false = refl
-
-refused-tables : (r : Reading Plan) (n o : ℕ) (t : List ℕ) → Refused n o ≡ outcome r → t ≡ tablesOf r t
-unfolding outcome tablesOf
-refused-tables (refused m k) n o t e = refl
-refused-tables (accepted p) n o t e = absurd (not-accepted n o e)
-
-refused-terms : (r : Reading Plan) (n o : ℕ) (t : List ℕ) → Refused n o ≡ outcome r → t ≡ termsOf r t
-unfolding outcome termsOf
-refused-terms (refused m k) n o t e = refl
-refused-terms (accepted p) n o t e = absurd (not-accepted n o e)
 
 module _ (s : List ℕ) (e : Says s) where
   accepted-tables : (t : List ℕ) → front (wordBytes (tableWords (planOfText s))) t ≡ tablesOf (readText s) t

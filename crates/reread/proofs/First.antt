@@ -6,15 +6,16 @@ use mathlib.Core.Path.{_≡_, refl, sym, ap, ap₂, _∙_}
 use mathlib.Core.Bool.{Bool, true, false}
 use mathlib.Core.List.{List, [], _∷_, _++_, append-assoc}
 use lib.Dec.{ltb, eqb}
+use lib.IntN.{pos}
 use lib.ListN.{length, getD, drop, length-append}
 use borrow.Author.Tests.{lt-ltb, eq-eqb}
 use Rattle.plpb.specs.Lists.{_and_, all}
-use Rattle.texts.specs.Texts.{text, decimal, line}
+use Rattle.texts.specs.Texts.{text, decimal, signedDecimal, line}
 use Rattle.tokens.specs.Tokens.{isBlank, isDigit, isInside, blanksEnd, digitsEnd, wordEnd, numberAt}
 use Rattle.opb.specs.Spell.{spellFirst}
 use Rattle.opb_lines.specs.ReadText.{star, variableName, constraintName, namedFrom, namedEnd, isNamed, variablesAt, constraintsAt, firstEnd, firstFormed, variablesIn, constraintsIn}
 use Rattle.reread.proofs.Places.{stops, some-digit, Here, past, byte-at, run-ends, word-ends, digits-end, digits-say}
-use Rattle.reread.proofs.Items.{no-blank, no-digit, blank-digit, first-of}
+use Rattle.reread.proofs.Items.{no-blank, blank-digit, bound-stops}
 use Rattle.reread.proofs.Lines.{inside-both, inside-decimal}
 
 first-shape : (n m : ℕ) (r : List ℕ) → spellFirst n m ++ r
@@ -50,7 +51,7 @@ inside-first n m =
     (inside-both (32 ∷ []) _ (unfold all isInside _and_ in refl) (inside-decimal m))))))))
 
 decimal-stops : (n : ℕ) (r : List ℕ) → stops isBlank (decimal n ++ r) ≡ true
-decimal-stops n r = let f = first-of n in ap (λ l. stops isBlank (l ++ r)) (f .2) ∙ no-blank (f .0) (f .1 ++ r) (omega (arith, f .3))
+decimal-stops n r = unfold signedDecimal in bound-stops (pos n) r
 
 module _ (s : List ℕ) where
   -- A number behind its name and a space.

@@ -219,8 +219,8 @@ finish t s {ats} low high f v m e b =
 -- A text whose plan is within our limits is read, as it is spelled, as that plan.
 pub read-spell : ReadSpell
 unfolding spell
-read-spell t lawful =
-    let w = plan-parts (planOf t) lawful in
+read-spell t limits =
+    let w = plan-parts (planOf t) limits in
     let n = t .variables in
     let m = length (t .lines) in
     let r = spellObjective (t .objective) ++ linesText (t .lines) in
@@ -234,10 +234,10 @@ read-spell t lawful =
 
 -- "one of single-rule clauses that does not, read again, has the same solutions"
 pub read-again : ReadAgain
-read-again p lawful singles limits = (
+read-again p right singles limits = (
   planOf (tau p),
   read-spell (tau p) limits,
   unfold planOf tau in ap (λ k. p .variables + k) (no-atoms (p .clauses) singles) ∙ add-zero (p .variables),
   unfold planOf tau in refl,
-  λ a size. same-solutions p lawful singles a size,
+  λ a size. same-solutions p right singles a size,
 )

@@ -143,7 +143,7 @@ unfolding front
 terms-whole p q o ys n e = ap₂ (λ (x : List ℕ) (k : ℕ). x ++ drop k o) e (sym (terms-long p q))
 
 -- What loading comes to.
-not-accepted : (n o : ℕ) → _≡_ {A = Answer} (Refused n o) Accepted → ⊥
+pub not-accepted : (n o : ℕ) → _≡_ {A = Answer} (Refused n o) Accepted → ⊥
 not-accepted n o e = let z : _≡_ {A = ℕ} 0 1 = cc in omega arith
 
 pub accepts : (r : Reading Plan) → Accepted ≡ outcome r → r ≡ accepted (said r)
@@ -156,12 +156,12 @@ unfolding _or_
 or-true true = refl
 or-true false = refl
 
-refused-tables : (r : Reading Plan) (n o : ℕ) (t : List ℕ) → Refused n o ≡ outcome r → t ≡ tablesOf r t
+pub refused-tables : (r : Reading Plan) (n o : ℕ) (t : List ℕ) → Refused n o ≡ outcome r → t ≡ tablesOf r t
 unfolding outcome tablesOf
 refused-tables (refused m k) n o t e = refl
 refused-tables (accepted p) n o t e = absurd (not-accepted n o e)
 
-refused-terms : (r : Reading Plan) (n o : ℕ) (t : List ℕ) → Refused n o ≡ outcome r → t ≡ termsOf r t
+pub refused-terms : (r : Reading Plan) (n o : ℕ) (t : List ℕ) → Refused n o ≡ outcome r → t ≡ termsOf r t
 unfolding outcome termsOf
 refused-terms (refused m k) n o t e = refl
 refused-terms (accepted p) n o t e = absurd (not-accepted n o e)
