@@ -20,10 +20,15 @@ use Rattle.constraints.specs.Bytes.{linesBytes, sided, Small}
 use Rattle.constraints.proofs.Bytes.{lines-none, lines-cons, lines-one, lines-append}
 use Rattle.constraints.proofs.Sides.{sided-plain}
 use Rattle.extremes.specs.Terms.{extremeOf, maxTotal}
-use Rattle.rulelines.specs.Rules.{Extremes}
+use Rattle.rulelines.specs.Rules.{Extremes, twoLines}
 
 lines-two : (c d : _) → linesBytes (c ∷ d ∷ []) ≡ spellLine c ++ spellLine d
 lines-two c d = lines-cons c (d ∷ []) ∙ ap (λ l. spellLine c ++ l) (lines-one d)
+
+-- Two lines of the same numbers are the same.
+pub two-same :
+    (t : Bool) (ts : List Term) (x : ℕ) {w b v c w' b' v' c' : ℤ} → w ≡ w' → b ≡ b' → v ≡ v' → c ≡ c' → twoLines t ts x w b v c ≡ twoLines t ts x w' b' v' c'
+two-same t ts x p q r u i = twoLines t ts x (p i) (q i) (r i) (u i)
 
 bound-absent : (w m : ℕ) (b : ℤ) → m ≡ w → boundOf w m b ≡ absent
 unfolding boundOf
@@ -46,18 +51,16 @@ module _ (x m : ℕ) (b : ℤ) (ts : List Term) where
 
   pub minus-present :
       (m ≡ 1 → ⊥) → linesBytes (minusLines x (boundOf 1 m b) ts)
-      ≡ spellLine (sided true (ts ++ (weighted (greatestTotal ts -ℤ b) x ∷ [])) (greatestTotal ts))
-      ++ spellLine (sided false (ts ++ (weighted (b +ℤ pos 1 -ℤ leastTotal ts) x ∷ [])) (b +ℤ pos 1))
-  unfolding minusLines sided
+      ≡ twoLines true ts x (greatestTotal ts -ℤ b) (greatestTotal ts) (b +ℤ pos 1 -ℤ leastTotal ts) (b +ℤ pos 1)
+  unfolding minusLines sided twoLines
   minus-present h =
       rw (bound-present 1 m b h)
       (lines-two (leq (ts ++ (weighted (greatestTotal ts -ℤ b) x ∷ [])) (greatestTotal ts)) (geq (ts ++ (weighted (b +ℤ pos 1 -ℤ leastTotal ts) x ∷ [])) (b +ℤ pos 1)))
 
   pub plus-present :
       (m ≡ 2 → ⊥) → linesBytes (plusLines x (boundOf 2 m b) ts)
-      ≡ spellLine (sided false (ts ++ (weighted (leastTotal ts -ℤ b) x ∷ [])) (leastTotal ts))
-      ++ spellLine (sided true (ts ++ (weighted (b -ℤ pos 1 -ℤ greatestTotal ts) x ∷ [])) (b -ℤ pos 1))
-  unfolding plusLines sided
+      ≡ twoLines false ts x (leastTotal ts -ℤ b) (leastTotal ts) (b -ℤ pos 1 -ℤ greatestTotal ts) (b -ℤ pos 1)
+  unfolding plusLines sided twoLines
   plus-present h =
       rw (bound-present 2 m b h)
       (lines-two (geq (ts ++ (weighted (leastTotal ts -ℤ b) x ∷ [])) (leastTotal ts)) (leq (ts ++ (weighted (b -ℤ pos 1 -ℤ greatestTotal ts) x ∷ [])) (b -ℤ pos 1)))

@@ -9,8 +9,8 @@ ghost use Rattle.format.specs.Tables.{ruleOf};
 ghost use Rattle.opb.specs.Tau.{lowerLine, upperLine, straight, minusLines, plusLines, ruleLines};
 ghost use Rattle.spelling.specs.Overlay.{Puts, Room};
 ghost use Rattle.extremes.specs.Terms.{termsIn, TermsFit};
-ghost use Rattle.constraints.specs.Bytes.{linesBytes};
-ghost use Rattle.rulelines.specs.Rules.{Extremes, RuleFits};
+ghost use Rattle.constraints.specs.Bytes.{linesBytes, Small};
+ghost use Rattle.rulelines.specs.Rules.{Extremes, RuleFits, twoLines};
 use constraints::put_both;
 use constraints::put_constraint;
 use constraints::put_fixed;
@@ -19,6 +19,48 @@ use integers::minus;
 use integers::plus;
 use rules::entry::Entry;
 use rules::entry::read_entry;
+
+// Two lines, each with a rule's terms and one more: at least a bound or, turned, at most; then the other way round.
+fn put_two(
+    out: &mut [u8],
+    at: usize,
+    terms: &[u8],
+    e: Entry,
+    turn: bool,
+    variable: usize,
+    weight: i32,
+    bound: i32,
+    second: i32,
+    other: i32,
+) -> usize
+    requires { ⌜ TermsFit (now terms) (e .first) (e .count) × Small weight × Small bound × Small second × Small other ⌝ }
+    requires { ⌜ Room at (twoLines turn (termsIn (wordAt (now terms)) (e .first) (e .count)) variable weight bound second other) ⌝ }
+    ensures { λ r. ⌜ Puts (twoLines turn (termsIn (wordAt (now (terms .entry))) (e .first) (e .count)) variable weight bound second other) at
+        (now (out .entry)) (now (out .exit)) r ⌝ }
+{
+    let a = put_constraint(
+        out,
+        at,
+        terms,
+        e.first,
+        e.count,
+        turn,
+        weight,
+        variable,
+        bound,
+    );
+    put_constraint(
+        out,
+        a,
+        terms,
+        e.first,
+        e.count,
+        !turn,
+        second,
+        variable,
+        other,
+    )
+}
 
 // (16) and (17), or the one line of an absent bound. Mode 1 has no upper bound.
 fn put_minus(
@@ -40,28 +82,9 @@ fn put_minus(
         return put_fixed(out, at, variable);
     }
     let next = plus(e.upper, 1);
-    let a = put_constraint(
-        out,
-        at,
-        terms,
-        e.first,
-        e.count,
-        true,
-        minus(high, e.upper),
-        variable,
-        high,
-    );
-    put_constraint(
-        out,
-        a,
-        terms,
-        e.first,
-        e.count,
-        false,
-        minus(next, low),
-        variable,
-        next,
-    )
+    let far = minus(high, e.upper);
+    let near = minus(next, low);
+    put_two(out, at, terms, e, true, variable, far, high, near, next)
 }
 
 // (18) and (19), or the one line of an absent bound. Mode 2 has no lower bound.
@@ -84,28 +107,9 @@ fn put_plus(
         return put_fixed(out, at, variable);
     }
     let last = minus(e.lower, 1);
-    let a = put_constraint(
-        out,
-        at,
-        terms,
-        e.first,
-        e.count,
-        false,
-        minus(low, e.lower),
-        variable,
-        low,
-    );
-    put_constraint(
-        out,
-        a,
-        terms,
-        e.first,
-        e.count,
-        true,
-        minus(last, high),
-        variable,
-        last,
-    )
+    let far = minus(low, e.lower);
+    let near = minus(last, high);
+    put_two(out, at, terms, e, false, variable, far, low, near, last)
 }
 
 // Rule r of a clause with several, with k variables before its own.
