@@ -98,9 +98,11 @@ pub fn new_atoms(tables: &[u8], c: usize) -> usize
 
 pub fn put_clauses(out: &mut [u8], at: usize, tables: &[u8], terms: &[u8]) -> usize
     requires { ⌜ ClausesFit (now tables) (now terms) ⌝ }
-    requires { ⌜ Room at (linesBytes (clausesLines (wordAt (now tables) 0) (clausesIn (wordAt (now tables)) (wordAt (now terms)) 0 (wordAt (now tables) 1)))) ⌝ }
+    requires { ⌜ Room at (linesBytes (clausesLines (wordAt (now tables) 0)
+        (clausesIn (wordAt (now tables)) (wordAt (now terms)) 0 (wordAt (now tables) 1)))) ⌝ }
     ensures { λ r. ⌜ Puts (linesBytes (clausesLines (wordAt (now (tables .entry)) 0)
-        (clausesIn (wordAt (now (tables .entry))) (wordAt (now (terms .entry))) 0 (wordAt (now (tables .entry)) 1)))) at (now (out .entry)) (now (out .exit)) r ⌝ }
+        (clausesIn (wordAt (now (tables .entry))) (wordAt (now (terms .entry))) 0 (wordAt (now (tables .entry)) 1)))) at
+        (now (out .entry)) (now (out .exit)) r ⌝ }
 {
     let clauses = index(tables, 1);
     let mut next = at;
