@@ -412,7 +412,7 @@ planner_written planner_write_opb(const uint8_t *tables, size_t tables_length, c
 /* ---- plan, state and work */
 
 /* A plan as loading leaves it: two buffers, each below 64 KiB; 108,912 bytes in all. To be written by
- * planner_plan_load alone. */
+ * planner_plan_load and planner_plan_read_opb alone. */
 typedef struct {
     uint8_t tables[PLANNER_TABLES_SIZE];
     uint8_t terms[PLANNER_TERMS_SIZE];

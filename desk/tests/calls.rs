@@ -85,7 +85,7 @@ static inline "
             )
             .count()
     );
-    assert!(calls.len() >= 10, "{}", calls.len());
+    assert!(calls.len() >= 12, "{}", calls.len());
     let mut pages: Vec<String> = fs::read_dir(root().join("docs/calls"))
         .unwrap()
         .map(|file| file.unwrap().file_name().into_string().unwrap())
@@ -158,7 +158,7 @@ fn the_refusals_of_each_call() {
             listed += 1;
         }
     }
-    assert!(listed >= 8, "{listed}");
+    assert!(listed >= 10, "{listed}");
     let lists = text("docs/calls/planner_map_csv.md");
     let order = "21; then the site list row by row, in a row 51, 52, 53; then the zone list likewise; then 54, 55, and 4";
     assert!(lists.contains(order) && refusals.contains(&format!("Order: {order}.")));
