@@ -11,15 +11,16 @@ pub mod answers;
 #[path = "../../harness/src/layout.rs"]
 pub mod layout;
 
-use answers::{Counted, Figures, Flipped, Loaded, Searched, Squeezed};
-use layout::{ASSIGNMENT, MARKS, TABLES, TALLIES, TERM_TABLE};
+use answers::{Counted, Figures, Flipped, Loaded, Searched, Squeezed, Written};
+use layout::{ASSIGNMENT, KEPT, MARKS, TABLES, TALLIES, TERM_TABLE};
 use reference::book::{Answer, Book, Call};
 use reference::figures::{self, Trial, Xorwow};
-use reference::file::parse;
+use reference::file::{parse, Refusal};
 use reference::plan::Plan;
 use reference::races::{split, RACES};
 use reference::tallies::Tallies;
 use reference::walk::{self, Ending, Settings};
+use reference::{opb_read, opb_write};
 
 /// What is lent to be read; NULL is fine where the length is 0.
 ///
@@ -69,19 +70,18 @@ fn numbers_of(bytes: &[u8]) -> Vec<u32> {
         .collect()
 }
 
+/// What a search works in: tables, terms, an assignment, tallies with what is kept behind them, marks.
+const WORK: [usize; 5] = [TABLES, TERM_TABLE, ASSIGNMENT, KEPT, MARKS];
+
 /// The buffers that a search works in end filled with 0.
 fn clear(work: [&mut [u8]; 5]) {
-    for (buffer, size) in work
-        .into_iter()
-        .zip([TABLES, TERM_TABLE, ASSIGNMENT, TALLIES, MARKS])
-    {
+    for (buffer, size) in work.into_iter().zip(WORK) {
         buffer[..size].fill(0);
     }
 }
 
 fn work_sizes(work: &[&mut [u8]; 5]) -> Vec<(usize, usize)> {
-    let sizes = [TABLES, TERM_TABLE, ASSIGNMENT, TALLIES, MARKS];
-    work.iter().map(|buffer| buffer.len()).zip(sizes).collect()
+    work.iter().map(|buffer| buffer.len()).zip(WORK).collect()
 }
 
 fn refused(refusal: u32) -> Searched {
@@ -137,6 +137,27 @@ fn opened(plan: &Plan, assignment: &[u8], tallies: &[u8]) -> Result<Vec<bool>, u
     }
 }
 
+/// Writes the tables of a plan that is read: 21, then what its reading refuses.
+fn put_plan(
+    plan: impl FnOnce() -> Result<Plan, Refusal>,
+    tables: &mut [u8],
+    terms: &mut [u8],
+) -> Loaded {
+    let answer = |refusal, offset| Loaded { refusal, offset };
+    if tables.len() < TABLES || terms.len() < TERM_TABLE {
+        return answer(21, 0);
+    }
+    match plan() {
+        Ok(plan) => {
+            let (new_tables, new_terms) = layout::tables(&plan);
+            tables[..TABLES].copy_from_slice(&new_tables);
+            terms[..TERM_TABLE].copy_from_slice(&new_terms);
+            answer(0, 0)
+        }
+        Err(refusal) => answer(refusal.number, refusal.offset),
+    }
+}
+
 /// # Safety
 /// The caller lends what it says it lends.
 #[no_mangle]
@@ -148,20 +169,48 @@ pub unsafe extern "C" fn planner_load(
     terms: *mut u8,
     terms_length: usize,
 ) -> Loaded {
-    let refused = |refusal, offset| Loaded { refusal, offset };
     let (tables, terms) = (write(tables, tables_length), write(terms, terms_length));
-    if tables.len() < TABLES || terms.len() < TERM_TABLE {
-        return refused(21, 0);
+    put_plan(|| parse(read(file, file_length)), tables, terms)
+}
+
+/// # Safety
+/// The caller lends what it says it lends.
+#[no_mangle]
+pub unsafe extern "C" fn planner_read_opb(
+    text: *const u8,
+    text_length: usize,
+    tables: *mut u8,
+    tables_length: usize,
+    terms: *mut u8,
+    terms_length: usize,
+) -> Loaded {
+    let (tables, terms) = (write(tables, tables_length), write(terms, terms_length));
+    put_plan(|| opb_read::read(read(text, text_length)), tables, terms)
+}
+
+/// # Safety
+/// The caller lends what it says it lends.
+#[no_mangle]
+pub unsafe extern "C" fn planner_write_opb(
+    tables: *const u8,
+    tables_length: usize,
+    terms: *const u8,
+    terms_length: usize,
+    text: *mut u8,
+    text_length: usize,
+) -> Written {
+    let answer = |refusal, length| Written { refusal, length };
+    let (tables, terms) = (read(tables, tables_length), read(terms, terms_length));
+    let spelled = match plan_of(tables, terms, &[]) {
+        Ok(plan) => opb_write::write(&plan),
+        Err(refusal) => return answer(refusal, 0),
+    };
+    let length = spelled.len();
+    if text_length < length {
+        return answer(33, length);
     }
-    match parse(read(file, file_length)) {
-        Ok(plan) => {
-            let (new_tables, new_terms) = layout::tables(&plan);
-            tables[..TABLES].copy_from_slice(&new_tables);
-            terms[..TERM_TABLE].copy_from_slice(&new_terms);
-            refused(0, 0)
-        }
-        Err(refusal) => refused(refusal.number, refusal.offset),
-    }
+    write(text, text_length)[..length].copy_from_slice(spelled.as_bytes());
+    answer(0, length)
 }
 
 /// # Safety
