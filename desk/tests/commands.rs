@@ -292,6 +292,25 @@ fn a_plan_becomes_an_opb_text() {
     assert_eq!(desk(&folder, &["opb", "nothing.txt", "new.opb"]).0, 2);
 }
 
+/// A clause with 'or' has new variables, and the text is the reference's, asked for or not.
+#[test]
+fn an_opb_text_with_new_variables() {
+    let folder = folder("opb-or");
+    let text = "variables 2\nminimise x1 + 2 x2\nclause x1 >= 1 or x2 <= 0\n";
+    fs::write(folder.join("plan.txt"), text).unwrap();
+    assert_eq!(desk(&folder, &["write", "plan.txt", ".", "1", "1"]).0, 0);
+    let plan = parse(&fs::read(folder.join("plan.bin")).unwrap()).unwrap();
+    for more in [&[][..], &["--check"]] {
+        let arguments = [&["opb", "plan.txt", "new.opb"], more].concat();
+        let (code, out, err) = desk(&folder, &arguments);
+        assert_eq!((code, err.as_str()), (0, ""));
+        assert!(out.ends_with(", 8 variables, of them 6 new, 13 constraints\n"));
+        let written = fs::read_to_string(folder.join("new.opb")).unwrap();
+        assert_eq!(written, reference::opb_write::write(&plan));
+        fs::remove_file(folder.join("new.opb")).unwrap();
+    }
+}
+
 #[test]
 fn a_plan_is_squeezed() {
     let folder = folder("squeeze");
