@@ -21,7 +21,7 @@
  * - It may be made with anything at all. It returns, and gives what it was asked for or one of the refusals below.
  *   A refused call changes no byte of what it was lent.
  * - It touches nothing but the buffers it is lent, keeps no pointer, allocates nothing, has no state of its own and
- *   takes up to two kilobytes of stack, planner_squeeze and planner_races two and a half. It is reentrant: threads may
+ *   takes up to two kilobytes of stack, planner_squeeze and planner_races up to three. It is reentrant: threads may
  *   call at once, each with buffers of its own.
  * - The caller lends the memory that it says it lends, and no byte twice in one call. This cannot be tested by the
  *   call; it is assumed.
