@@ -1,4 +1,6 @@
 // Fractions in lowest terms, by Euclid's algorithm.
+#![tactic(auto)]
+
 ghost use Rattle.std.specs.Prelude.{◌≡◌, ◌^◌, ◌<◌, nat_abs};
 ghost use Rattle.words.specs.Signed.{complement};
 ghost use Rattle.fractions.specs.Fractions.{gcd, reduced, reduced_z};

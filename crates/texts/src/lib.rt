@@ -1,4 +1,6 @@
 // Texts as lists of bytes: numbers in decimal, items with a space between them, lines. Definitions in specs/, laws in proofs/.
+#![tactic(auto)]
+
 ghost use Rattle.std.specs.Prelude.{◌≡◌, ◌<◌};
 ghost use Rattle.texts.specs.Texts.{digit as digitOf};
 

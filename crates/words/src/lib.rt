@@ -1,4 +1,6 @@
 // Numbers in byte slices, little-endian: "All numbers are little-endian; coefficients and bounds are signed 32-bit, the rest unsigned."
+#![tactic(auto)]
+
 ghost use Rattle.std.specs.Prelude.{◌≡◌, [], ◌∷◌, ◌++◌, ◌+◌, ◌*◌, ◌/◌, ◌%◌, ◌≤◌, ◌<◌, length, take, drop, replicate, nat_abs};
 ghost use Rattle.words.specs.Words.{num_at, bytes_of, word_at, signed, unsigned};
 ghost use Rattle.words.specs.Signed.{complement};

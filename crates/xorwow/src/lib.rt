@@ -1,4 +1,6 @@
 // Marsaglia's xorwow: the numbers that follow a state, written to a buffer.
+#![tactic(auto)]
+
 ghost use Rattle.std.specs.Prelude.{◌≡◌, ◌+◌, ◌*◌, ◌%◌, ◌^◌, ◌≤◌, length};
 ghost use Rattle.words.specs.Words.{word_bytes};
 ghost use Rattle.words.specs.Writes.{front};
