@@ -6,14 +6,14 @@ ghost use Rattle.words.specs.Signed.{complement};
 ghost use Rattle.fractions.specs.Fractions.{gcd, reduced, reduced_z};
 
 #[repr(C)]
-#[derive(Drop)]
+#[derive(Clone, Copy)]
 pub struct Fraction {
     pub top: u64,
     pub bottom: u64,
 }
 
 #[repr(C)]
-#[derive(Drop)]
+#[derive(Clone, Copy)]
 pub struct SignedFraction {
     pub top: i64,
     pub bottom: u64,
