@@ -10,7 +10,7 @@ use words::index;
 
 // What a search answers: its ending by number, 0 with a refusal; then all else is 0 too.
 #[repr(C)]
-#[derive(Drop)]
+#[derive(Clone, Copy)]
 pub struct Answer {
     pub refusal: u32,
     pub ending: u32,

@@ -8,7 +8,7 @@ use counting::count::Marked;
 use exact::counts_core;
 
 #[repr(C)]
-#[derive(Drop)]
+#[derive(Clone, Copy)]
 pub struct Counted {
     pub refusal: u32,
     pub breaks: Marked,

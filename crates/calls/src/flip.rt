@@ -7,7 +7,7 @@ use flips::flip_core;
 
 // The refusal, and how many rule tallies were rewritten.
 #[repr(C)]
-#[derive(Drop)]
+#[derive(Clone, Copy)]
 pub struct Flipped {
     pub refusal: u32,
     pub rules: u32,

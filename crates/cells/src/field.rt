@@ -16,7 +16,7 @@ const CR: u8 = 13;
 const LF: u8 = 10;
 
 // What a field holds and the place behind it, or that there is no field.
-#[derive(Drop)]
+#[derive(Clone, Copy)]
 pub struct Field {
     pub ok: bool,
     pub value: Value,

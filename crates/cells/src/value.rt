@@ -10,7 +10,7 @@ const LONGEST: usize = 16;
 const HALF: usize = 8;
 
 // A value's length, its bytes as two numbers to the base 256, whether all of them are digits, and the number that these say.
-#[derive(Drop)]
+#[derive(Clone, Copy)]
 pub struct Value {
     pub length: usize,
     pub low: u64,

@@ -9,7 +9,7 @@ use crate::count::Count;
 use crate::pascal::{ROWS, tabled};
 
 // A binomial, and how many factors it cost.
-#[derive(Drop)]
+#[derive(Clone, Copy)]
 pub struct Report {
     pub count: Count,
     pub factors: u32,

@@ -8,7 +8,7 @@ ghost use Rattle.counting.specs.Bound.{bound_of};
 use crate::binomial::{binomial, difference, surely_past};
 use crate::count::Count;
 
-#[derive(Drop)]
+#[derive(Clone, Copy)]
 pub enum Bound {
     Absent,
     Present(u64),

@@ -3,7 +3,7 @@ ghost use Rattle.std.specs.Prelude.{◌≡◌, suc, ◌+◌, ◌*◌, ◌<◌};
 ghost use Rattle.plpb.specs.Count.{cap, given, capped};
 ghost use Rattle.counting.specs.Count.{number, count_words, marked_words};
 
-#[derive(Drop)]
+#[derive(Clone, Copy)]
 pub struct Count {
     pub value: u32,
     pub cut: bool,
@@ -11,7 +11,7 @@ pub struct Count {
 
 // A count as it is given out to C: its value, and 1 where it was cut, else 0.
 #[repr(C)]
-#[derive(Drop)]
+#[derive(Clone, Copy)]
 pub struct Marked {
     pub value: u32,
     pub cut: u32,

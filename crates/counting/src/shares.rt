@@ -13,7 +13,7 @@ ghost use Rattle.counting.specs.Shares.{shares_in, capped_shares, joined_shares}
 use crate::bound::{Bound, over, over_difference};
 use crate::count::Count;
 
-#[derive(Drop)]
+#[derive(Clone, Copy)]
 pub struct Shares {
     pub e: Count,
     pub f: Count,

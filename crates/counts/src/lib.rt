@@ -24,7 +24,7 @@ use words::{index, word};
 const SEVERAL: u32 = 2147483648; // the words of places in clauses of more than one rule begin here
 
 // What a group counts, and where it ends.
-#[derive(Drop)]
+#[derive(Clone, Copy)]
 pub struct Turn {
     pub breaks: Count,
     pub makes: Count,

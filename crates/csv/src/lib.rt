@@ -10,7 +10,7 @@ const LEAST_ROOM: usize = 54446;
 
 // A refusal's number with its list (1 sites, 2 zones, 0 neither) and row, from 1; or 0, and the length of the file.
 #[repr(C)]
-#[derive(Drop)]
+#[derive(Clone, Copy)]
 pub struct Mapped {
     pub refusal: u32,
     pub list: u32,

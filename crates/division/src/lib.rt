@@ -1,18 +1,20 @@
 // A list of numbers split among races by their stakes. All is by value, so that the borrow checker covers each function: what lies in a list of
 // races is taken out of it and put back by the crate `races`. No product of a length of the list and a stake is formed: it could be too large.
+#![tactic(auto)]
+
 ghost use Rattle.std.specs.Prelude.{◌≡◌, ◌+◌, ◌*◌, ◌/◌, ◌≤◌, ◌<◌, ◌^◌};
 ghost use Rattle.division.specs.Split.{sum, whole_parts, one_each};
 ghost use Rattle.division.specs.Eight.{bad_at, bad_from, extra_at, starts_from, refused_by, lawful_parts, divided};
 
 // How many races there are, 9 for more than 8, and their stakes, 0 where there is no race.
-#[derive(Drop)]
+#[derive(Clone, Copy)]
 pub struct Stakes {
     pub count: usize,
     pub stakes: [usize; 8],
 }
 
 // 0 or a refusal; how many parts there are, 0 with a refusal; and the parts.
-#[derive(Drop)]
+#[derive(Clone, Copy)]
 pub struct Parts {
     pub refusal: u32,
     pub count: usize,

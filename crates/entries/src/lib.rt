@@ -33,14 +33,14 @@ const YES: u64 = 7955827;
 const NO: u64 = 28271;
 
 // What rows come to: the number that the first row at fault meets, 0 for none, and how many rows stand before it.
-#[derive(Drop)]
+#[derive(Clone, Copy)]
 pub struct Judged {
     pub fault: u32,
     pub rows: usize,
 }
 
 // A refusal's number, list and row, all 0 without one; then how many sites and zones there are.
-#[derive(Drop)]
+#[derive(Clone, Copy)]
 pub struct Verdict {
     pub refusal: u32,
     pub list: u32,

@@ -17,7 +17,7 @@ use recount::clause::{clause_names, rules_of};
 use rules::state::read_state_from;
 use words::index;
 
-#[derive(Drop)]
+#[derive(Clone, Copy)]
 pub struct Counts {
     pub breaks: Count,
     pub makes: Count,

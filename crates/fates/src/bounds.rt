@@ -56,7 +56,7 @@ fn written(met: bool, bound: i32) -> i32
 }
 
 // What is left of a rule: its mode, 0 where all values meet it and 4 where none do, and its bounds as they are written.
-#[derive(Drop)]
+#[derive(Clone, Copy)]
 pub struct Fate {
     pub mode: u8,
     pub lower: i32,

@@ -9,7 +9,7 @@ ghost use Rattle.fates.specs.Rest.{Rest, Reads, Begins, Ran};
 use crate::rule;
 
 // A clause's rules run through: whether one is met by all values, whether one is kept, and the place behind them.
-#[derive(Drop)]
+#[derive(Clone, Copy)]
 pub struct Run {
     pub met: bool,
     pub kept: bool,

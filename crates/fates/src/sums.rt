@@ -7,7 +7,7 @@ ghost use Rattle.fates.specs.Sums.{part_of, part_total, small_terms};
 
 use integers::{negative, plus, positive};
 
-#[derive(Drop)]
+#[derive(Clone, Copy)]
 pub enum Part {
     Given,
     Least,

@@ -10,7 +10,7 @@ use bodies::terms::{bounds_lawful, terms_lawful};
 
 // What may stand next: "Order: 01, 02, then clauses, each 03 followed by one or more 04, then 05 as the last bytes."
 // "an optional field, tag 06, between objective and first clause"
-#[derive(Drop)]
+#[derive(Clone, Copy)]
 pub enum Stage {
     Count,
     Objective,
@@ -21,7 +21,7 @@ pub enum Stage {
 }
 
 // Where reading is, and how much has been read.
-#[derive(Drop)]
+#[derive(Clone, Copy)]
 pub struct State {
     pub at: usize,
     pub stage: Stage,

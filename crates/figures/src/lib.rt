@@ -5,7 +5,7 @@ ghost use Rattle.figures.specs.Figures.{AtMost, mean_cost, given_out, figures_by
 use fractions::{Fraction, SignedFraction, reduce, reduce_signed};
 
 // The runs with a find, the flips of all runs, and what those with a find cost.
-#[derive(Drop)]
+#[derive(Clone, Copy)]
 pub struct Sums {
     pub found: u64,
     pub flips: u64,
@@ -15,7 +15,7 @@ pub struct Sums {
 // What is reported: three fractions in lowest terms. found is 0 where no run has a find: then the mean cost is absent, 0 over 0. With a refusal all
 // else is 0.
 #[repr(C)]
-#[derive(Drop)]
+#[derive(Clone, Copy)]
 pub struct Figures {
     pub refusal: u32,
     pub found: u32,

@@ -7,7 +7,7 @@ ghost use Rattle.folder.specs.Files.{may_measure, if_long, walk_fault, judged, r
 use settings::{Settings, settings_refusal};
 
 // The settings, or the refusal's number and offset.
-#[derive(Drop)]
+#[derive(Clone, Copy)]
 pub enum Walked {
     Settings(Settings),
     Refused(u32, usize),

@@ -15,7 +15,7 @@ use rules::state::read_state;
 use words::{index, word, zeros};
 
 // What stands for a rule: another P than its own, or its own; then 1 if the rule holds and 0 if it does not.
-#[derive(Drop)]
+#[derive(Clone, Copy)]
 pub enum Found {
     Other,
     Same(u32),

@@ -8,14 +8,14 @@ ghost use Rattle.judge.specs.Fields.{head_fault, taken_at, field_at};
 use faults::{Stage, State, body_fault};
 
 // A field's tag, where its body begins, and the next place.
-#[derive(Drop)]
+#[derive(Clone, Copy)]
 pub struct Taken {
     pub tag: u8,
     pub body: usize,
     pub next: usize,
 }
 
-#[derive(Drop)]
+#[derive(Clone, Copy)]
 pub enum Field {
     Taken(Taken),
     Fault(u32),

@@ -13,7 +13,7 @@ use verdict::Answer;
 mod field;
 
 // One field read: the state behind it, or what reading comes to.
-#[derive(Drop)]
+#[derive(Clone, Copy)]
 pub enum Step {
     Go(State),
     Stop(Answer),

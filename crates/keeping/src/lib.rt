@@ -30,7 +30,7 @@ fn was_true(w: u32, value: bool) -> bool
 }
 
 // Whether a rule held before, and whether it holds.
-#[derive(Drop)]
+#[derive(Clone, Copy)]
 struct Change {
     held: bool,
     holds: bool,

@@ -15,7 +15,7 @@ use spoiling::break_of;
 use words::{index, narrow, write_word};
 
 // The least count so far, and how many have it.
-#[derive(Drop)]
+#[derive(Clone, Copy)]
 pub struct Best {
     pub least: u64,
     pub count: usize,

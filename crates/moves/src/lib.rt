@@ -16,7 +16,7 @@ use stamps::stamp;
 use words::index;
 
 // A flip was made, or the clause has no variable to choose, or too few numbers were left; and how many are used after it.
-#[derive(Drop)]
+#[derive(Clone, Copy)]
 pub enum Moved {
     Made(usize),
     Stuck(usize),

@@ -15,7 +15,7 @@ use columns::{LOWER_SIZES, NEEDS, NEVER, TOTALS, UPPER_SIZES};
 use words::{index, word, write_word};
 
 // A rule by what is kept of it: N and P, and the words of A and B.
-#[derive(Drop)]
+#[derive(Clone, Copy)]
 pub struct KeptRule {
     pub n: u32,
     pub p: u32,

@@ -8,14 +8,14 @@ ghost use Rattle.numbers.specs.Taking.{taken_of, Starts};
 ghost use Rattle.numbers.specs.Finding.{zero_words};
 
 // A pick's place and how many numbers are used after it; or how many are used where too few are left.
-#[derive(Drop)]
+#[derive(Clone, Copy)]
 pub enum Picked {
     At(usize, usize),
     Short(usize),
 }
 
 // How many numbers are used after a try's start; or where too few are left for one.
-#[derive(Drop)]
+#[derive(Clone, Copy)]
 pub enum Started {
     Taken(usize),
     Short(usize),

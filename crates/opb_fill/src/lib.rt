@@ -85,7 +85,7 @@ fn put_rule(s: &[u8], at: usize, first: usize, out: &mut [u8]) -> usize
     sum.count
 }
 
-#[derive(Drop)]
+#[derive(Clone, Copy)]
 pub struct Counted {
     pub rules: usize,
     pub terms: usize,

@@ -14,7 +14,7 @@ use tokens::{byte, line_end, past_blanks, past_word};
 use verdict::Answer;
 
 // What the lines passed have: whether an objective may still stand, how many constraints there are, and how many terms these have.
-#[derive(Drop)]
+#[derive(Clone, Copy)]
 pub struct Passed {
     pub free: bool,
     pub constraints: usize,
@@ -22,7 +22,7 @@ pub struct Passed {
 }
 
 // One line read: what is passed behind it, or its refusal's number.
-#[derive(Drop)]
+#[derive(Clone, Copy)]
 pub enum Step {
     Go(Passed),
     Stop(u32),

@@ -5,7 +5,7 @@ ghost use Rattle.opb_lines.specs.Lines.{NamedAt, FirstOf, next_line};
 use tokens::{byte, line_end, past_blanks, past_word, read_number};
 
 // A number behind its name.
-#[derive(Drop)]
+#[derive(Clone, Copy)]
 pub struct Named {
     pub ok: bool,
     pub value: u32,
@@ -27,7 +27,7 @@ fn named_at(s: &[u8], at: usize, name: &[u8]) -> Named
 }
 
 // "a first line `* #variable= n #constraint= m`"
-#[derive(Drop)]
+#[derive(Clone, Copy)]
 pub struct First {
     pub formed: bool,
     pub variables: u32,

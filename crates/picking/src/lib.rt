@@ -11,7 +11,7 @@ use numbers::{Picked, pick};
 use words::word;
 
 // The variable, and how many numbers are used after the choice; or how many are used where too few are left for it.
-#[derive(Drop)]
+#[derive(Clone, Copy)]
 pub enum Chosen {
     At(u32, usize),
     Short(usize),

@@ -16,7 +16,7 @@ use counting::shares::{Shares, literal_absent, literal_false, literal_true};
 use counting::tightening::third;
 
 #[repr(C)]
-#[derive(Drop)]
+#[derive(Clone, Copy)]
 pub struct Three {
     pub e: Marked,
     pub f: Marked,

@@ -12,7 +12,7 @@ use counting::tightening::{lbs_bound, linear_bound};
 use words::{copy, index};
 
 // How far a search has come after a find: what it costs, and how many finds and flips were made and numbers used.
-#[derive(Drop)]
+#[derive(Clone, Copy)]
 pub struct Progress {
     pub cost: i64,
     pub finds: usize,
@@ -21,7 +21,7 @@ pub struct Progress {
 }
 
 // What one call with the added clause comes to: a find or none, and how far the search has come.
-#[derive(Drop)]
+#[derive(Clone, Copy)]
 pub enum Called {
     Found(Progress),
     Failed(Progress),
@@ -29,7 +29,7 @@ pub enum Called {
 }
 
 // How a search ends.
-#[derive(Drop)]
+#[derive(Clone, Copy)]
 pub enum Ending {
     Floor,
     Ended,
@@ -38,7 +38,7 @@ pub enum Ending {
     ShortNone,
 }
 
-#[derive(Drop)]
+#[derive(Clone, Copy)]
 pub struct Searched {
     pub ending: Ending,
     pub progress: Progress,

@@ -9,7 +9,7 @@ use division::{Parts, Stakes, divide};
 
 // A race's stake, which the caller sets, and its part of the list, which is written: the first place, from 0, and the length.
 #[repr(C)]
-#[derive(Drop)]
+#[derive(Clone, Copy)]
 pub struct Race {
     pub stake: usize,
     pub first: usize,

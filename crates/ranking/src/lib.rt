@@ -19,7 +19,7 @@ use stamps::last_flip;
 use words::{index, widen, word};
 
 // A variable as it is ranked: make minus break, above the least that this can be; the number of its last flip; its number.
-#[derive(Drop)]
+#[derive(Clone, Copy)]
 pub struct Standing {
     pub score: u64,
     pub last: u32,
@@ -27,7 +27,7 @@ pub struct Standing {
 }
 
 // The first two of some ranked variables, how many of the two there are, and the number of the last flip among all of them.
-#[derive(Drop)]
+#[derive(Clone, Copy)]
 pub struct Top {
     pub count: u32,
     pub first: Standing,

@@ -10,7 +10,7 @@ use rules::state::names;
 use words::index;
 
 // The first of a clause's rules, and where they end.
-#[derive(Drop)]
+#[derive(Clone, Copy)]
 pub struct Run {
     pub first: usize,
     pub end: usize,

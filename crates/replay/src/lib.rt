@@ -18,7 +18,7 @@ use words::{read_u32, write_u32};
 const ANSWER: usize = 24;
 
 // What a call answers; what calls of its kind do not give is 0.
-#[derive(Drop)]
+#[derive(Clone, Copy)]
 struct Answered {
     refusal: u32,
     rules: u32,

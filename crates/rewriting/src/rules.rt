@@ -50,7 +50,7 @@ fn keep_rule(file: &mut [u8], at: usize, map: &[u8], to: usize) -> usize
 }
 
 // Where reading and writing are.
-#[derive(Drop)]
+#[derive(Clone, Copy)]
 pub struct Places {
     pub at: usize,
     pub to: usize,

@@ -10,7 +10,7 @@ use cells::field::{last, lead};
 use cells::value::{Value, empty, same};
 
 // A row's fields and where the next row begins; the fourth is empty in a row of three. A malformed row takes the rest of the list.
-#[derive(Drop)]
+#[derive(Clone, Copy)]
 pub struct Row {
     pub ok: bool,
     pub first: Value,

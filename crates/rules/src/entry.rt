@@ -5,7 +5,7 @@ ghost use Rattle.rules.specs.Rules.{EntryAt};
 
 use words::{index, to_signed, word};
 
-#[derive(Drop)]
+#[derive(Clone, Copy)]
 pub struct Entry {
     pub first: usize,
     pub count: usize,

@@ -7,7 +7,7 @@ ghost use Rattle.rules.specs.Places.{place_of, PlaceReadable, Found, standing_in
 use crate::term::read_literal;
 use words::word;
 
-#[derive(Drop)]
+#[derive(Clone, Copy)]
 pub enum Place {
     Nowhere,
     At(usize),
@@ -49,7 +49,7 @@ pub fn find(terms: &[u8], first: usize, count: usize, x: u32) -> Place
 }
 
 // How a variable stands in a rule: not at all, or with this weight, its literal true or false.
-#[derive(Drop)]
+#[derive(Clone, Copy)]
 pub enum Stands {
     Out,
     On(u32),

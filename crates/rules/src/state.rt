@@ -18,7 +18,7 @@ use counting::bound::Bound;
 use counting::shares::{Shares, literal_absent, literal_false, literal_true};
 
 // N, P, how the variable stands, and the sizes A and B.
-#[derive(Drop)]
+#[derive(Clone, Copy)]
 pub struct State {
     pub n: u32,
     pub p: u32,

@@ -9,7 +9,7 @@ ghost use Rattle.rules.specs.Sums.{Summed, Room, Added, AddedTerm};
 use crate::term::{Literal, read_literal};
 
 // K, what the bounds rise by, and P.
-#[derive(Drop)]
+#[derive(Clone, Copy)]
 pub struct Sums {
     pub k: u32,
     pub rise: u32,

@@ -8,7 +8,7 @@ ghost use Rattle.rules.specs.Terms.{bits_in, term_in, LiteralOf, TermReadable};
 
 use words::{magnitude, to_signed, word};
 
-#[derive(Drop)]
+#[derive(Clone, Copy)]
 pub struct Term {
     pub variable: u32,
     pub weight: i32,
@@ -53,7 +53,7 @@ fn truth_of(negated: bool, value: bool) -> bool
 }
 
 // A term's literal: its positive weight, whether it is negated, and whether it is true.
-#[derive(Drop)]
+#[derive(Clone, Copy)]
 pub struct Literal {
     pub size: u32,
     pub negated: bool,

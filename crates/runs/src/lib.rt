@@ -10,7 +10,7 @@ use walk::search_core;
 use xorwow::{Xorwow, fill};
 
 // How far runs have come: the generator's state and the sums.
-#[derive(Drop)]
+#[derive(Clone, Copy)]
 pub struct Ran {
     pub state: Xorwow,
     pub sums: Sums,

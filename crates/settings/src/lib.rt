@@ -3,7 +3,7 @@ ghost use Rattle.std.specs.Prelude.{◌≡◌};
 ghost use Rattle.settings.specs.Settings.{choice_refusal, settings_refusal};
 
 // Noise in thousandths, the tries of a call, the flips of a try, 0 for linear or 1 for LBS, 0 for SKC or 1 for Novelty+, and its walk chance in thousandths.
-#[derive(Drop)]
+#[derive(Clone, Copy)]
 pub struct Settings {
     pub noise: u32,
     pub tries: u32,

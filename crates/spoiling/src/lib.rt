@@ -84,7 +84,7 @@ fn cut_at_last(
 }
 
 // What a group counts, and where it ends.
-#[derive(Drop)]
+#[derive(Clone, Copy)]
 pub struct Step {
     pub count: Count,
     pub next: usize,

@@ -23,7 +23,7 @@ pub const LIST: usize = 4 * format::MAX_VARIABLES;
 
 // A refusal's number and offset, or the new length and "the objective's constant".
 #[repr(C)]
-#[derive(Drop)]
+#[derive(Clone, Copy)]
 pub struct Squeezed {
     pub refusal: u32,
     pub offset: usize,

@@ -8,7 +8,7 @@ use bodies::terms::term_fits;
 use tokens::{byte, past_blanks, past_word, read_number};
 
 // integer ::= unsigned_integer | "+" unsigned_integer | "-" unsigned_integer
-#[derive(Drop)]
+#[derive(Clone, Copy)]
 pub struct Integer {
     pub ok: bool,
     pub negative: bool,
@@ -47,7 +47,7 @@ pub fn integer_at(s: &[u8], at: usize) -> Integer
 }
 
 // weightedterm ::= integer oneOrMoreSpace "x" unsigned_integer oneOrMoreSpace
-#[derive(Drop)]
+#[derive(Clone, Copy)]
 pub struct Weighted {
     pub ok: bool,
     pub negative: bool,
@@ -79,7 +79,7 @@ pub fn term_at(s: &[u8], at: usize) -> Weighted
 }
 
 // sum ::= weightedterm | weightedterm sum, judged by the way: how many terms there are, whether a variable is above n, whether the terms are lawful.
-#[derive(Drop)]
+#[derive(Clone, Copy)]
 pub struct Sum {
     pub count: usize,
     pub above: bool,
@@ -123,7 +123,7 @@ pub fn sum_at(s: &[u8], from: usize, n: u32) -> Sum
 }
 
 // relational_operator zeroOrMoreSpace integer zeroOrMoreSpace
-#[derive(Drop)]
+#[derive(Clone, Copy)]
 pub struct Relation {
     pub ok: bool,
     pub exact: bool,

@@ -73,7 +73,7 @@ pub fn terms_of(file: &[u8], at: usize) -> usize
 }
 
 // A clause's rules: how many, and the place behind them.
-#[derive(Drop)]
+#[derive(Clone, Copy)]
 pub struct Run {
     pub rules: usize,
     pub next: usize,

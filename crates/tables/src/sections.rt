@@ -109,7 +109,7 @@ pub fn clause_section(file: &[u8], out: &mut [u8]) -> usize
     clauses
 }
 
-#[derive(Drop)]
+#[derive(Clone, Copy)]
 pub struct Counted {
     pub rules: usize,
     pub terms: usize,

@@ -6,7 +6,7 @@ use libc::STDOUT_FILENO;
 use respond::respond;
 
 // What was read of a file: how many bytes, and whether more follow.
-#[derive(Drop)]
+#[derive(Clone, Copy)]
 struct Contents {
     length: usize,
     more: bool,

@@ -1,4 +1,6 @@
 // The items of an OPB text, found by a cursor that is a place: each function answers the place behind what it passed.
+#![tactic(auto)]
+
 ghost use Rattle.std.specs.Prelude.{◌≡◌, ◌+◌, ◌*◌, ◌-◌, ◌≤◌, length, get_or};
 ghost use Rattle.tokens.specs.Tokens.{run_end, is_blank, is_digit, is_inside, number_at, word_end, most, seen};
 
@@ -74,7 +76,7 @@ fn with_digit(value: u32, digit: u8) -> u32
 }
 
 // What is seen of a number, and the place behind its digits.
-#[derive(Drop)]
+#[derive(Clone, Copy)]
 pub struct Number {
     pub value: u32,
     pub next: usize,

@@ -18,7 +18,7 @@ use stamps::clear_stamps;
 use words::{index, word};
 
 // What a try or a call comes to, with how many numbers are used and flips made after it.
-#[derive(Drop)]
+#[derive(Clone, Copy)]
 pub enum Tried {
     Reached(usize, usize),
     Failed(usize, usize),

@@ -6,7 +6,7 @@ use opbtext::put_text;
 
 // A refusal's number, or 0; and the text's length, with 33 too. With 21 and 22 the length is 0.
 #[repr(C)]
-#[derive(Drop)]
+#[derive(Clone, Copy)]
 pub struct Written {
     pub refusal: u32,
     pub length: usize,

@@ -7,7 +7,7 @@ ghost use Rattle.words.specs.Writes.{front};
 ghost use Rattle.xorwow.specs.Xorwow.{mixed, newest, step, stream, after};
 
 // The five words of the register, the oldest first, and the counter.
-#[derive(Drop)]
+#[derive(Clone, Copy)]
 pub struct Xorwow {
     pub x: u32,
     pub y: u32,
