@@ -1,0 +1,13 @@
+-- `tokens::line_end` meets its contract. The invariant: the bytes passed end where those from the present place on do. The measure is what is left of the text.
+-- Assumes nothing.
+use Prim.Native.Nat.{◌-◌, ◌≤◌}
+use mathlib.Core.Path.{◌≡◌}
+use lib.ListN.{length}
+use Rattle.tokens.specs.Tokens.{run_end, is_inside}
+use Rattle.tokens.proofs.line_end.Given as goal
+
+abbrev pub invariant-loop-at : goal.invariant-loop-at
+invariant-loop-at l = (l.at ≤ length l.s) × (run_end is_inside l.s l.at ≡ run_end is_inside l.s l.from)
+
+abbrev pub decreases-loop-at : goal.decreases-loop-at
+decreases-loop-at l = length l.s - l.at

@@ -1,0 +1,52 @@
+-- The goals that the search leaves.
+use Prim.Native.Nat.{◌-◌}
+use native.Mathlib.Omega.{arith}
+use mathlib.Core.Path.{refl, sym, ap, ◌∙◌}
+use Rattle.tokens.specs.Tokens.{is_digit, number_at, seen}
+use Rattle.tokens.proofs.Runs.{run_end_lem, run_stop, run_go}
+use Rattle.tokens.proofs.Numbers.{digit_range, number_end, number_stop, number_go, seen_small, seen_most}
+use Rattle.tokens.proofs.read_number.Goals as goal
+
+pub loop-at-init : goal.loop-at-init
+unfolding number_at
+loop-at-init c = (c.requires, refl, omega arith, refl)
+
+pub returns-then-not-is_digit : goal.returns-then-not-is_digit
+returns-then-not-is_digit c =
+    let at = c.loop-at in
+    let in-text = c.loop-at-test.true in
+    let none = sym c.is_digit.ensures ∙ c.if-not-is_digit.true in (
+      sym (seen_small _ at.invariant.2) ∙ ap seen (number_stop _ _ _ in-text none) ∙ at.invariant.3,
+      run_stop is_digit _ _ in-text none ∙ at.invariant.1,
+      at.invariant.0,
+    )
+
+pub with_digit-value-requires : goal.with_digit-value-requires
+with_digit-value-requires c =
+    let (a, b) = digit_range _ (sym c.is_digit.ensures ∙ c.if-not-is_digit.false) in
+    (c.loop-at.invariant.2, a, b)
+
+pub loop-at-preserved : goal.loop-at-preserved
+loop-at-preserved c =
+    let at = c.loop-at in
+    let in-text = c.loop-at-test.true in
+    let some = sym c.is_digit.ensures ∙ c.if-not-is_digit.false in (
+      omega arith,
+      run_go is_digit _ _ in-text some ∙ at.invariant.1,
+      rw c.with_digit-value.ensures (seen_most _),
+      number_go _ _ _ in-text some c.with_digit-value.ensures ∙ at.invariant.3,
+    )
+
+pub returns : goal.returns
+returns c =
+    let at = c.loop-at in (
+      sym (seen_small _ at.invariant.2) ∙ ap seen (number_end _ _ _ c.loop-at-test.false) ∙ at.invariant.3,
+      run_end_lem is_digit _ _ c.loop-at-test.false ∙ at.invariant.1,
+      at.invariant.0,
+    )
+
+pub overflow_add-at : goal.overflow_add-at
+overflow_add-at c = omega arith
+
+pub loop-at-smaller : goal.loop-at-smaller
+loop-at-smaller c = omega arith
