@@ -1,4 +1,6 @@
 // What is added up over runs of the search, and the figures of the sums.
+#![tactic(auto)]
+
 ghost use Rattle.std.specs.Prelude.{◌≡◌, cond, ◌≤◌, ◌<◌, eqb, nat_abs};
 ghost use Rattle.figures.specs.Figures.{AtMost, mean_cost, given_out, figures_by, plus, refused_with};
 

@@ -1,5 +1,6 @@
 // The plan file, the tables and the plan that both stand for: definitions in specs/, theorems in proofs/. The code is the layout's numbers;
 // specs/Layout.antt has the same for contracts, and each crate that uses both ties the two.
+#![tactic(auto)]
 
 // How many of each a plan may have.
 pub const MAX_VARIABLES: usize = 512;

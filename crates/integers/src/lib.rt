@@ -1,4 +1,6 @@
 // Sums, differences and parts of small signed numbers.
+#![tactic(auto)]
+
 ghost use Rattle.std.specs.Prelude.{◌≡◌, ◌+◌, ◌<◌, nat_abs, ◌+ℤ◌, ◌-ℤ◌};
 ghost use Rattle.plpb.specs.Plan.{negative_part, positive_part};
 

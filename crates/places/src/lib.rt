@@ -1,5 +1,7 @@
 // A word of the order: the place of a term in the plan, with what is asked of it first, whether its clause has more than one rule and whether its
 // coefficient is negative. Quotients and remainders by powers of 2 are shifts and masks to the compiler.
+#![tactic(auto)]
+
 ghost use Rattle.std.specs.Prelude.{◌≡◌, cond, ◌≤◌, ◌<◌};
 ghost use Rattle.plpb.specs.Normal.{is_negative};
 ghost use Rattle.words.specs.Words.{signed};

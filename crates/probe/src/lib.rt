@@ -1,5 +1,7 @@
 // The counts as functions of numbers alone, for the tests and benchmarks that compare them with other programs. Nothing else links this crate.
 // Numbers that no lawful plan has are answered by 0.
+#![tactic(auto)]
+
 ghost use Rattle.std.specs.Prelude.{◌≡◌, ◌+◌, ◌<◌};
 ghost use Rattle.plpb.specs.Search.{third as thirdOf};
 ghost use Rattle.plpb.specs.Count.{given};

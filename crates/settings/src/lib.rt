@@ -1,4 +1,6 @@
 // What the planner sets, and the test of it.
+#![tactic(auto)]
+
 ghost use Rattle.std.specs.Prelude.{◌≡◌};
 ghost use Rattle.settings.specs.Settings.{choice_refusal, settings_refusal};
 

@@ -1,5 +1,7 @@
 // Bytes, texts and numbers put into a lent buffer from a place on, as far as it goes. Each function answers the place behind what it puts, whether or not
 // there is room: with an empty buffer it measures, and with one that is long enough it writes.
+#![tactic(auto)]
+
 ghost use Rattle.std.specs.Prelude.{◌≡◌, [], ◌∷◌, nat_abs};
 ghost use Rattle.texts.specs.Texts.{decimal, signed_decimal};
 ghost use Rattle.opb.specs.Spell.{coefficient};

@@ -1,4 +1,6 @@
 // What is said of a plan file, and the same in numbers.
+#![tactic(auto)]
+
 ghost use Rattle.std.specs.Prelude.{◌≡◌};
 ghost use Rattle.verdict.specs.Answers.{refusal_of, offset_of};
 

@@ -1,0 +1,21 @@
+-- `mean_cost` meets its contract: with a find there is a denominator.
+-- Assumes nothing.
+use native.Mathlib.Omega.{arith}
+use mathlib.Core.Path.{ap, ◌∙◌}
+use mir.Facts.{to_z-of_z}
+use Rattle.counting.proofs.Signed.{small_fits}
+use Rattle.fractions.specs.Fractions.{reduced_z}
+use Rattle.figures.proofs.Means.{mean_absent, mean_there}
+use Rattle.figures.proofs.mean_cost.Goals as goal
+
+pub returns-then-s-eq0 : goal.returns-then-s-eq0
+returns-then-s-eq0 c = mean_absent c.args.s c.if-s-eq0.true
+
+pub reduce_signed-requires : goal.reduce_signed-requires
+reduce_signed-requires c = (omega arith, omega (arith, c.requires.found))
+
+pub returns : goal.returns
+returns c =
+    let s = c.args.s in
+    let small = small_fits s.cost (omega (arith, c.requires.cost)) in
+    mean_there s c.if-s-eq0.false (c.reduce_signed.ensures ∙ ap (λ z. reduced_z z s.found) (to_z-of_z small))

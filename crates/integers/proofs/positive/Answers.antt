@@ -1,0 +1,12 @@
+-- `integers::positive` meets its contract, by the two signs.
+-- Assumes nothing.
+use mathlib.Core.Path.{◌∙◌}
+use mir.Facts.{to_z-of_z}
+use Rattle.integers.proofs.Sizes.{positive_taken, positive_left}
+use Rattle.integers.proofs.positive.Goals as goal
+
+pub returns-then-weight-lt0 : goal.returns-then-weight-lt0
+returns-then-weight-lt0 c = positive_taken _ (rw (to_z-of_z c.ranges.weight) at c.if-weight-lt0.true)
+
+pub returns-else-weight-lt0 : goal.returns-else-weight-lt0
+returns-else-weight-lt0 c = let e = to_z-of_z c.ranges.weight in e ∙ positive_left _ (rw e at c.if-weight-lt0.false)

@@ -1,0 +1,10 @@
+-- `lifted_count` meets its contract: the mark tells.
+-- Assumes nothing.
+use Rattle.probe.proofs.Answering.{in_uncut, in_cut}
+use Rattle.probe.proofs.lifted_count.Goals as goal
+
+pub returns-then-m-eq0 : goal.returns-then-m-eq0
+returns-then-m-eq0 c = in_uncut _ c.if-m-eq0.true
+
+pub returns : goal.returns
+returns c = in_cut _ c.if-m-eq0.false

@@ -1,0 +1,17 @@
+-- `probe_binomial` meets its contract, by the test of m.
+-- Assumes nothing.
+use native.Mathlib.Omega.{arith}
+use mathlib.Core.Path.{◌∙◌}
+use Rattle.counting.proofs.Marks.{words_uncut}
+use Rattle.probe.specs.Answers.{binomial_answer}
+use Rattle.probe.proofs.Answering.{is_word_lem, no_word, given_by}
+use Rattle.probe.proofs.probe_binomial.Goals as goal
+
+pub returns-then-m-gt4294967295 : goal.returns-then-m-gt4294967295
+unfolding binomial_answer
+returns-then-m-gt4294967295 c = rw (no_word _ c.if-m-gt4294967295.true) (words_uncut 0 (omega arith))
+
+pub returns : goal.returns
+unfolding binomial_answer
+returns c =
+    rw (is_word_lem c.args.m (omega (arith, c.if-m-gt4294967295.false))) (c.marked.ensures ∙ given_by _ c.binomial.ensures)

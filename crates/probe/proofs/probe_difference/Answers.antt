@@ -1,0 +1,19 @@
+-- `probe_difference` meets its contract, by the test of m + w.
+-- Assumes nothing.
+use Prim.Native.Nat.{◌+◌}
+use native.Mathlib.Omega.{arith}
+use mathlib.Core.Path.{◌∙◌}
+use Rattle.counting.proofs.Marks.{words_uncut}
+use Rattle.probe.specs.Answers.{difference_answer}
+use Rattle.probe.proofs.Answering.{is_word_lem, no_word, given_by}
+use Rattle.probe.proofs.probe_difference.Goals as goal
+
+pub returns-then-low-more-gt4294967295 : goal.returns-then-low-more-gt4294967295
+unfolding difference_answer
+returns-then-low-more-gt4294967295 c = rw (no_word _ c.if-low-more-gt4294967295.true) (words_uncut 0 (omega arith))
+
+pub returns : goal.returns
+unfolding difference_answer
+returns c =
+    let at = c.args in
+    rw (is_word_lem (at.m + at.w) (omega (arith, c.if-low-more-gt4294967295.false))) (c.marked.ensures ∙ given_by _ c.difference.ensures)

@@ -1,0 +1,8 @@
+-- `probe_joined` meets its contract: both are lifted, joined and laid flat again.
+-- Assumes nothing.
+use mathlib.Core.Path.{◌∙◌}
+use Rattle.probe.proofs.Answering.{shared}
+use Rattle.probe.proofs.probe_joined.Goals as goal
+
+pub returns : goal.returns
+returns c = rw (← c.lifted.ensures, ← c.lifted-2.ensures) (c.flat.ensures ∙ shared _ c.joined.ensures)

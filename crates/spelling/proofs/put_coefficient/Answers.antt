@@ -1,0 +1,36 @@
+-- `spelling::put_coefficient` meets its contract: the sign, and the digits behind it.
+-- Assumes nothing.
+use Prim.Native.Nat.{ℕ}
+use mathlib.Core.Path.{◌≡◌, sym, ap, ◌∙◌}
+use mathlib.Core.List.{List, [], ◌∷◌}
+use lib.IntN.{nat_abs}
+use mir.Facts.{to_z-of_z}
+use Rattle.texts.specs.Texts.{decimal}
+use Rattle.opb.specs.Spell.{coefficient}
+use Rattle.spelling.proofs.Puts.{puts_then, puts_same, room_same, room_first, room_rest}
+use Rattle.spelling.proofs.put_coefficient.Goals.{After-magnitude, After-sign}
+use Rattle.spelling.proofs.put_coefficient.Goals as goal
+
+-- The two parts.
+module _ (c : After-sign) where
+  parts : c.sign.result ∷ decimal (nat_abs c.args.v) ≡ coefficient c.args.v
+  parts = rw (to_z-of_z c.ranges.v) at c.sign.ensures
+
+pub put_byte-next-requires : goal.put_byte-next-requires
+put_byte-next-requires c =
+    room_first c.args.at (c.sign.result ∷ []) (decimal (nat_abs c.args.v)) (room_same c.args.at (sym (parts c)) c.requires)
+
+module _ (c : After-magnitude) where
+  size_is : decimal (nat_abs c.args.v) ≡ decimal c.magnitude.result
+  size_is = ap decimal (sym (c.magnitude.ensures ∙ ap nat_abs (to_z-of_z c.ranges.v)))
+
+pub put_decimal-requires : goal.put_decimal-requires
+put_decimal-requires c =
+    room_same c.put_byte-next.result (size_is c)
+    (room_rest c.args.at (c.sign.result ∷ []) (decimal (nat_abs c.args.v)) c.put_byte-next.ensures.place
+    (room_same c.args.at (sym (parts c.before.before.before.before.before)) c.requires))
+
+pub returns : goal.returns
+returns c =
+    puts_same (ap (λ (l : List ℕ). c.sign.result ∷ l) (sym (size_is c.before.before.before)) ∙ parts c.before.before.before.before.before.before.before.before)
+    (puts_then c.put_byte-next.ensures c.put_decimal.ensures)
