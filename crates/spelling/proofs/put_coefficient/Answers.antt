@@ -32,5 +32,5 @@ put_decimal-requires c =
 
 pub returns : goal.returns
 returns c =
-    puts_same (ap (λ (l : List ℕ). c.sign.result ∷ l) (sym (size_is c.before.before.before)) ∙ parts c.before.before.before.before.before.before.before.before)
+    puts_same (ap (λ (l : List ℕ). c.sign.result ∷ l) (sym (size_is c.before.before.before.before)) ∙ parts c.before.before.before.before.before.before.before.before.before)
     (puts_then c.put_byte-next.ensures c.put_decimal.ensures)

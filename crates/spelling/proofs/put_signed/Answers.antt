@@ -20,7 +20,7 @@ put_coefficient-requires c =
 
 pub returns-then-v-lt0 : goal.returns-then-v-lt0
 returns-then-v-lt0 c =
-    puts_same (ap coefficient (to_z-of_z c.ranges.v) ∙ negative_is c.before.before.before) c.put_coefficient.ensures
+    puts_same (ap coefficient (to_z-of_z c.ranges.v) ∙ negative_is c.before.before.before.before) c.put_coefficient.ensures
 
 module _ (c : After-magnitude) where
   natural_is : decimal c.magnitude.result ≡ signed_decimal c.args.v
@@ -32,4 +32,4 @@ pub put_decimal-requires : goal.put_decimal-requires
 put_decimal-requires c = room_same c.args.at (sym (natural_is c)) c.requires
 
 pub returns : goal.returns
-returns c = puts_same (natural_is c.before.before.before) c.put_decimal.ensures
+returns c = puts_same (natural_is c.before.before.before.before) c.put_decimal.ensures
