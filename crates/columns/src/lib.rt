@@ -1,4 +1,5 @@
 // What the walk keeps beside the tallies and the marks: definitions in specs/. The code is the layout's numbers; specs/Layout.antt has the same for contracts.
+#![tactic(auto)]
 
 // Behind the tallies: K, A and B of each rule, and what its two sides need. Side 2 * r is that of the false literals of rule r, 2 * r + 1 that of the true.
 pub const TOTALS: usize = format::UNSATISFIED + 1; // rule r has K at TOTALS + 3 * r

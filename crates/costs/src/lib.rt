@@ -1,4 +1,6 @@
 // What an assignment costs, and l(O), from the coefficients in the table: one pass over the variables.
+#![tactic(auto)]
+
 ghost use Rattle.std.specs.Prelude.{◌≡◌, ◌+◌, ◌*◌, ◌≤◌, ◌<◌, cond, eqb, pos, length};
 ghost use Rattle.plpb.specs.Plan.{negative_part};
 ghost use Rattle.words.specs.Words.{word_at};

@@ -1,5 +1,7 @@
 // What a flip does at one place of the variable's run, told by the walk's columns in constant time: no term of the rule is read. The terms' table is lent to
 // be spoken of alone.
+#![tactic(auto)]
+
 ghost use Rattle.std.specs.Prelude.{◌≡◌, cond, ◌+◌, ◌*◌, ◌≤◌, ◌<◌, length};
 ghost use Rattle.plpb.specs.Plan.{rule_holds};
 ghost use Rattle.plpb.specs.Normal.{literal, literal_true};

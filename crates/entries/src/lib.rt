@@ -1,4 +1,6 @@
 // The mapper's two lists judged: "Turned away, with list and row from 1".
+#![tactic(auto)]
+
 ghost use Rattle.std.specs.Prelude.{◌≡◌, true, false, not, eqb, List, ℕ, length};
 ghost use Rattle.plpb.specs.Lists.{◌and◌, ◌or◌};
 ghost use Rattle.cells.specs.Values.{gather, same_value};

@@ -1,4 +1,6 @@
 // The least and the greatest sum of a rule's terms.
+#![tactic(auto)]
+
 ghost use Rattle.std.specs.Prelude.{◌≡◌, ◌≤◌, nat_abs};
 ghost use Rattle.words.specs.Words.{word_at};
 ghost use Rattle.extremes.specs.Terms.{terms_in, TermsFit, part_of, extreme_of, max_total};

@@ -1,4 +1,6 @@
 // What is at fault in the body of a field whose head has nothing wrong.
+#![tactic(auto)]
+
 ghost use Rattle.std.specs.Prelude.{◌≡◌, not, ◌+◌, leb, ltb};
 ghost use Rattle.plpb.specs.Lists.{◌and◌, ◌or◌};
 ghost use Rattle.format.specs.Limits.{terms_lawful};

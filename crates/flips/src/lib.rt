@@ -1,5 +1,7 @@
 // Flip without its checks: one assignment byte is turned over, and the tallies follow along the variable's run in the order of the tables. Only P of the
 // rules that name the variable, the counts of their clauses and the total are written.
+#![tactic(auto)]
+
 ghost use Rattle.std.specs.Prelude.{◌≡◌, cond, ◌+◌, ◌-◌, ◌≤◌, ◌<◌, length};
 ghost use Rattle.plpb.specs.Lists.{◌and◌};
 ghost use Rattle.plpb.specs.Normal.{below_size};

@@ -1,4 +1,6 @@
 // A whole plan file judged, field by field: "The first field at fault decides."
+#![tactic(auto)]
+
 ghost use Rattle.std.specs.Prelude.{◌≡◌, cond, ◌+◌, ◌-◌, ◌≤◌, ◌<◌, eqb, length};
 ghost use Rattle.words.specs.Words.{num_at};
 ghost use Rattle.format.specs.File.{stage_after, terms_in, fault, next, read};

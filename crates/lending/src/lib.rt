@@ -1,4 +1,6 @@
 // What a search tests of what it is lent and set, in the order of document 01: 21, 22, 11, 12, 13, 14; and how it clears what it worked in.
+#![tactic(auto)]
+
 ghost use Rattle.std.specs.Prelude.{◌≡◌, ◌++◌, ◌≤◌, length, drop, replicate};
 ghost use Rattle.format.specs.Layout.{table_size, term_size};
 ghost use Rattle.columns.specs.Layout.{column_size, kept_size};

@@ -1,5 +1,7 @@
 // The variables that may be chosen of each clause, as lists: so a move looks at no term to know them. They are made along the order, variable after
 // variable, which is linear in the terms.
+#![tactic(auto)]
+
 ghost use Rattle.std.specs.Prelude.{◌≡◌, ◌+◌, ◌*◌, ◌-◌, ◌≤◌, ◌<◌, false, ltb, eqb, length};
 ghost use Rattle.plpb.specs.Lists.{◌and◌};
 ghost use Rattle.plpb.specs.Plan.{is_locked};

@@ -1,6 +1,8 @@
 // The test of tables: refusal 22 is for "tables that no accepted loading leaves". One pass over both tables, each loop one piece of the
 // definition `goodBy`; the order has its own (crate ordered). Good tables are the rule and are read whole in any case, so a loop that only compares words does not stop at the
 // first fault: without a way out it takes 16 bytes at a time.
+#![tactic(auto)]
+
 ghost use Rattle.std.specs.Prelude.{◌≡◌, ◌+◌, ◌*◌, ◌-◌, ◌≤◌, leb, ltb, eqb, nat_abs, length};
 ghost use Rattle.plpb.specs.Lists.{◌and◌};
 ghost use Rattle.words.specs.Words.{word_at, signed};

@@ -1,5 +1,7 @@
 // What a rule's two sides need: how much weight has to come to its false literals, or to its true ones, before a part is false that a bound asks for. A flip
 // spoils a part where the weight it brings is not below the need, so one comparison tells it.
+#![tactic(auto)]
+
 ghost use Rattle.std.specs.Prelude.{◌≡◌, ◌+◌, ◌≤◌, ◌<◌, length};
 ghost use Rattle.words.specs.Words.{word_at};
 ghost use Rattle.format.specs.Layout.{rule_room};

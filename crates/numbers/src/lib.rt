@@ -1,4 +1,6 @@
 // Numbers taken from the lent list as the walk asks for them, and the k-th of the words that are 0, which a pick points at.
+#![tactic(auto)]
+
 ghost use Rattle.std.specs.Prelude.{◌≡◌, cond, ◌++◌, ◌+◌, ◌*◌, ◌/◌, ◌%◌, ◌≤◌, ◌<◌, eqb, length, get_or, take, drop};
 ghost use Rattle.plpb.specs.Numbers.{take_words, range, take_pick, start_words, start_of, bit};
 ghost use Rattle.words.specs.Words.{word_at};

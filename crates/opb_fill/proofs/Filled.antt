@@ -30,7 +30,7 @@ use Rattle.tables.proofs.Filled.{words_lent, rest_lent}
 use Rattle.tables.proofs.Dense.{dense, lawful_range}
 use Rattle.tokens.specs.Tokens.{number_at, seen, is_digit, digits_end, blanks_end, word_end}
 use Rattle.tokens.proofs.Numbers.{seen_small}
-use Rattle.tokens.proofs.Runs.{run_end}
+use Rattle.tokens.proofs.Runs.{run_end_lem}
 use Rattle.statements.specs.declared.Relation.{Relation}
 use Rattle.statements.specs.Parts.{RelationAt}
 use Rattle.statements.specs.Grammar.{min_word, unsigned_from, integer_end, is_integer, is_term, with_sign, integer_at, is_comment, is_objective, is_constraint, sum_from, sum_at, sum_end, terms_from, is_exact, bound_from, bound_at, rule_at}
@@ -486,7 +486,7 @@ no_term_lem : (s : List ℕ) (at : ℕ) → at ≡ length s → is_term s at ≡
 unfolding is_term is_integer integer_end ◌and◌
 no_term_lem s at h =
     let a = sign_none s at h in
-    let b : digits_end s (unsigned_from s at) ≡ unsigned_from s at = sym (run_end is_digit s (unsigned_from s at) (omega (arith, a, h))) in
+    let b : digits_end s (unsigned_from s at) ≡ unsigned_from s at = sym (run_end_lem is_digit s (unsigned_from s at) (omega (arith, a, h))) in
     rw (b, le-ltb (unsigned_from s at) (unsigned_from s at) (omega arith))
 
 module _ (s : List ℕ) (at : ℕ) where

@@ -1,5 +1,7 @@
 // The test of the order in tables whose base is good: one pass over its words, without memory of its own. Each run is of rising rules and of terms that name
 // its variable, and the runs together are as many as the terms; so none of them lacks a term (format/proofs/GoodOrder.antt).
+#![tactic(auto)]
+
 ghost use Rattle.std.specs.Prelude.{◌≡◌, true, ◌-◌, ◌≤◌, ◌<◌};
 ghost use Rattle.words.specs.Words.{word_at};
 ghost use Rattle.format.specs.Good.{every_from, place_good, word_good, entry_good, entries_from, run_good, order_good};

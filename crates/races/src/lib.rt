@@ -1,5 +1,7 @@
 // The races of a festival in the lent list, as records of stake, first place and length: thin functions that take each record out of the list, or put
 // it back, and leave the rest to functions on values.
+#![tactic(auto)]
+
 ghost use Rattle.std.specs.Prelude.{◌≡◌, [], ◌+◌, ◌*◌, ◌≤◌, length};
 ghost use Rattle.division.specs.Split.{refusal_after, parts_after};
 ghost use Rattle.division.specs.Eight.{kept, parts_in};

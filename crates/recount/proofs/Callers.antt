@@ -13,7 +13,7 @@ use Rattle.format.proofs.Lawful.{lawful_roomy}
 use Rattle.format.proofs.ReadBack.{read_back}
 use Rattle.tallies.specs.Calls.{Lent, plan, fresh_bytes}
 use Rattle.recount.specs.Core.{Laid, Ready, Flippable}
-use Rattle.tallies.proofs.TallyBytes.{same_bytes}
+use Rattle.tallies.proofs.TallyBytes.{same_bytes_lem}
 use Rattle.tallies.proofs.Refusals.{Opens, Takes, assignment_room}
 
 -- Tables that pass the test for 22.
@@ -23,7 +23,7 @@ loaded_laid tables terms t =
     let a = and_left _ _ t in
     record {
       room = lawful_roomy (plan_of_tables tables terms) (and_left _ _ a);
-      holds = (same_bytes _ _ (and_right _ _ a), same_bytes _ _ (and_right _ _ t));
+      holds = (same_bytes_lem _ _ (and_right _ _ a), same_bytes_lem _ _ (and_right _ _ t));
     }
 
 -- Tables that hold a plan which they have room for: it is the one read back.

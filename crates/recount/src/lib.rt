@@ -1,4 +1,6 @@
 // Opening without its checks: the tallies counted anew.
+#![tactic(auto)]
+
 pub mod clause;
 pub mod open;
 pub mod recount;

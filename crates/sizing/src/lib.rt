@@ -1,5 +1,7 @@
 // K, A and B of every rule, in words behind the tallies. They are the same under every assignment, so a search works them out once and no move goes through a
 // rule's terms for them.
+#![tactic(auto)]
+
 ghost use Rattle.std.specs.Prelude.{◌≡◌, ◌≤◌, ◌<◌, length};
 ghost use Rattle.counting.specs.Bound.{bound_of};
 ghost use Rattle.words.specs.Words.{word_at};

@@ -1,4 +1,6 @@
 // The numbers of the variables' last flips in a try, kept in words behind the marks of the choice (T-09): 0 for a variable that the try has not flipped.
+#![tactic(auto)]
+
 ghost use Rattle.std.specs.Prelude.{◌≡◌, ◌≤◌, length};
 ghost use Rattle.words.specs.Writes.{Wrote};
 ghost use Rattle.format.specs.Limits.{max_variables};

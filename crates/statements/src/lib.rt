@@ -1,5 +1,7 @@
 // The parts of a statement of an OPB text, read from left to right by a cursor that is a place. Each part is read on whether or not those before it are
 // there; `ok` says that all are.
+#![tactic(auto)]
+
 ghost use Rattle.std.specs.Prelude.{◌≡◌, ◌≤◌, length};
 ghost use Rattle.statements.specs.Grammar.{unsigned_from, relation_end};
 ghost use Rattle.statements.specs.Parts.{IntegerAt, WeightedAt, SumAt, RelationAt};

@@ -1,5 +1,7 @@
 // The tables filled from a plan file that was judged lawful (document 01, "The plan file").
 // The whole file is judged before a byte is written; then each section of the tables is filled by a loop of its own, and last the order, from the others.
+#![tactic(auto)]
+
 ghost use Rattle.std.specs.Prelude.{◌≡◌, ◌≤◌, length};
 ghost use Rattle.words.specs.Words.{word_bytes};
 ghost use Rattle.words.specs.Writes.{front};

@@ -1,4 +1,6 @@
 // The weights of the order's entries, side by side with them, so that whoever goes along a variable's run reads no term.
+#![tactic(auto)]
+
 ghost use Rattle.std.specs.Prelude.{◌≡◌, ◌≤◌, ◌<◌, nat_abs, length, get_or};
 ghost use Rattle.plpb.specs.Normal.{size};
 ghost use Rattle.words.specs.Words.{signed};

@@ -1,0 +1,15 @@
+-- `size_in` meets its contract, by the word of none.
+-- Assumes nothing.
+use mathlib.Core.Path.{refl}
+use borrow.Author.Tests.{eq-eqb, ne_eqb}
+use Rattle.columns.specs.Columns.{never}
+use Rattle.effects.specs.Kept.{size_in}
+use Rattle.effects.proofs.size_in.Goals as goal
+
+pub returns-then-w-eq4294967295 : goal.returns-then-w-eq4294967295
+unfolding size_in
+returns-then-w-eq4294967295 c = rw (eq-eqb c.args.w never c.if-w-eq4294967295.true) refl
+
+pub returns : goal.returns
+unfolding size_in
+returns c = rw (ne_eqb c.args.w never c.if-w-eq4294967295.false) refl

@@ -1,0 +1,20 @@
+-- `entries::judge_zones` meets its contract. The invariant: the code stands at the k-th row, and judging from there comes to what judging the whole list
+-- does. The measure is the rows left.
+-- Assumes nothing.
+use Prim.Native.Nat.{◌-◌}
+use mathlib.Core.Path.{◌≡◌}
+use mathlib.Core.Bool.{not}
+use lib.ListN.{length}
+use Rattle.rows.proofs.Rows.{Place}
+use Rattle.lists.specs.Refusals.{judged_from, judged}
+use Rattle.entries.specs.Judging.{entries_of, missing}
+use Rattle.entries.proofs.judge_zones.Given as goal
+
+abbrev pub invariant-loop-at : goal.invariant-loop-at
+invariant-loop-at l =
+    Place l.zones l.s l.k l.at
+    × (judged_from (missing l.fault l.zones (entries_of l.zones l.s) (entries_of (not l.zones) l.other)) (length (entries_of l.zones l.s) - l.k) l.k
+    ≡ judged (missing l.fault l.zones (entries_of l.zones l.s) (entries_of (not l.zones) l.other)) (entries_of l.zones l.s))
+
+abbrev pub decreases-loop-at : goal.decreases-loop-at
+decreases-loop-at l = length (entries_of l.zones l.s) - l.k

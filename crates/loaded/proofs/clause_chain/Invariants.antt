@@ -1,0 +1,25 @@
+-- `loaded::clause_chain` meets its contract. The invariant: the chain from here on is good where the whole chain is. The measure is what is
+-- left of the clauses.
+-- Assumes nothing.
+use borrow.Author.Rules.{rules}
+use Prim.Native.Nat.{ℕ, ◌-◌, ◌≤◌}
+use mathlib.Core.Path.{◌≡◌}
+use mathlib.Core.List.{List}
+use Rattle.words.specs.Words.{word_at}
+use Rattle.format.specs.Good.{chain_from}
+use Rattle.format.specs.Layout.{clause_count_at, clause_first_at}
+use Rattle.loaded.proofs.clause_chain.Given as goal
+
+abbrev pub first : List ℕ → ℕ → ℕ
+first t c = word_at t (clause_first_at c)
+
+abbrev pub count : List ℕ → ℕ → ℕ
+count t c = word_at t (clause_count_at c)
+
+abbrev pub invariant-loop-c : goal.invariant-loop-c
+invariant-loop-c l =
+    (l.c ≤ l.clauses) × (l.at ≤ l.rules)
+    × (chain_from (first l.tables) (count l.tables) l.rules l.at l.c (l.clauses - l.c) ≡ chain_from (first l.tables) (count l.tables) l.rules 0 0 l.clauses)
+
+abbrev pub decreases-loop-c : goal.decreases-loop-c
+decreases-loop-c l = l.clauses - l.c

@@ -1,0 +1,45 @@
+-- The goals that the search leaves.
+use Prim.Native.Nat.{◌-◌}
+use native.Mathlib.Omega.{arith}
+use mathlib.Core.Path.{sym, ◌∙◌, ap}
+use Rattle.plpb.specs.Lists.{any}
+use Rattle.plpb.specs.Plan.{names}
+use Rattle.format.specs.Tables.{clause_of}
+use Rattle.recount.proofs.Along.{along_start, any_go, any_stop, any_end}
+use Rattle.recount.proofs.Laid.{run_readable, rules_inside}
+use Rattle.recount.proofs.clause.clause_names.Goals as goal
+
+pub rules_of-rules-requires : goal.rules_of-rules-requires
+rules_of-rules-requires c = run_readable _ _ c.requires.0 _ c.requires.1
+
+pub loop-r-init : goal.loop-r-init
+unfolding names clause_of
+loop-r-init c =
+    let k = c.rules_of-rules.ensures in
+    (omega (arith, k.0, k.1), rw (k.0, k.1) (ap (any _) (along_start _ _ _)))
+
+pub rule_names-requires : goal.rule_names-requires
+rule_names-requires c =
+    let k = c.rules_of-rules.ensures in
+    (c.requires.0, omega (arith, k.1, rules_inside _ _ c.requires.0 _ c.requires.1))
+
+pub returns-then-rule_names : goal.returns-then-rule_names
+returns-then-rule_names c =
+    let at = c.loop-r in
+    sym (any_stop _ _ at.r _ c.loop-r-test.true (sym c.rule_names.ensures ∙ c.if-rule_names.true)) ∙ at.invariant.1
+
+pub loop-r-preserved : goal.loop-r-preserved
+loop-r-preserved c =
+    let at = c.loop-r in (
+      omega arith,
+      sym (any_go _ _ at.r _ c.loop-r-test.true (sym c.rule_names.ensures ∙ c.if-rule_names.false)) ∙ at.invariant.1,
+    )
+
+pub returns : goal.returns
+returns c = sym (any_end _ _ c.loop-r.r _ c.loop-r-test.false) ∙ c.loop-r.invariant.1
+
+pub overflow_add-r : goal.overflow_add-r
+overflow_add-r c = omega arith
+
+pub loop-r-smaller : goal.loop-r-smaller
+loop-r-smaller c = omega arith

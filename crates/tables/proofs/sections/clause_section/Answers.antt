@@ -1,0 +1,77 @@
+-- The goals that the search leaves.
+use Prim.Native.Nat.{◌-◌}
+use native.Mathlib.Omega.{arith}
+use Rattle.tables.proofs.Found.{begun_file, begun_front, begun_room}
+use Rattle.tables.proofs.Filled.{lawful_file, clause_start, clause_few, clause_space, clause_room_lem, clause_reads, clause_rules, clause_part, clause_same, clause_more, clause_on, clause_count_lem, clause_end}
+use Rattle.tables.proofs.sections.clause_section.Goals as goal
+
+pub loop-at-init : goal.loop-at-init
+loop-at-init c =
+    clause_start _ _ _ _ (lawful_file _ _ c.requires.accepts) c.requires.out_len (begun_file _ _ c.requires.accepts) c.first_clause-at.ensures
+
+pub bounds-file-at : goal.bounds-file-at
+bounds-file-at c = omega (arith, clause_room_lem c.loop-at.invariant)
+
+pub overflow_add-at : goal.overflow_add-at
+overflow_add-at c = omega (arith, clause_room_lem c.loop-at.invariant)
+
+pub clause_run-run-requires : goal.clause_run-run-requires
+clause_run-run-requires c = clause_reads c.loop-at.invariant c.loop-at-test.true
+
+pub overflow_mul-place : goal.overflow_mul-place
+overflow_mul-place c = omega (arith, clause_few c.loop-at.invariant)
+
+pub slice_bounds-put_clause-count : goal.slice_bounds-put_clause-count
+slice_bounds-put_clause-count c = clause_space c.loop-at.invariant
+
+pub part_put_clause_start : goal.part_put_clause_start
+part_put_clause_start c = clause_space c.before.before.before.loop.invariant
+
+pub put_clause-requires : goal.put_clause-requires
+put_clause-requires c =
+    let h = clause_rules c.loop-at.invariant c.loop-at-test.true _ _ c.clause_run-run.ensures in
+    (clause_part c.loop-at.invariant c.loop-at-test.true, omega arith, omega arith)
+
+pub overflow_add-first : goal.overflow_add-first
+overflow_add-first c =
+    omega (arith, clause_rules c.loop-at.invariant c.loop-at-test.true _ _ c.clause_run-run.ensures)
+
+pub overflow_add-clauses : goal.overflow_add-clauses
+overflow_add-clauses c = omega (arith, clause_few c.loop-at.invariant)
+
+pub loop-at-smaller : goal.loop-at-smaller
+loop-at-smaller c =
+    omega (arith, clause_on c.loop-at.invariant _ _ c.clause_run-run.ensures, clause_room_lem c.loop-at.invariant)
+
+pub loop-at-preserved : goal.loop-at-preserved
+loop-at-preserved c =
+    clause_more c.loop-at.invariant c.loop-at-test.true _ _ _ c.clause_run-run.ensures c.put_clause.ensures
+
+pub overflow_mul-end : goal.overflow_mul-end
+overflow_mul-end c = omega (arith, clause_few c.loop-at.invariant)
+
+pub slice_bounds-clear-count : goal.slice_bounds-clear-count
+slice_bounds-clear-count c =
+    omega (arith, clause_space c.loop-at.invariant, c.loop-at.invariant.same, c.requires.out_len)
+
+pub part_clear_start : goal.part_clear_start
+part_clear_start c =
+    let at = c.before.before in
+    let start = at.before.before.before.before in
+    omega (arith, clause_space at.loop.invariant, at.loop.invariant.same, start.requires.1)
+
+pub shape_of-out : goal.shape_of-out
+shape_of-out c = clause_same c.loop-at.invariant _ c.clear.ensures
+
+pub returns : goal.returns
+returns c =
+    (clause_count_lem c.loop-at.invariant c.loop-at-test.false, clause_end c.loop-at.invariant c.loop-at-test.false _ c.clear.ensures)
+
+pub first_clause-at-requires : goal.first_clause-at-requires
+first_clause-at-requires c = (begun_front _ _ c.requires.accepts, omega (arith, begun_room _ _ c.requires.accepts))
+
+pub slice_bounds-put_clause-end : goal.slice_bounds-put_clause-end
+slice_bounds-put_clause-end c = omega arith
+
+pub slice_bounds-clear-end : goal.slice_bounds-clear-end
+slice_bounds-clear-end c = omega arith
