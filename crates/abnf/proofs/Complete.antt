@@ -91,6 +91,8 @@ some_field (Abnf.joined {vs = vs} f r) = (length vs, refl)
 ended_field : (v end rest : List ℕ) → Ending end rest → with_end (field v end) ≡ field v rest
 unfolding with_end ◌and◌
 ended_field v [] [] at_end = refl
+ended_field v [] (_ ∷ _) x4 = elim x4 [ ]
+ended_field v (a ∷ []) t x4 = elim x4 [ ]
 ended_field v (a ∷ b ∷ s) t crlf = refl
 
 joined_field : (v rest : List ℕ) → with_comma (field v (comma ∷ rest)) ≡ field v rest

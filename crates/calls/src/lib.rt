@@ -1,4 +1,6 @@
 // Opening, flip and counts: each tests what it is lent before it changes a byte.
+#![tactic(auto)]
+
 pub mod counts;
 pub mod flip;
 pub mod open;

@@ -1,4 +1,6 @@
 // Constraints put into a lent buffer, one line each: terms that stand in a table of words, and new variables.
+#![tactic(auto)]
+
 ghost use Rattle.std.specs.Prelude.{◌≡◌, true, false, cond, [], ◌∷◌, ◌++◌, map, ◌<◌, pos, negsuc};
 ghost use Rattle.words.specs.Words.{word_at};
 ghost use Rattle.texts.specs.Texts.{text};

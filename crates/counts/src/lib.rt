@@ -1,4 +1,6 @@
 // How many clauses of the expansion a flip spoils and how many it mends, along the variable's run.
+#![tactic(auto)]
+
 ghost use Rattle.std.specs.Prelude.{◌≡◌, true, [], get_or};
 ghost use Rattle.plpb.specs.Count.{capped_break, capped_make};
 ghost use Rattle.order.specs.Order.{run_end};

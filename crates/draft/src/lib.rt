@@ -1,4 +1,6 @@
 // The plan file of the mapper's two lists, written into a lent buffer.
+#![tactic(auto)]
+
 ghost use Rattle.std.specs.Prelude.{◌≡◌, true, false, cond, List, [], ◌∷◌, ◌++◌, map, ℕ, ◌+◌, ◌*◌, ◌%◌, ◌≤◌, eqb, length};
 ghost use Rattle.words.specs.Words.{bytes_of};
 ghost use Rattle.words.specs.Writes.{put, front};

@@ -1,4 +1,6 @@
 // Counts: how many clauses of the expansion a variable's flip would spoil, and how many it would mend.
+#![tactic(auto)]
+
 ghost use Rattle.std.specs.Prelude.{◌≡◌, ◌+◌, ◌*◌, ◌≤◌, ◌<◌};
 ghost use Rattle.plpb.specs.Count.{capped, capped_break, capped_make};
 ghost use Rattle.plpb.specs.Equations.{shares_of, clause_break, clause_make, break_sum, make_sum};

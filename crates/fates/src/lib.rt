@@ -1,5 +1,7 @@
 // What becomes of a plan file's rules and clauses once locked values are put in (document 02, T-12). The file is only read.
 // A map has a word for each variable, at the index of its number: its new number, or one of the two codes of a locked variable.
+#![tactic(auto)]
+
 pub mod bounds;
 pub mod clause;
 pub mod rule;

@@ -1,5 +1,7 @@
 // Whether a flip breaks nothing, told along the variable's run. Where it broke something the last time is looked at first: any word will do for that, for
 // what stands there is tested as any other place.
+#![tactic(auto)]
+
 ghost use Rattle.std.specs.Prelude.{◌≡◌, true, false, cond, not, [], ◌≤◌, ◌<◌, ltb, eqb, get_or};
 ghost use Rattle.plpb.specs.Equations.{clause_break};
 ghost use Rattle.plpb.specs.Count.{capped_break};

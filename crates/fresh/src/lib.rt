@@ -1,4 +1,6 @@
 // Whether tallies are those that opening would write: one pass over the tables, and nothing is written.
+#![tactic(auto)]
+
 ghost use Rattle.std.specs.Prelude.{◌≡◌, ◌+◌, ◌*◌, ◌≤◌, ◌<◌, length, take};
 ghost use Rattle.plpb.specs.Tallies.{fresh_count};
 ghost use Rattle.words.specs.Words.{word_at};

@@ -1,5 +1,7 @@
 // The places of a variable's run in one clause: a group. A clause of several rules breaks where no rule outside its group holds, those of the group all fail
 // after the flip and one of them is spoiled.
+#![tactic(auto)]
+
 ghost use Rattle.std.specs.Prelude.{◌≡◌, cond, [], ◌+◌, ◌≤◌, ◌<◌, ltb, length, get_or};
 ghost use Rattle.plpb.specs.Lists.{any, all, count};
 ghost use Rattle.plpb.specs.Plan.{rule_holds};

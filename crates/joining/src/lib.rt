@@ -1,5 +1,7 @@
 // What a flip spoils and mends of a clause of several rules: the shares of its rules joined, each from what is kept of the rule. The places of the group tell
 // which rules name the variable.
+#![tactic(auto)]
+
 ghost use Rattle.std.specs.Prelude.{◌≡◌, cond, [], ◌+◌, get_or};
 ghost use Rattle.plpb.specs.Plan.{named_in};
 ghost use Rattle.plpb.specs.Equations.{shares_of};

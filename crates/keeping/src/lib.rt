@@ -1,5 +1,7 @@
 // A flip on what is kept. It goes along the variable's run and reads of each place its word in the order, its weight, and P, K, A and B of its rule: no term.
 // It writes P and the two needs, and the clause's count and the total only where the rule's holding changes.
+#![tactic(auto)]
+
 ghost use Rattle.std.specs.Prelude.{◌≡◌, not, ◌%◌};
 ghost use Rattle.order.specs.Order.{word_place};
 ghost use Rattle.format.specs.Tables.{plan_of_tables};

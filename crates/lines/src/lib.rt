@@ -1,4 +1,6 @@
 // The lines that the program prints, written into a lent buffer from its front.
+#![tactic(auto)]
+
 ghost use Rattle.std.specs.Prelude.{◌≡◌, ◌+◌, ◌≤◌, ◌<◌, cond, [], ◌∷◌, ◌++◌, map, eqb, nat_abs, length, take};
 ghost use Rattle.words.specs.Writes.{front, put};
 ghost use Rattle.lines.specs.Text.{digit as digitOf, decimal, signed_decimal, ending_of, ending_word, result_line, assignment_line, refusal_line};

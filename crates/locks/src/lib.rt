@@ -1,4 +1,6 @@
 // "A try's start still uses all its numbers, then locked variables take their value."
+#![tactic(auto)]
+
 ghost use Rattle.std.specs.Prelude.{◌≡◌, ◌≤◌, length};
 ghost use Rattle.format.specs.Limits.{max_variables};
 ghost use Rattle.format.specs.Layout.{table_size};

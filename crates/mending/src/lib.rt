@@ -1,5 +1,7 @@
 // What a flip mends at the places of a variable's run: a clause of one rule what the rule does, one of several nothing where one of its rules holds or where
 // none of those that name the variable mends a part.
+#![tactic(auto)]
+
 ghost use Rattle.std.specs.Prelude.{◌≡◌, false, [], ◌+◌, ◌<◌, ltb, get_or};
 ghost use Rattle.plpb.specs.Lists.{any};
 ghost use Rattle.plpb.specs.Count.{capped};

@@ -1,4 +1,6 @@
 // New numbers for the unlocked variables of a plan file: "renumber the unlocked variables (all kept) by rising number".
+#![tactic(auto)]
+
 ghost use Rattle.std.specs.Prelude.{◌≡◌, cond, [], ◌∷◌, ℕ, ◌+◌, ◌*◌, ◌≤◌, ◌<◌, eqb, length};
 ghost use Rattle.plpb.specs.Lists.{row, keep};
 ghost use Rattle.words.specs.Words.{word_at, word_bytes};

@@ -1,4 +1,6 @@
 // The sections of the tables, filled from an OPB text that was judged lawful. Each is lent whole and filled to its end: "unused entries are 0".
+#![tactic(auto)]
+
 ghost use Rattle.std.specs.Prelude.{◌≡◌, true, cond, [], ◌∷◌, ◌+◌, ◌*◌, ◌-◌, ◌≤◌, ◌<◌, length};
 ghost use Rattle.plpb.specs.Tallies.{rules_of};
 ghost use Rattle.words.specs.Words.{word_bytes, unsigned, bytes_of};

@@ -1,4 +1,6 @@
 // A whole OPB text judged, line by line: "the first statement at fault deciding".
+#![tactic(auto)]
+
 ghost use Rattle.std.specs.Prelude.{◌≡◌, true, false, not, ◌+◌, ◌≤◌, ◌<◌, leb, ltb, length};
 ghost use Rattle.plpb.specs.Lists.{◌or◌};
 ghost use Rattle.tokens.specs.Tokens.{run_end, is_inside, seen};

@@ -1,4 +1,6 @@
 // The first line of an OPB text, and the way from line to line.
+#![tactic(auto)]
+
 ghost use Rattle.std.specs.Prelude.{◌≡◌, ◌≤◌, length};
 ghost use Rattle.opb_lines.specs.Lines.{NamedAt, FirstOf, next_line};
 

@@ -1,4 +1,6 @@
 // A pick among variables that stand in a list of words.
+#![tactic(auto)]
+
 ghost use Rattle.std.specs.Prelude.{◌≡◌, ℕ, T, ltb};
 ghost use Rattle.plpb.specs.Lists.{all};
 ghost use Rattle.plpb.specs.Choice.{pick_from};

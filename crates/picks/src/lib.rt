@@ -1,4 +1,6 @@
 // Which variables of a clause break nothing: they are picked out of the clause's list, in its order.
+#![tactic(auto)]
+
 ghost use Rattle.std.specs.Prelude.{◌≡◌, [], ◌<◌, eqb, length, get_or};
 ghost use Rattle.plpb.specs.Count.{capped_break};
 ghost use Rattle.plpb.specs.Choice.{choosable, with_break};

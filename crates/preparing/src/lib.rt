@@ -1,5 +1,7 @@
 // The walk's columns that depend on the plan alone, worked out anew for the tables as they stand: K, A and B of the rules, the weights of the order's entries,
 // the variables that may be chosen of each clause. It takes time linear in the terms.
+#![tactic(auto)]
+
 ghost use Rattle.std.specs.Prelude.{◌≤◌, length};
 ghost use Rattle.format.specs.Tables.{plan_of_tables};
 ghost use Rattle.recount.specs.Core.{Laid};

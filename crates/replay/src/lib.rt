@@ -1,4 +1,6 @@
 // Opening, and then a list of calls one after another on the lent buffers: demand 3 as a claim about running code.
+#![tactic(auto)]
+
 ghost use Rattle.std.specs.Prelude.{◌≡◌, ◌+◌, ◌*◌, ◌/◌, ◌≤◌, length};
 ghost use Rattle.counting.specs.Count.{marked_words};
 ghost use Rattle.words.specs.Words.{word_bytes};

@@ -1,4 +1,6 @@
 // How many clauses of the expansion a flip spoils, along the variable's run: given up above a limit, and once the sum is cut.
+#![tactic(auto)]
+
 ghost use Rattle.std.specs.Prelude.{◌≡◌, true, suc, ◌-◌, ◌≤◌, ◌<◌};
 ghost use Rattle.plpb.specs.Count.{cap, capped, capped_break};
 ghost use Rattle.plpb.specs.Equations.{clause_break};

@@ -1,4 +1,6 @@
 // What many runs are asked for and lent is tested here, once for all of them, in the order of document 02, T-11: 41, 42, 43, then the search's own.
+#![tactic(auto)]
+
 ghost use Rattle.std.specs.Prelude.{◌≡◌};
 ghost use Rattle.lending.specs.Lent.{lent_all};
 ghost use Rattle.trials.specs.Trials.{all_zero, outside, runs_refusal, trial};

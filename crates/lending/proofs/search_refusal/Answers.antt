@@ -13,9 +13,9 @@ returns-then-work_small c = work_21 _ _ c.tables_small.ensures c.if-tables_small
 
 pub returns-then-not-good : goal.returns-then-not-good
 returns-then-not-good c =
-    tables_22 _ _ c.tables_small.ensures c.if-tables_small.false c.work_small.ensures c.if-work_small.false (sym c.good2.ensures ∙ not-true _ c.if-not-good.true)
+    tables_22 _ _ c.tables_small.ensures c.if-tables_small.false c.work_small.ensures c.if-work_small.false (sym c.good.ensures ∙ not-true _ c.if-not-good.true-raw)
 
 pub returns : goal.returns
 returns c =
     c.settings_refusal.ensures
-    ∙ settings_last _ _ c.tables_small.ensures c.if-tables_small.false c.work_small.ensures c.if-work_small.false (sym c.good2.ensures ∙ not-false _ c.if-not-good.false)
+    ∙ settings_last _ _ c.tables_small.ensures c.if-tables_small.false c.work_small.ensures c.if-work_small.false (sym c.good.ensures ∙ not-false _ c.if-not-good.false-raw)

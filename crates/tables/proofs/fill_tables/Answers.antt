@@ -1,6 +1,5 @@
 -- `tables::fill_tables` meets its contract: the sections stand side by side.
 -- Assumes nothing.
-use borrow.Author.Rules.{rules}
 use native.Mathlib.Omega.{arith}
 use mathlib.Core.Path.{sym, ap, ◌∙◌}
 use lib.ListN.{length}
@@ -10,17 +9,13 @@ use Rattle.tables.proofs.Filled.{lawful_file}
 use Rattle.tables.proofs.Whole.{three_long, behind_long, tables_whole, base_size_lem}
 use Rattle.tables.proofs.fill_tables.Goals as goal
 
-pub part_lock_section_end : goal.part_lock_section_end
-part_lock_section_end c =
-    let rules = c.before.before in
-    let clauses = rules.before.before.before.before in
-    let objective = clauses.before.before.before.before in
-    let start = objective.before.before.before.before in
+pub slice_bounds-lock_section-end : goal.slice_bounds-lock_section-end
+slice_bounds-lock_section-end c =
     omega (
       arith,
-      three_long _ (lawful_file _ _ start.requires.0) start.args.tables.now _ _ _ start.requires.1
-          objective.objective-section.ensures clauses.clause-section.ensures.1 rules.rule-section.ensures.2,
-      start.requires.1,
+      three_long _ (lawful_file _ _ c.requires.accepts) c.args.tables.now _ _ _ c.requires.table_size_in_bounds
+          c.objective_section.ensures c.clause_section-clauses.ensures.1 c.rule_section-counted.ensures.2,
+      c.requires.table_size_in_bounds,
     )
 
 pub read_u16-variables-requires : goal.read_u16-variables-requires

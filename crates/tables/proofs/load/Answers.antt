@@ -8,7 +8,7 @@ use Rattle.tables.proofs.load.Goals as goal
 
 pub returns-in_default : goal.returns-in_default
 returns-in_default c =
-    kept _ _ _ c.if-tables-lt-TABLES.false c.if-terms-lt-TERMS.false _ _ _ c.judge-verdict.ensures c.in_default.is
+    let whole = kept _ _ _ c.if-tables-lt-TABLES.false c.if-terms-lt-TERMS.false _ _ _ c.judge-verdict.ensures c.in_default.is in record { value = whole.0; tables_after = whole.1.0; terms_after = whole.1.1 }
 
 pub fill_tables-requires : goal.fill_tables-requires
 fill_tables-requires c =
@@ -28,10 +28,10 @@ pub returns : goal.returns
 returns c =
     let accepted = accepts _ (sym c.in-Accepted.is ∙ c.judge-verdict.ensures) in
     let tables = order_left _ (lawful_file _ _ accepted) _ _ c.if-tables-lt-TABLES.false c.fill_tables.ensures c.fill_terms.ensures c.derive.ensures in
-    filled _ _ _ c.if-tables-lt-TABLES.false c.if-terms-lt-TERMS.false _ _ accepted tables c.fill_terms.ensures
+    let whole = filled _ _ _ c.if-tables-lt-TABLES.false c.if-terms-lt-TERMS.false _ _ accepted tables c.fill_terms.ensures in record { value = whole.0; tables_after = whole.1.0; terms_after = whole.1.1 }
 
 pub returns-then-tables-lt-TABLES : goal.returns-then-tables-lt-TABLES
-returns-then-tables-lt-TABLES c = small_tables _ _ _ c.if-tables-lt-TABLES.true
+returns-then-tables-lt-TABLES c = let whole = small_tables _ _ _ c.if-tables-lt-TABLES.true in record { value = whole.0; tables_after = whole.1.0; terms_after = whole.1.1 }
 
 pub returns-then-terms-lt-TERMS : goal.returns-then-terms-lt-TERMS
-returns-then-terms-lt-TERMS c = small_terms_lem _ _ _ c.if-terms-lt-TERMS.true
+returns-then-terms-lt-TERMS c = let whole = small_terms_lem _ _ _ c.if-terms-lt-TERMS.true in record { value = whole.0; tables_after = whole.1.0; terms_after = whole.1.1 }

@@ -24,8 +24,8 @@ overflow_mul-place c = omega (arith, clause_few c.loop-at.invariant)
 pub slice_bounds-put_clause-count : goal.slice_bounds-put_clause-count
 slice_bounds-put_clause-count c = clause_space c.loop-at.invariant
 
-pub part_put_clause_start : goal.part_put_clause_start
-part_put_clause_start c = clause_space c.before.before.before.loop.invariant
+pub slice_bounds-put_clause-start : goal.slice_bounds-put_clause-start
+slice_bounds-put_clause-start c = clause_space c.loop-at.invariant
 
 pub put_clause-requires : goal.put_clause-requires
 put_clause-requires c =
@@ -54,11 +54,9 @@ pub slice_bounds-clear-count : goal.slice_bounds-clear-count
 slice_bounds-clear-count c =
     omega (arith, clause_space c.loop-at.invariant, c.loop-at.invariant.same, c.requires.out_len)
 
-pub part_clear_start : goal.part_clear_start
-part_clear_start c =
-    let at = c.before.before in
-    let start = at.before.before.before.before in
-    omega (arith, clause_space at.loop.invariant, at.loop.invariant.same, start.requires.1)
+pub slice_bounds-clear-start : goal.slice_bounds-clear-start
+slice_bounds-clear-start c =
+    omega (arith, clause_space c.loop-at.invariant, c.loop-at.invariant.same, c.requires.out_len)
 
 pub shape_of-out : goal.shape_of-out
 shape_of-out c = clause_same c.loop-at.invariant _ c.clear.ensures

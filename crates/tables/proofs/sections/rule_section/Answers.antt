@@ -18,8 +18,8 @@ overflow_mul-place c = omega (arith, rule_few c.loop-at.invariant)
 pub slice_bounds-put_rule-count : goal.slice_bounds-put_rule-count
 slice_bounds-put_rule-count c = rule_space c.loop-at.invariant
 
-pub part_put_rule_start : goal.part_put_rule_start
-part_put_rule_start c = rule_space c.before.before.loop.invariant
+pub slice_bounds-put_rule-start : goal.slice_bounds-put_rule-start
+slice_bounds-put_rule-start c = rule_space c.loop-at.invariant
 
 pub put_rule-requires : goal.put_rule-requires
 put_rule-requires c = record { rule_here = rule_here c.loop-at.invariant c.loop-at-test.true; in_bounds = (rule_part c.loop-at.invariant c.loop-at-test.true, omega (arith, rule_first c.loop-at.invariant)) }
@@ -54,8 +54,8 @@ overflow_mul-end c = omega (arith, rule_few c.loop-at.invariant)
 pub slice_bounds-clear-count : goal.slice_bounds-clear-count
 slice_bounds-clear-count c = rule_space c.loop-at.invariant
 
-pub part_clear_start : goal.part_clear_start
-part_clear_start c = rule_space c.before.before.loop.invariant
+pub slice_bounds-clear-start : goal.slice_bounds-clear-start
+slice_bounds-clear-start c = rule_space c.loop-at.invariant
 
 pub shape_of-out : goal.shape_of-out
 shape_of-out c = rule_same c.loop-at.invariant _ c.clear.ensures

@@ -21,8 +21,8 @@ overflow_add-at c = omega (arith, term_file c.loop-at.invariant c.loop-at-test.t
 pub slice_bounds-put_terms-count : goal.slice_bounds-put_terms-count
 slice_bounds-put_terms-count c = term_space c.loop-at.invariant
 
-pub part_put_terms_start : goal.part_put_terms_start
-part_put_terms_start c = term_space c.before.before.before.loop.invariant
+pub slice_bounds-put_terms-start : goal.slice_bounds-put_terms-start
+slice_bounds-put_terms-start c = term_space c.loop-at.invariant
 
 pub put_terms-requires : goal.put_terms-requires
 put_terms-requires c = (
@@ -53,8 +53,8 @@ loop-at-preserved c =
 pub slice_bounds-clear-count : goal.slice_bounds-clear-count
 slice_bounds-clear-count c = term_space c.loop-at.invariant
 
-pub part_clear_start : goal.part_clear_start
-part_clear_start c = term_space c.before.before.loop.invariant
+pub slice_bounds-clear-start : goal.slice_bounds-clear-start
+slice_bounds-clear-start c = term_space c.loop-at.invariant
 
 pub shape_of-terms : goal.shape_of-terms
 shape_of-terms c = term_same c.loop-at.invariant _ c.clear.ensures

@@ -1,0 +1,60 @@
+-- `rule::fate` meets its contract: mode and bounds by the rule's three sums.
+-- Assumes nothing.
+use mir.Syntax.{w32}
+use Prim.Native.Nat.{◌+◌}
+use native.Mathlib.Omega.{arith}
+use mathlib.Core.Path.{◌∙◌}
+use mir.Facts.{to_z-of_z}
+use Rattle.format.specs.File.{mode_at, lower_at, upper_at}
+use Rattle.fates.proofs.Judging.{rule_room_lem, byte_at, fate_mode, fate_lower, fate_upper}
+use Rattle.fates.proofs.rule.fate.Goals as goal
+
+pub less-lower-requires : goal.less-lower-requires
+unfolding lower_at
+less-lower-requires c =
+    let r = c.requires.0 in
+    (omega (arith, rule_room_lem r), r.lower, rw (to_z-of_z (record { sfits = c.total-given.type_inv })) c.total-given.ensures.1)
+
+pub less-upper-requires : goal.less-upper-requires
+unfolding upper_at
+less-upper-requires c =
+    let r = c.requires.0 in
+    (omega (arith, rule_room_lem r), r.upper, rw (to_z-of_z (record { sfits = c.total-given.type_inv })) c.total-given.ensures.1)
+
+pub returns : goal.returns
+unfolding mode_at lower_at upper_at
+returns c =
+    let s = c.args.file.now in
+    let map = c.args.map.now in
+    let at = c.args.at in
+    let modes = byte_at s (at + 3) in
+    let givens = to_z-of_z {w = w32} (record { sfits = c.total-given.type_inv }) ∙ c.total-given.ensures.0 in
+    let leasts = to_z-of_z {w = w32} (record { sfits = c.total-least.type_inv }) ∙ c.total-least.ensures.0 in
+    let greatests = to_z-of_z {w = w32} (record { sfits = c.total-greatest.type_inv }) ∙ c.total-greatest.ensures.0 in
+    let lowers = to_z-of_z {w = w32} (record { sfits = c.less-lower.type_inv }) ∙ c.less-lower.ensures in
+    let uppers = to_z-of_z {w = w32} (record { sfits = c.less-upper.type_inv }) ∙ c.less-upper.ensures in (
+      c.fate_by.ensures.0 ∙ fate_mode s map at modes givens leasts greatests lowers uppers,
+      c.fate_by.ensures.1 ∙ fate_lower s map at modes givens leasts greatests lowers uppers,
+      c.fate_by.ensures.2 ∙ fate_upper s map at modes givens leasts greatests lowers uppers,
+    )
+
+pub total-given-requires : goal.total-given-requires
+total-given-requires c = c.requires
+
+pub total-least-requires : goal.total-least-requires
+total-least-requires c = c.requires
+
+pub total-greatest-requires : goal.total-greatest-requires
+total-greatest-requires c = c.requires
+
+pub overflow_add-at : goal.overflow_add-at
+overflow_add-at c = omega (arith, rule_room_lem c.requires.0)
+
+pub overflow_add-at-2 : goal.overflow_add-at-2
+overflow_add-at-2 c = omega (arith, rule_room_lem c.requires.0)
+
+pub overflow_add-at-3 : goal.overflow_add-at-3
+overflow_add-at-3 c = omega (arith, rule_room_lem c.requires.0)
+
+pub bounds-file-at : goal.bounds-file-at
+bounds-file-at c = omega (arith, rule_room_lem c.requires.0)

@@ -1,0 +1,46 @@
+-- `fresh` meets its contract: unused entries are 0, and then the clauses tell the rest.
+-- Assumes nothing.
+use borrow.Author.Tests.{not-true, not-false}
+use native.Mathlib.Omega.{arith}
+use Rattle.recount.proofs.Laid.{tables_long, clauses_few}
+use Rattle.recount.proofs.Cores.{first_length, first_ready}
+use Rattle.fresh.proofs.Testing.{tested, rule_used, clause_used, both_unused}
+use Rattle.fresh.proofs.fresh.Goals as goal
+
+pub index-n-requires : goal.index-n-requires
+index-n-requires c = omega (arith, tables_long _ _ c.requires.0.laid)
+
+pub index-clauses-requires : goal.index-clauses-requires
+index-clauses-requires c = omega (arith, tables_long _ _ c.requires.0.laid)
+
+pub index-rules-requires : goal.index-rules-requires
+index-rules-requires c = omega (arith, tables_long _ _ c.requires.0.laid)
+
+pub returns-then-not-zeros : goal.returns-then-not-zeros
+returns-then-not-zeros c =
+    rule_used _ _ _ _ c.requires.0 _ c.index-n.ensures _ c.index-rules.ensures (c.zeros.ensures.not_so c.if-not-zeros.true)
+
+pub overflow_add-clauses : goal.overflow_add-clauses
+overflow_add-clauses c =
+    omega (arith, c.index-clauses.ensures, clauses_few _ _ c.requires.0.laid)
+
+pub returns-then-not-zeros-2 : goal.returns-then-not-zeros-2
+returns-then-not-zeros-2 c =
+    clause_used _ _ _ _ c.requires.0 _ c.index-n.ensures _ c.index-clauses.ensures (c.zeros-2.ensures.not_so c.if-not-zeros-2.true)
+
+pub slice_bounds-clauses_fresh-end : goal.slice_bounds-clauses_fresh-end
+slice_bounds-clauses_fresh-end c =
+    first_length _ _ _ c.requires.0 _ c.index-n.ensures
+
+pub clauses_fresh-requires : goal.clauses_fresh-requires
+clauses_fresh-requires c = (
+  first_ready _ _ _ c.requires.0 _ c.index-n.ensures,
+  c.requires.1,
+  both_unused _ _ _ _ c.requires.0 _ c.index-n.ensures _ _ c.index-rules.ensures c.index-clauses.ensures
+      (c.zeros.ensures.so c.if-not-zeros.false)
+      (c.zeros-2.ensures.so c.if-not-zeros-2.false),
+)
+
+pub returns : goal.returns
+returns c =
+    tested _ _ _ c.args.tallies.now c.requires.0 _ c.index-n.ensures c.clauses_fresh.ensures

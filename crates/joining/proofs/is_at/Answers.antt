@@ -1,0 +1,21 @@
+-- `is_at` meets its contract: the rule names the variable exactly where the next place is its.
+-- Assumes nothing.
+use native.Mathlib.Omega.{arith}
+use mathlib.Core.Path.{ap, ◌∙◌}
+use lib.Dec.{eqb}
+use Rattle.effects.proofs.Runs.{going_tables}
+use Rattle.effects.proofs.Places.{place_few}
+use Rattle.joining.proofs.Merging.{merging_visited, at_named, past_unnamed}
+use Rattle.joining.proofs.is_at.Goals as goal
+
+pub returns-then-i-j : goal.returns-then-i-j
+returns-then-i-j c = ap (λ n. eqb n c.args.r) c.rule_in.ensures ∙ at_named c.requires c.if-i-j.true c.word.ensures
+
+pub overflow_add-i : goal.overflow_add-i
+overflow_add-i c = omega (arith, place_few (merging_visited c.requires c.if-i-j.true))
+
+pub word-requires : goal.word-requires
+word-requires c = omega (arith, place_few (merging_visited c.requires c.if-i-j.true), going_tables c.requires.stretch.going)
+
+pub returns : goal.returns
+returns c = past_unnamed c.requires c.if-i-j.false

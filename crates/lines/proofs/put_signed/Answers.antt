@@ -1,0 +1,32 @@
+-- `folder::lines::put_signed` meets its contract: by its sign; a '-' and the digits behind it are one write.
+-- Assumes nothing.
+use native.Mathlib.Omega.{arith}
+use mathlib.Core.Path.{ap, ◌∙◌}
+use lib.IntN.{nat_abs}
+use mir.Facts.{to_z-of_z}
+use lib.ListN.{length-set}
+use Rattle.lines.proofs.Signs.{negative, natural}
+use Rattle.lines.proofs.Items.{signed_negative, signed_natural}
+use Rattle.lines.proofs.put_signed.Goals as goal
+
+pub put_number-requires : goal.put_number-requires
+put_number-requires c = simp length-set (omega arith)
+
+pub shape_of-out-then-v-lt0 : goal.shape_of-out-then-v-lt0
+shape_of-out-then-v-lt0 c = let a = c.args in c.put_number.auto.out ∙ length-set a.out.now a.at _
+
+pub returns-then-v-lt0 : goal.returns-then-v-lt0
+returns-then-v-lt0 c =
+    let a = c.args in
+    let put = c.put_number in
+    let both =
+    signed_negative a.out.now a.at a.v _ a.end (c.size-n.ensures ∙ ap nat_abs (to_z-of_z c.ranges.v)) (negative c.ranges.v c.if-v-lt0.true) (omega (arith, c.requires)) put.ensures.0 put.ensures.1
+    in
+    (both.0, both.1, omega (arith, put.ensures.2))
+
+pub returns : goal.returns
+returns c =
+    let a = c.args in
+    let put = c.put_number-2 in
+    let both = signed_natural a.out.now a.at a.v _ a.end (c.size-n.ensures ∙ ap nat_abs (to_z-of_z c.ranges.v)) (natural c.ranges.v c.if-v-lt0.false) put.ensures.0 put.ensures.1 in
+    (both.0, both.1, omega (arith, put.ensures.2))

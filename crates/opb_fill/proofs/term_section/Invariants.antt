@@ -1,0 +1,13 @@
+-- `opb_fill::term_section` meets its contract. The invariant: the terms of the rules passed stand at the front, and with those of the rules left they are all terms. The
+-- measure is what is left of the text.
+-- Assumes nothing.
+use Prim.Native.Nat.{◌-◌}
+use lib.ListN.{length}
+use Rattle.opb_fill.proofs.Filled.{TermFill}
+use Rattle.opb_fill.proofs.term_section.Given as goal
+
+abbrev pub invariant-loop-at : goal.invariant-loop-at
+invariant-loop-at l = TermFill l.s l.initial.terms l.at l.end l.terms
+
+abbrev pub decreases-loop-at : goal.decreases-loop-at
+decreases-loop-at l = length l.s - l.at

@@ -1,0 +1,58 @@
+-- `rules::put_rule` meets its contract: the terms are written first, then head and bounds before them.
+-- Assumes nothing.
+use mir.Syntax.{w32}
+use native.Mathlib.Omega.{arith}
+use mathlib.Core.Path.{sym, ap, ◌∙◌}
+use Prim.Native.Nat.{◌+◌}
+use mir.Facts.{to_z-of_z}
+use Rattle.words.specs.Words.{unsigned}
+use Rattle.format.specs.File.{terms_at}
+use Rattle.format.proofs.Peel.{length_terms_at}
+use Rattle.fates.specs.Codes.{decoded}
+use Rattle.fates.proofs.Judging.{rule_room_lem, rule_terms, terms_room}
+use Rattle.rewriting.specs.Written.{terms_written}
+use Rattle.rewriting.proofs.Termwise.{length_written}
+use Rattle.rewriting.proofs.Rulewise.{rule_laid_as}
+use Rattle.rewriting.proofs.rules.put_rule.Goals as goal
+
+pub terms_of-count-requires : goal.terms_of-count-requires
+terms_of-count-requires c = let r = c.requires.0 in (omega (arith, rule_room_lem r), omega (arith, r.size))
+
+pub keep_terms-end-requires : goal.keep_terms-end-requires
+keep_terms-end-requires c =
+    let r = c.requires.0 in
+    rw c.terms_of-count.ensures (terms_room r, rw (rule_terms r) at r.small, omega (arith, c.requires.1), c.requires.2)
+
+pub narrow-size-requires : goal.narrow-size-requires
+narrow-size-requires c =
+    let r = c.requires.0 in
+    let f = decoded c.args.map.now in
+    let count = c.terms_of-count.ensures in
+    omega (
+      arith,
+      c.keep_terms-end.ensures.1,
+      length_written f (terms_at c.args.file.now (c.args.at + 12) c.terms_of-count.result),
+      length_terms_at c.args.file.now c.terms_of-count.result (c.args.at + 12),
+      r.few,
+    )
+
+pub returns : goal.returns
+returns c =
+    let a = c.args in
+    let f = decoded a.map.now in
+    let r = c.requires.0 in
+    let told = c.struct_told-1.given in
+    rule_laid_as a.file.now a.to a.fate.mode _ _ _ (c.to_unsigned.ensures ∙ ap unsigned (to_z-of_z {w = w32} (record { sfits = told.1.0.1 })))
+    (c.to_unsigned-2.ensures ∙ ap unsigned (to_z-of_z {w = w32} (record { sfits = told.1.1.0.1 })))
+    (ap (λ k. terms_written f (terms_at a.file.now (a.at + 12) k)) c.terms_of-count.ensures ∙ ap (terms_written f) (sym (rule_terms r)))
+    (omega (arith, rule_room_lem r, c.requires.1)) c.keep_terms-end.ensures.0 c.keep_terms-end.ensures.1 c.narrow-size.ensures
+    c.put_bounds.ensures
+
+pub overflow_add-at : goal.overflow_add-at
+overflow_add-at c = omega (arith, rule_room_lem c.requires.0)
+
+pub overflow_add-to : goal.overflow_add-to
+overflow_add-to c = omega (arith, rule_room_lem c.requires.0, c.requires.1)
+
+pub put_bounds-requires : goal.put_bounds-requires
+put_bounds-requires c = omega (arith, rule_room_lem c.requires.0, c.requires.1)

@@ -1,0 +1,19 @@
+-- `break_of` meets its contract. The invariant: the sum of what the clauses before place k count, with that of those behind, is all. The measure is what
+-- is left.
+-- Assumes nothing.
+use Prim.Native.Nat.{◌-◌}
+use mathlib.Core.Path.{◌≡◌}
+use Rattle.plpb.specs.Equations.{clause_break}
+use Rattle.plpb.specs.Count.{capped, capped_break}
+use Rattle.counting.specs.Count.{number}
+use Rattle.format.specs.Tables.{plan_of_tables}
+use Rattle.effects.specs.Kept.{lent_bits}
+use Rattle.freely.proofs.Sums.{Summing}
+use Rattle.spoiling.proofs.break_of.Given as goal
+
+abbrev pub invariant-loop-k : goal.invariant-loop-k
+invariant-loop-k l =
+    Summing (plan_of_tables l.tables l.terms) l.x (clause_break (lent_bits l.tables l.terms l.assignment) l.x) (capped_break (plan_of_tables l.tables l.terms) (lent_bits l.tables l.terms l.assignment) l.x) l.k (number l.sum) × (capped (number l.sum) ≡ number l.sum)
+
+abbrev pub decreases-loop-k : goal.decreases-loop-k
+decreases-loop-k l = l.end - l.k
