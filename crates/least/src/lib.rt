@@ -1,4 +1,6 @@
 // Which variables of a clause have the least break count: each count is given up above the least so far.
+#![tactic(auto)]
+
 ghost use Rattle.std.specs.Prelude.{◌≡◌, [], ◌≤◌, ◌<◌, get_or};
 ghost use Rattle.plpb.specs.Count.{capped_break};
 ghost use Rattle.plpb.specs.Choice.{choosable, least_break, with_break};

@@ -1,5 +1,7 @@
 // The tables filled from an OPB text (document 02, T-02). The whole text is judged before a byte is written; then each section of the tables is filled by a
 // loop of its own, and last the order, from the others.
+#![tactic(auto)]
+
 ghost use Rattle.std.specs.Prelude.{◌≡◌, ◌≤◌, length, replicate};
 ghost use Rattle.words.specs.Words.{word_bytes};
 ghost use Rattle.words.specs.Writes.{front};

@@ -1,4 +1,6 @@
 // The lines of one rule, put into a lent buffer: those of a clause with no other rule, and those of the mapping τ.
+#![tactic(auto)]
+
 ghost use Rattle.std.specs.Prelude.{◌≡◌, ◌<◌, ◌≤◌, nat_abs};
 ghost use Rattle.words.specs.Words.{word_at};
 ghost use Rattle.format.specs.Limits.{max_bound};

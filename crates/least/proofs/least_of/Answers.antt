@@ -1,9 +1,7 @@
--- `least_of` meets its contract. The invariant: those of the first variables listed that have their least count are picked. The measure is what is left.
--- Assumes nothing.
-use borrow.Author.Rules.{rules}
+-- The goals that the search leaves.
 use Prim.Native.Nat.{ℕ, suc, ◌+◌, ◌-◌, ◌≤◌, ◌<◌}
 use native.Mathlib.Omega.{arith}
-use mathlib.Core.Path.{◌≡◌, refl, sym, ap, ◌∙◌}
+use mathlib.Core.Path.{◌≡◌, refl}
 use mathlib.Core.List.{List, []}
 use lib.ListN.{length, get_or, take, length-take}
 use lib.Seq.{take_all}
@@ -19,15 +17,7 @@ use Rattle.picks.proofs.Noting.{with_fewer, clause_low, count_word, list_few, li
 use Rattle.least.specs.declared.Best.{Best}
 use Rattle.least.specs.Best.{Offered}
 use Rattle.least.proofs.Leading.{Leading, leading_none, leading_next}
-use Rattle.least.proofs.least_of.Statement.{statement}
-use Rattle.least.proofs.least_of.Tie as tie
-
-abbrev invariant-loop : tie.invariant-loop
-invariant-loop tables terms assignment tallies marks₀ c first end best₀ i₀ marks best i =
-    (first ≤ i) × (i ≤ end) × Leading (plan_of_tables tables terms) (lent_bits tables terms assignment) (take (i - first) (choosable (plan_of_tables tables terms) (get_or (plan_of_tables tables terms).clauses c []))) marks₀ marks best
-
-abbrev decreases-loop : tie.decreases-loop
-decreases-loop tables terms assignment tallies marks₀ c first end best₀ i₀ marks best i = end - i
+use Rattle.least.proofs.least_of.Goals as goal
 
 module _ {tables terms assignment tallies s : List ℕ} {c : ℕ} (k : Pickable tables terms assignment tallies s c) {ahead n : ℕ} (e : ahead ≡ terms_ahead (plan_of_tables tables terms) c) (f : n ≡ word_at s (list_count_at c)) where
   abbrev xs : List ℕ
@@ -63,25 +53,39 @@ above_all : 4_294_967_296 ≡ suc cap
 unfolding cap
 above_all = refl
 
-pub least-of-spec : {M : Type 1} → statement M
-least-of-spec =
-    tie.close
-    (tie.spec
-    invariant-loop
-    decreases-loop
-    (λ c κs. (c.before.before.before.before.before.requires.kept.ready.laid, c.before.before.before.before.before.requires.there))
-    (λ c. omega (arith, c.terms-ahead.ensures, list_ends c.before.before.before.before.before.before.requires))
-    (λ c. omega (arith, clause_low c.before.before.before.before.before.before.before.requires.kept.ready.laid c.before.before.before.before.before.before.before.requires.there))
-    (λ c κs. omega (arith, clause_low c.before.before.before.before.before.before.before.requires.kept.ready.laid c.before.before.before.before.before.before.before.requires.there, c.before.before.before.before.before.before.before.requires.listed.room))
-    (λ c. let b = list_bounds c.before.before.before.before.before.before.before.before.requires c.before.before.terms-ahead.ensures c.index.ensures in omega (arith, b.0, b.1))
-    (λ c. search rules)
-    (λ c. search rules)
-    (λ c. (omega arith, omega arith, start c.before.before.before.before.before.before.before.before.before.requires c.before.before.before.terms-ahead.ensures c.before.index.ensures refl above_all refl))
-    (λ c κs. let i = c.before.before.loop.invariant in ready c.before.before.before.before.before.before.before.before.before.before.before.before.requires c.before.before.before.before.before.before.terms-ahead.ensures c.before.before.before.before.index.ensures i.0 c.before.loop-test.true i.2)
-    (λ c. let b = list_bounds c.before.before.before.before.before.before.before.before.before.before.before.before.before.before.before.requires c.before.before.before.before.before.before.before.before.before.terms-ahead.ensures c.before.before.before.before.before.before.before.index.ensures in omega (arith, b.0, b.1, c.before.before.before.before.loop-test.true))
-    (λ c. omega (arith, c.before.before.before.before.loop-test.true))
-    (λ c.
-    let i = c.before.before.before.before.before.loop.invariant in
-    (omega (arith, i.0), omega (arith, c.before.before.before.before.loop-test.true), again c.before.before.before.before.before.before.before.before.before.before.before.before.before.before.before.requires c.before.before.before.before.before.before.before.before.before.terms-ahead.ensures c.before.before.before.before.before.before.before.index.ensures i.0 c.before.before.before.before.loop-test.true i.2 c.before.before.offer.ensures))
-    (λ c. c.before.loop.invariant.2.picked.noted.size)
-    (λ c. end c.before.before.before.before.before.before.before.before.before.before.before.requires c.before.before.before.before.before.terms-ahead.ensures c.before.before.before.index.ensures c.loop-test.false c.before.loop.invariant.2))
+pub terms_ahead-first-requires : goal.terms_ahead-first-requires
+terms_ahead-first-requires c = (c.requires.kept.ready.laid, c.requires.there)
+
+pub overflow_add-first : goal.overflow_add-first
+overflow_add-first c = omega (arith, c.terms_ahead-first.ensures, list_ends c.requires)
+
+pub overflow_add-c : goal.overflow_add-c
+overflow_add-c c = omega (arith, clause_low c.requires.kept.ready.laid c.requires.there)
+
+pub index-requires : goal.index-requires
+index-requires c = omega (arith, clause_low c.requires.kept.ready.laid c.requires.there, c.requires.listed.room)
+
+pub overflow_add-end : goal.overflow_add-end
+overflow_add-end c = let b = list_bounds c.requires c.terms_ahead-first.ensures c.index.ensures in omega (arith, b.0, b.1)
+
+pub loop-i-init : goal.loop-i-init
+loop-i-init c = (omega arith, omega arith, start c.requires c.terms_ahead-first.ensures c.index.ensures refl above_all refl)
+
+pub offer-best-requires : goal.offer-best-requires
+offer-best-requires c = let i = c.loop-i.invariant in ready c.requires c.terms_ahead-first.ensures c.index.ensures i.0 c.loop-i-test.true i.2
+
+pub overflow_add-i : goal.overflow_add-i
+overflow_add-i c = let b = list_bounds c.requires c.terms_ahead-first.ensures c.index.ensures in omega (arith, b.0, b.1, c.loop-i-test.true)
+
+pub loop-i-smaller : goal.loop-i-smaller
+loop-i-smaller c = omega (arith, c.loop-i-test.true)
+
+pub loop-i-preserved : goal.loop-i-preserved
+loop-i-preserved c = let i = c.loop-i.invariant in
+    (omega (arith, i.0), omega (arith, c.loop-i-test.true), again c.requires c.terms_ahead-first.ensures c.index.ensures i.0 c.loop-i-test.true i.2 c.offer-best.ensures)
+
+pub shape_of-marks : goal.shape_of-marks
+shape_of-marks c = c.loop-i.invariant.2.picked.noted.size
+
+pub returns : goal.returns
+returns c = end c.requires c.terms_ahead-first.ensures c.index.ensures c.loop-i-test.false c.loop-i.invariant.2

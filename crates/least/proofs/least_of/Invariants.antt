@@ -1,0 +1,17 @@
+-- `least_of` meets its contract. The invariant: those of the first variables listed that have their least count are picked. The measure is what is left.
+-- Assumes nothing.
+use Prim.Native.Nat.{◌-◌, ◌≤◌}
+use mathlib.Core.List.{[]}
+use lib.ListN.{get_or, take}
+use Rattle.plpb.specs.Choice.{choosable}
+use Rattle.format.specs.Tables.{plan_of_tables}
+use Rattle.effects.specs.Kept.{lent_bits}
+use Rattle.least.proofs.Leading.{Leading}
+use Rattle.least.proofs.least_of.Given as goal
+
+abbrev pub invariant-loop-i : goal.invariant-loop-i
+invariant-loop-i l =
+    (l.first ≤ l.i) × (l.i ≤ l.end) × Leading (plan_of_tables l.tables l.terms) (lent_bits l.tables l.terms l.assignment) (take (l.i - l.first) (choosable (plan_of_tables l.tables l.terms) (get_or (plan_of_tables l.tables l.terms).clauses l.c []))) l.initial.marks l.marks l.best
+
+abbrev pub decreases-loop-i : goal.decreases-loop-i
+decreases-loop-i l = l.end - l.i

@@ -1,0 +1,51 @@
+-- `opb_read::fill_tables` meets its contract.
+-- Assumes nothing.
+use borrow.Author.Rules.{rules}
+use native.Mathlib.Omega.{arith}
+use mathlib.Core.Path.{ap, ◌∙◌}
+use lib.ListN.{length}
+use Rattle.tables.proofs.Whole.{three_long, behind_long, tables_whole, base_size_lem}
+use Rattle.opb_fill.proofs.Accepted.{lawful_text}
+use Rattle.opb_read.proofs.Whole.{first_variables, first_constraints, no_locks}
+use Rattle.opb_read.proofs.fill_tables.Goals as goal
+
+pub clause_section-requires : goal.clause_section-requires
+clause_section-requires c =
+    record { says = c.requires.says; clauses_value = (c.widen-clauses.ensures ∙ first_constraints _ c.requires.says _ c.first_line-first.ensures, search rules) }
+
+pub slice_bounds-put_no_locks-end : goal.slice_bounds-put_no_locks-end
+slice_bounds-put_no_locks-end c =
+    omega (
+      arith,
+      three_long _ (lawful_text _ _ c.requires.says) c.args.tables.now _ _ _ c.requires.table_size_in_bounds
+          c.objective_section.ensures c.clause_section.ensures c.rule_section-counted.ensures.2,
+      c.requires.table_size_in_bounds,
+    )
+
+pub put_head-requires : goal.put_head-requires
+put_head-requires c =
+    let q = lawful_text _ _ c.requires.says in
+    let rules = c.rule_section-counted.ensures in (
+      omega (
+        arith,
+        behind_long _ q c.args.tables.now _ _ _ c.requires.table_size_in_bounds
+            c.objective_section.ensures c.clause_section.ensures rules.2 _ (c.put_no_locks.ensures ∙ no_locks _),
+        c.requires.table_size_in_bounds,
+      ),
+      omega (arith, c.widen-clauses.ensures, first_constraints _ c.requires.says _ c.first_line-first.ensures, q.clause_count),
+      omega (arith, rules.0, q.rule_count),
+      omega (arith, rules.1, q.terms),
+    )
+
+pub returns : goal.returns
+returns c =
+    let first = c.first_line-first.ensures in
+    let rules = c.rule_section-counted.ensures in
+    tables_whole _ (lawful_text _ _ c.requires.says) c.args.tables.now _ _ _ c.requires.table_size_in_bounds
+    c.objective_section.ensures c.clause_section.ensures rules.2 _ (c.put_no_locks.ensures ∙ no_locks _) _
+    (first_variables _ c.requires.says _ first) (c.widen-clauses.ensures ∙ first_constraints _ c.requires.says _ first)
+    rules.0 rules.1 c.put_head.ensures
+
+pub shape_of-tables : goal.shape_of-tables
+shape_of-tables c =
+    ap length (returns c) ∙ base_size_lem _ (lawful_text _ _ c.requires.says) c.args.tables.now c.requires.table_size_in_bounds

@@ -1,0 +1,34 @@
+-- `opb_read::read_opb` meets its contract, case by case of the order of checks.
+-- Assumes nothing.
+use mathlib.Core.Path.{sym, ◌∙◌}
+use Rattle.tables.proofs.Ordered.{order_ready, order_left}
+use Rattle.opb_fill.proofs.Accepted.{lawful_text}
+use Rattle.opb_read.proofs.Whole.{says, small_tables, small_terms_lem, kept, filled}
+use Rattle.opb_read.proofs.read_opb.Goals as goal
+
+pub returns-in_default : goal.returns-in_default
+returns-in_default c = let whole = kept _ _ _ c.if-tables-lt-TABLES.false c.if-terms-lt-TERMS.false _ _ _ c.judge_text-verdict.ensures c.in_default.is in record { value = whole.0; tables_after = whole.1.0; terms_after = whole.1.1 }
+
+pub fill_tables-requires : goal.fill_tables-requires
+fill_tables-requires c = record { says = says _ (sym c.in-Accepted.is ∙ c.judge_text-verdict.ensures); table_size_in_bounds = c.if-tables-lt-TABLES.false }
+
+pub fill_terms-requires : goal.fill_terms-requires
+fill_terms-requires c = record { says = says _ (sym c.in-Accepted.is ∙ c.judge_text-verdict.ensures); term_size_in_bounds = c.if-terms-lt-TERMS.false }
+
+-- What stands in the two tables before the order is built.
+pub derive-requires : goal.derive-requires
+derive-requires c =
+    let said = says _ (sym c.in-Accepted.is ∙ c.judge_text-verdict.ensures) in
+    order_ready _ (lawful_text _ _ said) _ _ c.if-tables-lt-TABLES.false c.fill_tables.ensures c.fill_terms.ensures
+
+pub returns : goal.returns
+returns c =
+    let said = says _ (sym c.in-Accepted.is ∙ c.judge_text-verdict.ensures) in
+    let tables = order_left _ (lawful_text _ _ said) _ _ c.if-tables-lt-TABLES.false c.fill_tables.ensures c.fill_terms.ensures c.derive.ensures in
+    let whole = filled _ _ _ c.if-tables-lt-TABLES.false c.if-terms-lt-TERMS.false _ _ said tables c.fill_terms.ensures in record { value = whole.0; tables_after = whole.1.0; terms_after = whole.1.1 }
+
+pub returns-then-tables-lt-TABLES : goal.returns-then-tables-lt-TABLES
+returns-then-tables-lt-TABLES c = let whole = small_tables _ _ _ c.if-tables-lt-TABLES.true in record { value = whole.0; tables_after = whole.1.0; terms_after = whole.1.1 }
+
+pub returns-then-terms-lt-TERMS : goal.returns-then-terms-lt-TERMS
+returns-then-terms-lt-TERMS c = let whole = small_terms_lem _ _ _ c.if-terms-lt-TERMS.true in record { value = whole.0; tables_after = whole.1.0; terms_after = whole.1.1 }
