@@ -1,4 +1,6 @@
 // What a search answers, and the two lines of it.
+#![tactic(auto)]
+
 ghost use Rattle.std.specs.Prelude.{◌≡◌, ◌++◌, ◌≤◌, length};
 ghost use Rattle.words.specs.Words.{word_at};
 ghost use Rattle.words.specs.Writes.{front};

@@ -1,4 +1,6 @@
 // The lines of the clauses, put into a lent buffer.
+#![tactic(auto)]
+
 ghost use Rattle.std.specs.Prelude.{◌≡◌, ◌+◌, ◌*◌, ◌<◌, ◌≤◌, length};
 ghost use Rattle.words.specs.Words.{word_at};
 ghost use Rattle.format.specs.Layout.{clause_first_at, clause_count_at};

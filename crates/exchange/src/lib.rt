@@ -1,4 +1,6 @@
 // A race's settings are read from, and its answer is written to, its place in a buffer that has one for each race.
+#![tactic(auto)]
+
 ghost use Rattle.std.specs.Prelude.{◌≡◌, ◌+◌, ◌*◌, ◌/◌, ◌%◌, ◌≤◌, length};
 ghost use Rattle.words.specs.Writes.{front, put_words};
 ghost use Rattle.exchange.specs.Exchange.{settings_size, answer_size, settings_at, bits_of64, halves, answer_bytes};

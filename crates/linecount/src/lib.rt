@@ -1,4 +1,6 @@
 // How many variables and how many constraints a plan's text has. Neither depends on the terms of a rule.
+#![tactic(auto)]
+
 ghost use Rattle.std.specs.Prelude.{◌≡◌, cond, ℕ, ◌+◌, ◌*◌, ◌≤◌, ◌<◌, length};
 ghost use Rattle.plpb.specs.Lists.{sum_by};
 ghost use Rattle.words.specs.Words.{word_at, signed};

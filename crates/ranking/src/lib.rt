@@ -1,5 +1,7 @@
 // How Novelty+ ranks the variables to choose from: by what their flip mends less what it breaks, then by how long they are unflipped, then by number.
 // Of the ranking only the first two are kept.
+#![tactic(auto)]
+
 ghost use Rattle.std.specs.Prelude.{◌≡◌, List, [], ◌∷◌, ℕ, max, ◌+◌, ◌-◌, get_or};
 ghost use Rattle.plpb.specs.Plan.{Plan, Assignment};
 ghost use Rattle.plpb.specs.Count.{cap, given};

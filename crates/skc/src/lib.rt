@@ -1,5 +1,7 @@
 // The choice of a variable of a clause (Algorithm 2, SKC) over the clause's list: among those whose flip breaks nothing, else by the noise among the least
 // counts or among all. Of the marks only hints and picks change.
+#![tactic(auto)]
+
 ghost use Rattle.std.specs.Prelude.{◌≡◌};
 ghost use Rattle.plpb.specs.Choice.{pick_from, least_break, with_break, noisy_choice, skc_choice};
 ghost use Rattle.format.specs.Tables.{plan_of_tables};

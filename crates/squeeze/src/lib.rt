@@ -1,4 +1,6 @@
 // A plan file squeezed in its own buffer (document 02, T-12). All is decided on the untouched file; then list and file are written.
+#![tactic(auto)]
+
 ghost use Rattle.std.specs.Prelude.{◌≡◌, cond, ◌≤◌, eqb, pos, length};
 ghost use Rattle.plpb.specs.Lists.{any, is_empty, keep, row};
 ghost use Rattle.words.specs.Words.{word_at, word_bytes};

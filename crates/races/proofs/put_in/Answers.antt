@@ -35,7 +35,7 @@ loop-i-preserved c =
     let s = c.args in
     let l = c.loop-i in
     let h = in_list (length s.races.now) l.i c.loop-i-test.true in
-    (putting_next (parts_in s.p) s.races.now l.i h l.invariant.0 c.put_part.ensures, c.put_part.auto.0 ∙ l.invariant.1)
+    (putting_next (parts_in s.p) s.races.now l.i h l.invariant.0 c.put_part.ensures, c.put_part.auto.races ∙ l.invariant.1)
 
 -- src/lib.rt:136:1
 pub shape_of-races : goal.shape_of-races

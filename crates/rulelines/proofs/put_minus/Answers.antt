@@ -177,15 +177,15 @@ minus-near-requires c =
 
 pub put_two-requires : goal.put_two-requires
 put_two-requires c =
-    let next = to_z-of_z (record { sfits = c.plus-next.type_inv }) ∙ c.plus-next.ensures ∙ ap (λ z. z +ℤ pos 1) (read_bound_7 c) in
-    let far = to_z-of_z (record { sfits = c.minus-far.type_inv }) ∙ c.minus-far.ensures ∙ ap₂ ◌-ℤ◌ (read_high_7 c) (read_bound_7 c) in
-    let close = to_z-of_z (record { sfits = c.minus-near.type_inv }) ∙ c.minus-near.ensures ∙ ap₂ ◌-ℤ◌ next (read_low_7 c) in
+    let next = to_z-of_z {w = w32} (record { sfits = c.plus-next.type_inv }) ∙ c.plus-next.ensures ∙ ap (λ z. z +ℤ pos 1) (read_bound_7 c) in
+    let far = to_z-of_z {w = w32} (record { sfits = c.minus-far.type_inv }) ∙ c.minus-far.ensures ∙ ap₂ ◌-ℤ◌ (read_high_7 c) (read_bound_7 c) in
+    let close = to_z-of_z {w = w32} (record { sfits = c.minus-near.type_inv }) ∙ c.minus-near.ensures ∙ ap₂ ◌-ℤ◌ next (read_low_7 c) in
     let one = next_size (bound_7 c) c.requires.terms_fit.1 in
     let sums = greatest_size_lem c.requires.extremes in
     let others = least_size_lem c.requires.extremes in record {
       terms_fit = (
         c.requires.terms_fit.0,
-        small_by far (difference_small (greatest_total (ts_7 c)) (bound_7 c) (omega (arith, c.requires.0.1, sums))),
+        small_by far (difference_small (greatest_total (ts_7 c)) (bound_7 c) (omega (arith, c.requires.terms_fit.1, sums))),
         small_by (read_high_7 c) (omega (arith, sums)),
         small_by close (difference_small (near_7 c) (least_total (ts_7 c)) (omega (arith, one, others))),
         small_by next (omega (arith, one)),

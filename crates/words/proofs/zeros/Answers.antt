@@ -1,5 +1,4 @@
 -- The goals that the search leaves.
-use Prim.Native.Nat.{◌-◌}
 use native.Mathlib.Omega.{arith}
 use Rattle.words.proofs.Tests.{zeros_none, zeros_turn, zeros_done}
 use Rattle.words.proofs.zeros.Goals as goal
