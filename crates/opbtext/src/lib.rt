@@ -1,4 +1,6 @@
 // A plan's text put into a lent buffer: the first line, the objective, the clauses and the locks.
+#![tactic(auto)]
+
 ghost use Rattle.std.specs.Prelude.{◌≡◌, ◌++◌, ◌+◌, ◌*◌, ◌≤◌, ◌<◌, length};
 ghost use Rattle.words.specs.Words.{word_at};
 ghost use Rattle.format.specs.Layout.{table_size, lock_at};

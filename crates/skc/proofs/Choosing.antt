@@ -150,7 +150,7 @@ module _ (p : Plan) (a : Assignment) where
           rw (e, eq-eqb (capped_break p a x) (capped_break p a x) refl) (omega arith)
       at_most_lem (no k) =
           let e : min (capped_break p a x) l ≡ l = omega arith in
-          rw e (longer (eqb (capped_break p a x) l) x (with_break p a l xs) h)
+          subst (λ (m : ℕ). 0 < length (with_break p a m (x ∷ xs))) (sym e) (longer (eqb (capped_break p a x) l) x (with_break p a l xs) h)
 
   least_attained : (x : ℕ) (xs : List ℕ) → 0 < length (with_break p a (least_break p a (x ∷ xs)) (x ∷ xs))
   unfolding least_break keep with_break

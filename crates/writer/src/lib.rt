@@ -1,4 +1,6 @@
 // A loaded plan as an OPB text in a lent buffer (document 02, T-02). The text is measured by putting it into no buffer at all, then put.
+#![tactic(auto)]
+
 ghost use Rattle.std.specs.Prelude.{◌≡◌};
 ghost use Rattle.writer.specs.Calls.{write_refusal, write_length, text_after};
 

@@ -16,7 +16,10 @@ squeeze_by-requires c = record { accepts = accepts _ (sym c.in-Accepted.is ∙ c
 
 pub returns : goal.returns
 returns c =
-    is_squeezed _ _ _ _ _ c.if-old-lt-LIST.false (accepts _ (sym c.in-Accepted.is ∙ c.judge-verdict.ensures)) c.squeeze_by.ensures
+    let s = c.squeeze_by.ensures in
+    let whole =
+    is_squeezed _ _ _ _ _ c.if-old-lt-LIST.false (accepts _ (sym c.in-Accepted.is ∙ c.judge-verdict.ensures)) (s.answers, (s.file_after, s.after)) in
+    record { answers = whole.0; file_after = whole.1.0; after = whole.1.1 }
 
 pub slice_bounds-squeeze_by-end : goal.slice_bounds-squeeze_by-end
 slice_bounds-squeeze_by-end c = refl
