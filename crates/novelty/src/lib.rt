@@ -1,4 +1,6 @@
 // The choice of a variable by Novelty+ (T-09).
+#![tactic(auto)]
+
 ghost use Rattle.std.specs.Prelude.{◌≡◌, cond, List, ℕ, ◌/◌, ◌≤◌, ◌<◌, T, length};
 ghost use Rattle.plpb.specs.Lists.{all};
 ghost use Rattle.plpb.specs.Plan.{Plan, Assignment, is_variable};
