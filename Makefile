@@ -16,10 +16,7 @@ installed := bin/tent bin/tent-screen bin/tent-map bin/desk lib/libplanner.a lib
 .PHONY: all install uninstall check
 
 all:
-	rt staticlib planner
-	rt staticlib csv
-	rt staticlib races
-	rt check tent
+	tools/build planner csv races tent
 	examples/build built
 	cargo build --release --offline --quiet --manifest-path tests/Cargo.toml -p desk
 

@@ -1,4 +1,4 @@
-//! Links the proved archives where `rt staticlib` has written them, or in the folder that
+//! Links the proved archives where `tools/build` has put them, or in the folder that
 //! PLANNER_ARCHIVES names, with the calls of `src/archive.c`. Where they are not there yet the tool is
 //! built all the same: it then searches by the reference alone, and says so.
 

@@ -43,7 +43,7 @@ const BY: &str = "searched by the proved planner; the reference agrees\n";
 fn the_proved_archive_is_linked() {
     assert!(
         std::hint::black_box(PROVED),
-        "run `rt staticlib planner` and `rt staticlib csv`"
+        "run `tools/build planner csv`"
     );
 }
 

@@ -1,4 +1,4 @@
-//! Links the archives that `rt staticlib` writes. `.ci/run` makes them before it runs these tests.
+//! Links the archives that `tools/build` writes. `.ci/run` makes them before it runs these tests.
 
 use std::path::Path;
 
@@ -9,7 +9,7 @@ fn main() {
         let archive = archives.join(format!("lib{name}.a"));
         assert!(
             archive.exists(),
-            "no {name} archive: run `rt staticlib {name}` in the repository's root"
+            "no {name} archive: run `tools/build {name}` in the repository's root"
         );
         println!("cargo:rustc-link-lib=static={name}");
         println!("cargo:rerun-if-changed={}", archive.display());

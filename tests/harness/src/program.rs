@@ -71,7 +71,7 @@ pub fn printed(folder: &Path) -> String {
     let program = root().join("target/bin/tent");
     assert!(
         program.exists(),
-        "no target/bin/tent: run `rt check tent` in the repository's root"
+        "no target/bin/tent: run `tools/build tent` in the repository's root"
     );
     let output = Command::new(program)
         .current_dir(folder)

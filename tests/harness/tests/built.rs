@@ -26,16 +26,16 @@ fn newest_source() -> PathBuf {
 fn archives_and_program_are_newer_than_the_code() {
     let source = newest_source();
     for (built, command) in [
-        ("target/staticlib/libplanner.a", "rt staticlib planner"),
-        ("target/staticlib/libprobe.a", "rt staticlib probe"),
-        ("target/staticlib/libreplay.a", "rt staticlib replay"),
-        ("target/staticlib/libcsv.a", "rt staticlib csv"),
-        ("target/bin/tent", "rt check tent"),
+        ("target/staticlib/libplanner.a", "tools/build planner"),
+        ("target/staticlib/libprobe.a", "tools/build probe"),
+        ("target/staticlib/libreplay.a", "tools/build replay"),
+        ("target/staticlib/libcsv.a", "tools/build csv"),
+        ("target/staticlib/libraces.a", "tools/build races"),
+        ("target/bin/tent", "tools/build tent"),
     ] {
         assert!(
             changed(&root().join(built)) >= changed(&source),
-            "{built} is older than {}: run `{command}`; where that finds nothing changed, \
-             `touch {built}`",
+            "{built} is older than {}: run `{command}`",
             source.display()
         );
     }

@@ -8,8 +8,8 @@ use borrow.Author.Tests.{ne_eqb, lt-ltb, le-ltb}
 use Rattle.words.specs.Writes.{front}
 use Rattle.format.specs.Writer.{write}
 use Rattle.lists.specs.Refusals.{Refusal, accepted, site_rows, zone_rows, refusal_of, map_refusal}
-use Rattle.csv.specs.declared.Mapped.{Mapped}
-use Rattle.csv.specs.Mapping.{refusal_for, plan_of_lists, length_for, plan_after}
+use Rattle.mapping.specs.declared.Mapped.{Mapped}
+use Rattle.mapping.specs.Mapping.{refusal_for, plan_of_lists, length_for, plan_after}
 
 module _ (s z plan : List ℕ) where
   abbrev f : Refusal

@@ -1,13 +1,13 @@
--- `csv::planner_map_csv` meets its contract: 21, then what the lists meet, else the file.
+-- `mapping::planner_map_csv` meets its contract: 21, then what the lists meet, else the file.
 -- Assumes nothing.
 use borrow.Author.Rules.{rules}
 use native.Mathlib.Omega.{arith}
 use mathlib.Core.Path.{refl, sym, ap, ◌∙◌}
 use Rattle.lists.specs.Refusals.{Refusal, site_rows, zone_rows}
 use Rattle.lists.proofs.Accepted.{accepted_is}
-use Rattle.csv.proofs.Answers.{small_room, room, says_refused, says_accepted}
-use Rattle.csv.proofs.planner_map_csv.Statement.{statement}
-use Rattle.csv.proofs.planner_map_csv.Tie as tie
+use Rattle.mapping.proofs.Answers.{small_room, room, says_refused, says_accepted}
+use Rattle.mapping.proofs.planner_map_csv.Statement.{statement}
+use Rattle.mapping.proofs.planner_map_csv.Tie as tie
 
 returns : tie.Need-returns
 returns c =

@@ -19,7 +19,7 @@ use Rattle.lists.specs.Choices.{obeys_zones, carried}
 use Rattle.lists.specs.Refusals.{site_rows, zone_rows, refusal_of, map_refusal}
 use Rattle.lists.proofs.Solutions.{solutions, costs_metres}
 use Rattle.lists.proofs.Accepted.{accepted_read}
-use Rattle.csv.specs.Mapping.{sites_of, zones_of, plan_of_lists, refusal_for, length_for, plan_after}
+use Rattle.mapping.specs.Mapping.{sites_of, zones_of, plan_of_lists, refusal_for, length_for, plan_after}
 
 -- What is claimed of two lists that are not turned away.
 pub record Means (s z plan : List ℕ) : Type 0 where

@@ -1,6 +1,6 @@
 // From the mapper's two lists to a plan file: the call's C interface. include/mapper.h declares it.
 ghost use Rattle.std.specs.Prelude.{◌≡◌};
-ghost use Rattle.csv.specs.Mapping.{refusal_for, length_for, plan_after};
+ghost use Rattle.mapping.specs.Mapping.{refusal_for, length_for, plan_after};
 
 use draft::put_plan;
 use entries::judge;
