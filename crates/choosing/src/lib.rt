@@ -1,4 +1,6 @@
 // The choice that the settings name, SKC or Novelty+, over the clause's list.
+#![tactic(auto)]
+
 ghost use Rattle.plpb.specs.Choice.{choice_by};
 ghost use Rattle.format.specs.Tables.{plan_of_tables};
 ghost use Rattle.numbers.specs.Numbers.{numbers_of};

@@ -1,4 +1,6 @@
 // From the mapper's two lists to a plan file: the call's C interface. include/mapper.h declares it.
+#![tactic(auto)]
+
 ghost use Rattle.std.specs.Prelude.{◌≡◌};
 ghost use Rattle.mapping.specs.Mapping.{refusal_for, length_for, plan_after};
 
