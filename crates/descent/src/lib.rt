@@ -1,4 +1,6 @@
 // Calls with the added last clause O ≤ m, each find below the one before it.
+#![tactic(auto)]
+
 ghost use Rattle.std.specs.Prelude.{◌≡◌, ◌≤◌, ◌<◌, nat_abs};
 ghost use Rattle.plpb.specs.Plan.{floor_cost};
 ghost use Rattle.format.specs.Limits.{max_bound};

@@ -1,4 +1,6 @@
 // The answer of a search whose first call found nothing.
+#![tactic(auto)]
+
 ghost use Rattle.finds.specs.Whole.{Empty, Unfound};
 
 use progress::{Ending, Progress, Searched};

@@ -1,4 +1,6 @@
 // How far a search has come, what a call with the added clause comes to, and how a search ends.
+#![tactic(auto)]
+
 ghost use Rattle.std.specs.Prelude.{◌≡◌, ◌++◌, ◌≤◌, ◌<◌, nat_abs, length, take, drop};
 ghost use Rattle.plpb.specs.Search.{bound_in};
 ghost use Rattle.words.specs.Words.{word_at};

@@ -1,4 +1,6 @@
 // One call of the walk (Algorithm 1): tries, each with its start and its flips.
+#![tactic(auto)]
+
 ghost use Rattle.std.specs.Prelude.{◌≡◌, [], ◌+◌, ◌/◌, ◌≤◌, length};
 ghost use Rattle.plpb.specs.Search.{flipping, try, call as called};
 ghost use Rattle.format.specs.Tables.{plan_of_tables};

@@ -1,0 +1,44 @@
+-- `call_under` meets its contract: the bound is set, the call made, and its find copied out.
+-- Assumes nothing.
+use mir.Syntax.{w64}
+use native.Mathlib.Omega.{arith}
+use mathlib.Core.Path.{◌∙◌}
+use mir.Facts.{to_z-of_z}
+use Rattle.progress.proofs.Bounds.{bounded_long, bounded_rules, bounded_summable, bounded_word, under_bounded, under_startable, called_found, called_failed, called_short}
+use Rattle.descent.proofs.call_under.Goals as goal
+
+pub set_bound-requires : goal.set_bound-requires
+set_bound-requires c =
+    (bounded_long c.requires.0.bounded, bounded_rules c.requires.0.bounded, rw (to_z-of_z c.ranges.bound) c.requires.2)
+
+pub call-t-requires : goal.call-t-requires
+call-t-requires c = (
+  under_startable c.requires.0 c.args.bound c.requires.2 c.set_bound.ensures,
+  c.requires.1.within,
+  c.requires.1.flips,
+)
+
+pub keep_find-requires : goal.keep_find-requires
+keep_find-requires c =
+    let u = under_bounded c.requires.0 c.args.bound c.requires.2 c.set_bound.ensures in
+    (bounded_summable u, omega (arith, bounded_word u, c.requires.0.tried, c.call-t.auto.assignment), omega (arith, bounded_word u, c.requires.0.find))
+
+pub overflow_add-result : goal.overflow_add-result
+overflow_add-result c =
+    omega (arith, c.requires.1.finds, c.requires.1.within, c.well_formed.1.1.0)
+
+pub returns-in-Reached : goal.returns-in-Reached
+returns-in-Reached c =
+    called_found c.requires.0 c.args.bound c.requires.2 c.set_bound.ensures _ c.requires.1
+    c.in-Reached.is c.call-t.ensures (omega (arith, c.requires.0.tried, c.call-t.auto.assignment))
+    (to_z-of_z {w = w64} (record { sfits = c.keep_find.type_inv }) ∙ c.keep_find.ensures.0) c.keep_find.ensures.1
+
+pub returns-in-Failed : goal.returns-in-Failed
+returns-in-Failed c =
+    called_failed c.requires.0 c.args.bound c.requires.2 c.set_bound.ensures _ c.requires.1
+    c.call-t.ensures c.in-Failed.is
+
+pub returns-in-Short : goal.returns-in-Short
+returns-in-Short c =
+    called_short c.requires.0 c.args.bound c.requires.2 c.set_bound.ensures _ c.requires.1
+    c.call-t.ensures c.in-Short.is

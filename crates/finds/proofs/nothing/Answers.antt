@@ -1,0 +1,16 @@
+-- `nothing` meets its contract, case by case.
+-- Assumes nothing.
+use Rattle.finds.specs.Whole.{Empty}
+use Rattle.finds.proofs.nothing.Goals as goal
+
+pub returns-in-Reached : goal.returns-in-Reached
+unfolding Empty
+returns-in-Reached c = rw c.in-Reached.is c.empty.ensures
+
+pub returns-in-Failed : goal.returns-in-Failed
+unfolding Empty
+returns-in-Failed c = rw c.in-Failed.is c.empty-in-Failed.ensures
+
+pub returns-in-Short : goal.returns-in-Short
+unfolding Empty
+returns-in-Short c = rw c.in-Short.is c.empty-in-Short.ensures
