@@ -1,4 +1,6 @@
 // The first call of a search, with the plan alone.
+#![tactic(auto)]
+
 ghost use Rattle.settings.specs.Settings.{settings_of};
 ghost use Rattle.lending.specs.Work.{work};
 ghost use Rattle.finds.specs.Whole.{CallsFirst, Copyable};

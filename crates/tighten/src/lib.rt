@@ -1,4 +1,6 @@
 // The tightening (paper 000): calls with the added last clause O ≤ m, each find below the one before it.
+#![tactic(auto)]
+
 ghost use Rattle.std.specs.Prelude.{◌≡◌, ◌≤◌};
 ghost use Rattle.plpb.specs.Plan.{floor_cost};
 ghost use Rattle.settings.specs.Settings.{settings_of};
