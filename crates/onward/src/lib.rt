@@ -1,4 +1,6 @@
 // The search from its first find on.
+#![tactic(auto)]
+
 ghost use Rattle.std.specs.Prelude.{◌≡◌, drop};
 ghost use Rattle.format.specs.Tables.{table_size, term_size};
 ghost use Rattle.settings.specs.Settings.{settings_of};

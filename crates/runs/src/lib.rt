@@ -1,4 +1,6 @@
 // Runs of the search in a row, each over the next numbers of the generator. One run's numbers are written over those of the run before it.
+#![tactic(auto)]
+
 ghost use Rattle.std.specs.Prelude.{◌≤◌};
 ghost use Rattle.lending.specs.Lent.{lent_all};
 ghost use Rattle.figures.specs.Figures.{AtMost};

@@ -1,4 +1,6 @@
 // The search of tables that are known to fit: the first call with the plan alone, then the tightening.
+#![tactic(auto)]
+
 ghost use Rattle.std.specs.Prelude.{◌≡◌, drop};
 ghost use Rattle.format.specs.Tables.{plan_of_tables, table_size, term_size};
 ghost use Rattle.settings.specs.Settings.{settings_of};

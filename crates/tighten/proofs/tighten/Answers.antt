@@ -1,5 +1,6 @@
 -- `tighten` meets its contract: the mode's own tightening, and where LBS failed, linear from there.
 -- Assumes nothing.
+use borrow.Enum.Refused.{opened}
 use mathlib.Core.Path.{◌∙◌, sym, ap}
 use mir.Facts.{to_z-of_z}
 use Rattle.plpb.specs.Plan.{floor_cost}
@@ -18,7 +19,7 @@ returns-then-s-eq0 c =
 pub returns-in_default : goal.returns-in_default
 returns-in_default c =
     let e = c.descend-c.ensures in
-    (unfailed _ _ _ c.args.from _ _ _ _ c.stopped-in_default.ensures _ c.in_default.in_default-own.keys2 e.0, stopped_tracks _ _ c.stopped-in_default.ensures e.1, e.2)
+    (unfailed _ _ _ c.args.from _ _ _ _ c.stopped-in_default.ensures _ (opened c.in_default.in_default-own.keys2) e.0, stopped_tracks _ _ c.stopped-in_default.ensures e.1, e.2)
 
 pub descend-d-requires : goal.descend-d-requires
 descend-d-requires c =
