@@ -1,4 +1,6 @@
 // What is printed once a plan is loaded: the settings and the list of numbers are judged, and the plan is searched.
+#![tactic(auto)]
+
 ghost use Rattle.std.specs.Prelude.{◌≡◌, ◌≤◌, T, length};
 ghost use Rattle.plpb.specs.Search.{search as searchOf};
 ghost use Rattle.words.specs.Writes.{front};

@@ -1,4 +1,6 @@
 // Figures over many runs: what is lent and asked is tested once, the runs are made, and every buffer lent for writing is cleared.
+#![tactic(auto)]
+
 ghost use Rattle.std.specs.Prelude.{◌≡◌, ◌++◌, ◌≤◌, length, drop, replicate};
 ghost use Rattle.lending.specs.Lent.{lent_all};
 ghost use Rattle.trials.specs.Trials.{runs_refusal, trial};

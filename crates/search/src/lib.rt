@@ -1,4 +1,6 @@
 // The search with its tests: what is lent and set is tested, the plan is searched, the work tables are cleared.
+#![tactic(auto)]
+
 ghost use Rattle.std.specs.Prelude.{◌≡◌};
 ghost use Rattle.progress.specs.Bounds.{ending_of};
 ghost use Rattle.search.specs.Calls.{ending_number, Searches, HandsOut};
