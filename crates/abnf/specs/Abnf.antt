@@ -4,7 +4,7 @@
 use Rattle.std.specs.Prelude.{ℕ, ◌≡◌, true, List, [], ◌∷◌, ◌++◌}
 use Rattle.cells.specs.Grammar.{comma, cr, lf, quote, is_text, may_stand, Record}
 
--- non_escaped = *TEXTDATA
+-- non-escaped = *TEXTDATA
 pub data NonEscaped : List ℕ → Type 0 where
   nothing : NonEscaped []
   text : {b : ℕ} {bs : List ℕ} → is_text b ≡ true → NonEscaped bs → NonEscaped (b ∷ bs)
@@ -15,7 +15,7 @@ pub data Within : List ℕ → List ℕ → Type 0 where
   byte : {b : ℕ} {bs v : List ℕ} → may_stand b ≡ true → Within bs v → Within (b ∷ bs) (b ∷ v)
   quotes : {bs v : List ℕ} → Within bs v → Within (quote ∷ quote ∷ bs) (quote ∷ v)
 
--- field = (escaped / non_escaped), escaped = DQUOTE *(..) DQUOTE
+-- field = (escaped / non-escaped), escaped = DQUOTE *(..) DQUOTE
 pub data FieldText : List ℕ → List ℕ → Type 0 where
   non_escaped : {v : List ℕ} → NonEscaped v → FieldText v v
   escaped : {bs v : List ℕ} → Within bs v → FieldText (quote ∷ (bs ++ (quote ∷ []))) v

@@ -32,7 +32,7 @@ unfoldable pub before : ℕ → Field → Field
 before b broken = broken
 before b (field value rest) = field (b ∷ value) rest
 
--- non_escaped = *TEXTDATA
+-- non-escaped = *TEXTDATA
 unfoldable pub plain : List ℕ → Field
 plain [] = field [] []
 plain (b ∷ bs) = cond (is_text b) (before b (plain bs)) (field [] (b ∷ bs))
@@ -50,7 +50,7 @@ in_quotes false (b ∷ bs) =
     cond (eqb b quote) (in_quotes true bs) (cond (may_stand b) (before b (in_quotes false bs)) broken)
 in_quotes true (b ∷ bs) = cond (eqb b quote) (before quote (in_quotes false bs)) (field [] (b ∷ bs))
 
--- field = (escaped / non_escaped)
+-- field = (escaped / non-escaped)
 unfoldable pub field_of : List ℕ → Field
 field_of [] = field [] []
 field_of (b ∷ bs) = cond (eqb b quote) (in_quotes false bs) (plain (b ∷ bs))

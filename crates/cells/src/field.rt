@@ -66,7 +66,7 @@ fn is_text(b: u8) -> bool
     b <= 126
 }
 
-// non_escaped = *TEXTDATA
+// non-escaped = *TEXTDATA
 fn plain(s: &[u8], from: usize) -> Field
     requires { from ≤ length s.now }
     ensures { Reads s.now (gatheredOf no_bytes (plain_of (drop from s.now))) result }
@@ -153,7 +153,7 @@ fn quoted(s: &[u8], from: usize) -> Field
     broken(s.len())
 }
 
-// field = escaped / non_escaped
+// field = escaped / non-escaped
 fn read_field(s: &[u8], at: usize) -> Field
     requires { at ≤ length s.now }
     ensures { Reads s.now (gatheredOf no_bytes (field_of (drop at s.now))) result }

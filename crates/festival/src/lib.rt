@@ -1,5 +1,7 @@
 // Up to 8 races searched one after another, each with its part of one list of numbers. Each answer and assignment goes to its race's place in a buffer
 // that has one for each race; the work tables serve every race.
+#![tactic(auto)]
+
 ghost use Rattle.std.specs.Prelude.{◌≡◌, List, [], ◌∷◌, ℕ, ◌+◌, ◌*◌, ◌/◌, ◌≤◌, ◌<◌, length, get_or};
 ghost use Rattle.format.specs.Assignment.{assignment_size};
 ghost use Rattle.division.specs.Split.{refusal_after, parts_after};
@@ -101,7 +103,7 @@ fn race_one(
         (works work_tables.new work_terms.new work_assignment.new work_tallies.new work_marks.new)
         ≡ race_once i
         (record {
-          tables = tables.entry.now;
+          tables = tables.now;
           terms = terms.now;
           numbers = numbers.now;
           assignment = place assignment_size i assignments.old;

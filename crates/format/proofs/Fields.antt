@@ -1,4 +1,4 @@
--- One field of a file: what it is for a field to meet no condition, and what reading does then. Each law follows `fault` and `readFrom` by cases.
+-- One field of a file: what it is for a field to meet no condition, and what reading does then. Each law follows `fault` and `read_from` by cases.
 use Prim.Native.Nat.{ℕ, zero, suc, ◌+◌, ◌≤◌}
 use mathlib.Core.Path.{◌≡◌, refl, sym}
 use mathlib.Core.Bool.{Bool, true, false, not}

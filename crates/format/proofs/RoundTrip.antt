@@ -269,7 +269,7 @@ file_read between p l behind =
     let enough : suc (steps [] p.clauses) < size - 2 = omega (arith, length_file_with between p) in
     rw (n, whole_read p l (size - 2) enough between (behind (size - 2) enough l))
 
--- What `lockField` writes is such a field, or nothing.
+-- What `lock_field` writes is such a field, or nothing.
 written_behind :
     (p : Plan) (l : LawfulPlan p) (left : ℕ) (enough : suc (steps [] p.clauses) < left) (ks : List Lock) → p.locks ≡ ks
     → Behind p l left enough (lock_field ks)

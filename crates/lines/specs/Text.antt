@@ -5,7 +5,7 @@ pub use Rattle.texts.specs.Texts.{digit}
 unfoldable pub use Rattle.texts.specs.Texts.{text, decimal_in, decimal, signed_decimal, line}
 use Rattle.plpb.specs.Search.{Ending, floor, ended, none, short_found, short_none, Reached, failed, reached, Answer}
 
--- The ending of a number (`endingNumber` of the search's contract); one that is not among them counts as the last.
+-- The ending of a number (`ending_number` of the search's contract); one that is not among them counts as the last.
 unfoldable pub ending_of : ℕ → Ending
 ending_of n = cond (eqb n 1) floor (cond (eqb n 2) ended (cond (eqb n 3) none (cond (eqb n 4) short_found short_none)))
 
@@ -13,7 +13,7 @@ unfoldable pub ending_word : Ending → List ℕ
 ending_word floor = text "floor"
 ending_word ended = text "ended"
 ending_word none = text "none"
-ending_word short_found = text "short_found"
+ending_word short_found = text "short-found"
 ending_word short_none = text "short-none"
 
 -- "It prints ending, cost, finds, flips, numbers used"

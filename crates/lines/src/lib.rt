@@ -71,7 +71,7 @@ fn put_signed(out: &mut [u8], at: usize, v: i64, end: u8) -> usize
     put_number(out, at, n, end)
 }
 
-// An ending's word. 1 is floor, 2 ended, 3 none, 4 short_found, 5 short-none.
+// An ending's word. 1 is floor, 2 ended, 3 none, 4 short-found, 5 short-none.
 fn put_ending(out: &mut [u8], ending: u32) -> usize
     requires { 12 ≤ length out.old }
     ensures { (out.new ≡ front (ending_word (ending_of ending) ++ (32 ∷ [])) out.old)
@@ -81,7 +81,7 @@ fn put_ending(out: &mut [u8], ending: u32) -> usize
         1 => put_word(out, b"floor", SPACE),
         2 => put_word(out, b"ended", SPACE),
         3 => put_word(out, b"none", SPACE),
-        4 => put_word(out, b"short_found", SPACE),
+        4 => put_word(out, b"short-found", SPACE),
         _ => put_word(out, b"short-none", SPACE),
     }
 }

@@ -1,5 +1,5 @@
--- Paper 004, section 4: (16) and (17) say W⁻ ≡ [w₁a₁, .., wₘaₘ]u, (18) and (19) say W⁺ ≡ l[w₁a₁, .., wₘaₘ], (20) to (22) say 𝓛 ≡ W⁺ ∧ W⁻, and (15) says
--- that some 𝓛 is true.
+-- Paper 004, section 4: (16) and (17) say W⁻ ≡ [w₁a₁, .., wₘaₘ]u, (18) and (19) say W⁺ ≡ l[w₁a₁, .., wₘaₘ], (20) to (22) say W ≡ W⁺ ∧ W⁻, and (15) says
+-- that some W is true.
 -- Assumes nothing.
 use Prim.Native.Nat.{ℕ, zero, suc, ◌+◌, ◌≤◌, ◌<◌, zero-le}
 use native.Mathlib.Omega.{arith}

@@ -42,7 +42,7 @@ straight r = lower_line r.lower r.terms ++ upper_line r.upper r.terms
 
 -- ---- a clause with 'or'
 
--- "new variables after n for each rule", "with W⁺, W⁻, 𝓛 numbered by rule": those of a rule that has k variables before it.
+-- "new variables after n for each rule", "with W⁺, W⁻, W numbered by rule": those of a rule that has k variables before it.
 abbrev pub plus_atom : ℕ → ℕ
 plus_atom k = k + 1
 
@@ -72,7 +72,7 @@ plus_lines x (present l) ts =
     ∷ leq (ts ++ (weighted (l -ℤ pos 1 -ℤ greatest_total ts) x ∷ [])) (l -ℤ pos 1)
     ∷ []
 
--- (20), (21) and (22): 𝓛 ≡ W⁺ ∧ W⁻.
+-- (20), (21) and (22): W ≡ W⁺ ∧ W⁻.
 unfoldable pub both_lines : ℕ → List Line
 both_lines k =
     geq (weighted (pos 1) (plus_atom k) ∷ weighted (negsuc 0) (rule_atom k) ∷ []) (pos 0)

@@ -89,7 +89,7 @@ unfoldable pub bound_in : Mode → ℤ → ℤ → ℤ
 bound_in linear l v = linear_bound v
 bound_in lbs l v = lbs_bound l v
 
--- "Endings: floor (v = l(O)), ended, none (first call failed), short_found, short_none (numbers gone)."
+-- "Endings: floor (v = l(O)), ended, none (first call failed), short-found, short-none (numbers gone)."
 pub data Ending : Type 0 where
   floor : Ending
   ended : Ending

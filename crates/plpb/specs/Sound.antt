@@ -33,7 +33,7 @@ unfoldable pub falling : Plan → List Assignment → Bool
 falling p [] = true
 falling p (b ∷ before) = costs_less p b before and falling p before
 
--- The endings that say that there is no plan: "none (first call failed)" and "short_none (numbers gone)".
+-- The endings that say that there is no plan: "none (first call failed)" and "short-none (numbers gone)".
 unfoldable pub no_plan : Ending → Bool
 no_plan floor = false
 no_plan ended = false
@@ -60,7 +60,7 @@ pub record Sound (s : Settings) (p : Plan) (ns : List ℕ) : Type 0 where
   pub none_only : no_plan (search s p ns).ending ≡ not (any (λ a. satisfies a p) (looks_of s p ns))
   -- "none (first call failed)"
   pub none_exactly : ((search s p ns).ending ≡ none) ↔ ((m : Mark) × (run (call s p) ns begin ≡ ends failed m))
-  -- "short_none (numbers gone)": before the first call returned.
+  -- "short-none (numbers gone)": before the first call returned.
   pub short_none_exactly : ((search s p ns).ending ≡ short_none) ↔ ((m : Mark) × (run (call s p) ns begin ≡ short m))
   -- "floor (v = l(O))": exactly where the last find costs l(O).
   pub floor_exactly : ((search s p ns).ending ≡ floor) ↔ ((a : Assignment) × ((search s p ns).assignment ≡ reached a) × (cost p a ≡ floor_cost p))

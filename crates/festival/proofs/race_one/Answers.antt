@@ -1,0 +1,18 @@
+-- `festival::race_one` meets its contract: what the search promises, at the race's places.
+-- Assumes nothing.
+use Rattle.festival.specs.Own.{works}
+use Rattle.festival.proofs.Racing.{race_made}
+use Rattle.festival.proofs.race_one.Reads as reads
+use Rattle.festival.proofs.race_one.Lts as lts
+use Rattle.exchange.proofs.put_answer.Reads as put-answer-reads
+use Rattle.search.proofs.search.Reads as search-reads
+use Rattle.festival.proofs.race_one.Goals as goal
+
+-- src/lib.rt:88:1
+pub returns : goal.returns
+returns c =
+    let a = c.args in
+    let s = c.search-r in
+    race_made a.i a.tables.now a.terms.now a.numbers.now a.s a.assignments.now a.answers.now
+    (works a.work_tables.now a.work_terms.now a.work_assignment.now a.work_tallies.now a.work_marks.now)
+    c.requires.0 c.requires.1 s.ensures.0 s.auto.1.1.1.1.0 c.put_answer.ensures
