@@ -1,4 +1,6 @@
 // What the program prints for the contents of its three files (document 01, "The program and its two lines").
+#![tactic(auto)]
+
 ghost use Rattle.std.specs.Prelude.{◌≡◌, ◌≤◌, length};
 ghost use Rattle.words.specs.Writes.{front};
 ghost use Rattle.format.specs.Tables.{table_size, term_size};

@@ -24,5 +24,5 @@ returns c =
     (buffers a.assignments.now a.answers.now
     (works a.work_tables.now a.work_terms.now a.work_assignment.now a.work_tallies.now a.work_marks.now))
     (room_refusal (length a.settings.now) (length a.assignments.now) (length a.answers.now)) (length a.numbers.now / 4) c.plan_all-p.result
-    c.stakes_in-stakes.ensures c.plan_all-p.ensures.0 c.plan_all-p.ensures.1 c.put_in.ensures in
-    (r.0, (r.1, r.2))
+    c.stakes_in-stakes.ensures c.plan_all-p.ensures.by_index c.plan_all-p.ensures.work_marks_after c.put_in.ensures in
+    record { value = r.0; races_after = r.1; work_marks_after = r.2 }

@@ -92,13 +92,13 @@ loop-i-preserved c =
           p.count p.first p.length (buffers a.assignments.now a.answers.now
           (works a.work_tables.now a.work_terms.now a.work_assignment.now a.work_tallies.now a.work_marks.now)) l.i h (omega (arith, n, f.race)) (m ∙ sym n) f.assignment l.invariant.0
           c.race_at.ensures,
-      k.1.1.1.1.1.1.1.1.1.1.1.1.1.1.1.1.1.1.1.1.1.0 ∙ l.invariant.1,
-      k.1.1.1.1.1.1.1.1.1.1.1.1.1.1.1.1.1.1.1.1.1.1.0 ∙ l.invariant.2,
-      k.1.1.1.1.1.1.1.1.1.1.1.1.1.1.1.1.1.1.1.1.1.1.1.0 ∙ l.invariant.3,
-      k.1.1.1.1.1.1.1.1.1.1.1.1.1.1.1.1.1.1.1.1.1.1.1.1.0 ∙ l.invariant.4,
-      k.1.1.1.1.1.1.1.1.1.1.1.1.1.1.1.1.1.1.1.1.1.1.1.1.1.0 ∙ l.invariant.5,
-      k.1.1.1.1.1.1.1.1.1.1.1.1.1.1.1.1.1.1.1.1.1.1.1.1.1.1.0 ∙ l.invariant.6,
-      k.1.1.1.1.1.1.1.1.1.1.1.1.1.1.1.1.1.1.1.1.1.1.1.1.1.1.1.0 ∙ l.invariant.7,
+      k.assignments ∙ l.invariant.1,
+      k.answers ∙ l.invariant.2,
+      k.work_tables ∙ l.invariant.3,
+      k.work_terms ∙ l.invariant.4,
+      k.work_assignment ∙ l.invariant.5,
+      k.work_tallies ∙ l.invariant.6,
+      k.work_marks ∙ l.invariant.7,
     )
 
 -- src/lib.rt:194:1

@@ -15,4 +15,4 @@ returns c =
     let s = c.search-r in
     race_made a.i a.tables.now a.terms.now a.numbers.now a.s a.assignments.now a.answers.now
     (works a.work_tables.now a.work_terms.now a.work_assignment.now a.work_tallies.now a.work_marks.now)
-    c.requires.0 c.requires.1 s.ensures.0 s.auto.1.1.1.1.0 c.put_answer.ensures
+    c.requires.0 c.requires.1 s.ensures.searches s.auto.assignment c.put_answer.ensures
