@@ -1,5 +1,7 @@
 // The planner's C interface: numbers and byte slices in, numbers out. include/planner.h declares it.
 // Each function promises what the function that it calls promises.
+#![tactic(auto)]
+
 ghost use Rattle.std.specs.Prelude.{◌≡◌, [], ◌∷◌, ◌/◌, length};
 ghost use Rattle.counting.specs.Count.{count_words, marked_words};
 ghost use Rattle.tallies.specs.Calls.{open_refusal, open_tallies, call_refusal, flip_refusal, flip_rules, flip_assignment, flip_tallies, counts_break, counts_make};
