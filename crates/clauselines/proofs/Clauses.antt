@@ -3,7 +3,7 @@
 use Prim.Native.Nat.{ℕ, zero, suc, ◌+◌, ◌*◌, ◌-◌, ◌≤◌, ◌<◌, zero-le}
 use native.Mathlib.Nat.{add-zero, add_assoc}
 use native.Mathlib.Omega.{arith}
-use mathlib.Core.Path.{◌≡◌, refl, sym, ap, ap₂, ◌∙◌}
+use mathlib.Core.Path.{◌≡◌, refl, sym, ap, ap₂, subst, ◌∙◌}
 use mathlib.Core.Bool.{true, false, cond}
 use mathlib.Core.List.{List, [], ◌∷◌, ◌++◌, map, append-nil}
 use lib.Dec.{eqb}
@@ -19,6 +19,7 @@ use Rattle.spelling.specs.Overlay.{Puts, Room}
 use Rattle.spelling.proofs.Puts.{Left, left_start, left_more, left_room, left_done}
 use Rattle.constraints.specs.Bytes.{lines_bytes}
 use Rattle.constraints.proofs.Bytes.{lines_none, lines_append}
+use Rattle.rulelines.specs.Rules.{RuleFits}
 use Rattle.clauselines.specs.Clauses.{atom_count, rules_in, clauses_in, RulesFit, ClauseFits, ClausesFit}
 use Rattle.clauselines.proofs.Rules.{length_rules}
 
@@ -131,3 +132,23 @@ atom_small first n h = by (eqb n 1)
     by : (b : _) → cond b 0 (3 * n) ≤ 3_072
     by true = zero-le
     by false = omega arith
+
+-- What a clause's entry says, as it is read.
+module _ (tables terms : List ℕ) (c k : ℕ) {first count : ℕ} (p : first ≡ word_at tables (clause_first_at c)) (q : count ≡ word_at tables (clause_count_at c)) where
+  pub read_rules : ClauseFits tables terms c k → RulesFit tables terms first count k
+  read_rules h = rw (p, q) h.rules
+
+  pub read_first : count ≡ 1 → ClauseFits tables terms c k → RuleFits tables terms first
+  read_first e h = subst (λ (n : ℕ). RuleFits tables terms n) (add-zero first) ((read_rules h).each 0 (omega (arith, e)))
+
+  pub read_single : count ≡ 1 → lines_bytes (straight (rule_of (word_at tables) (word_at terms) first))
+      ≡ lines_bytes (clause_lines k (clause_of (word_at tables) (word_at terms) c))
+  read_single e =
+      ap (λ (n : ℕ). lines_bytes (straight (rule_of (word_at tables) (word_at terms) n))) p
+      ∙ ap lines_bytes (sym (single_lines (word_at tables) (word_at terms) c k (sym q ∙ e)))
+
+  pub read_several : (count ≡ 1 → ⊥) → lines_bytes (or_lines k (rules_in (word_at tables) (word_at terms) first count))
+      ≡ lines_bytes (clause_lines k (clause_of (word_at tables) (word_at terms) c))
+  read_several h =
+      ap₂ (λ (n m : ℕ). lines_bytes (or_lines k (rules_in (word_at tables) (word_at terms) n m))) p q
+      ∙ ap lines_bytes (sym (several_lines (word_at tables) (word_at terms) c k (λ e. h (q ∙ e))))

@@ -20,10 +20,8 @@ fn put_atoms(out: &mut [u8], at: usize, count: usize, k: usize) -> usize
     ensures { Puts (sum_bytes (atom_terms k count)) at out.old out.new result }
 {
     let mut next = at;
-    let mut i = 0;
-    while i < count {
+    for i in 0..count {
         next = put_term(out, next, 1, k + 3 * i + 3);
-        i += 1;
     }
     next
 }
@@ -43,10 +41,8 @@ fn put_rules(
         out.old out.new result }
 {
     let mut next = at;
-    let mut i = 0;
-    while i < count {
+    for i in 0..count {
         next = put_rule(out, next, tables, terms, first + i, k + 3 * i);
-        i += 1;
     }
     next
 }
@@ -106,11 +102,9 @@ pub fn put_clauses(out: &mut [u8], at: usize, tables: &[u8], terms: &[u8]) -> us
     let clauses = index(tables, 1);
     let mut next = at;
     let mut k = index(tables, 0);
-    let mut c = 0;
-    while c < clauses {
+    for c in 0..clauses {
         next = put_clause(out, next, tables, terms, c, k);
         k = k + new_atoms(tables, c);
-        c += 1;
     }
     next
 }

@@ -6,6 +6,9 @@ use mathlib.Core.Path.{◌≡◌, refl, sym, ap, ap₂, ◌∙◌}
 use mathlib.Core.Bool.{Bool, true, false, cond}
 use mathlib.Core.List.{List, [], ◌∷◌, ◌++◌, map, append_assoc, append-nil}
 use lib.IntN.{ℤ, pos, negsuc, nat_abs, neg_ℤ, ◌-ℤ◌}
+use mir.Facts.{to_z-of_z}
+use mir.Syntax.{w32}
+use mir.Val.{SFits, to_z, of_z}
 use Rattle.plpb.specs.Lists.{keep, concat}
 use Rattle.plpb.specs.Plan.{Term}
 use Rattle.opb.specs.Spell.{spell_line}
@@ -43,6 +46,10 @@ sided_bytes b ts w x z =
     ∙ ap (λ l. l ++ end_bytes false (turned b z)) (sum_append (map (turned_term b) ts) (turned_term b (weighted w x) ∷ []))
     ∙ append_assoc (sum_bytes (map (turned_term b) ts)) (sum_bytes (turned_term b (weighted w x) ∷ [])) (end_bytes false (turned b z))
     ∙ ap (λ t. sum_bytes (map (turned_term b) ts) ++ (sum_bytes (t ∷ []) ++ end_bytes false (turned b z))) (turned_weighted b w x)
+
+-- A number that was turned, as the machine holds it.
+pub turned_held : (b : Bool) {v r : ℤ} → SFits w32 r → SFits w32 v → r ≡ turned b (to_z w32 (of_z w32 v)) → to_z w32 (of_z w32 r) ≡ turned b v
+turned_held b f g e = to_z-of_z f ∙ e ∙ ap (turned b) (to_z-of_z g)
 
 pub turned_zero : (b : Bool) → turned b (pos 0) ≡ pos 0
 unfolding turned

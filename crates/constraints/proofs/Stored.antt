@@ -1,9 +1,9 @@
 -- Terms that stand in a table, one after another.
 -- Assumes nothing.
 use Prim.Native.Nat.{ℕ, zero, suc, ◌+◌, ◌*◌, ◌-◌, ◌≤◌, ◌<◌}
-use native.Mathlib.Nat.{le_refl}
+use native.Mathlib.Nat.{le_refl, add-zero}
 use native.Mathlib.Omega.{arith}
-use mathlib.Core.Path.{◌≡◌, refl, sym, ap, ◌∙◌}
+use mathlib.Core.Path.{◌≡◌, refl, sym, ap, ap₂, ◌∙◌}
 use mathlib.Core.Bool.{Bool, true, false}
 use mathlib.Core.List.{List, [], ◌∷◌, ◌++◌, map}
 use lib.IntN.{ℤ, pos, negsuc, nat_abs}
@@ -21,8 +21,8 @@ use Rattle.opb.specs.Tau.{weighted, negated}
 use Rattle.spelling.specs.Overlay.{Puts, Room}
 use Rattle.spelling.proofs.Puts.{Left, left_start, left_more, left_room, left_done}
 use Rattle.extremes.specs.Terms.{terms_in, TermsFit}
-use Rattle.extremes.proofs.Terms.{terms_none, terms_cons, term_passes}
-use Rattle.constraints.specs.Bytes.{sum_bytes, turned, turned_term}
+use Rattle.extremes.proofs.Terms.{terms_none, terms_cons, term_passes, term_small}
+use Rattle.constraints.specs.Bytes.{sum_bytes, turned, turned_term, Small}
 use Rattle.constraints.proofs.Bytes.{sum_none, sum_cons}
 
 -- A weight whose bits are 0, and one whose bits are not.
@@ -43,6 +43,23 @@ stored_term false g i = refl
 -- What is put from term i on.
 abbrev pub bytes_from : Bool → (ℕ → ℕ) → ℕ → ℕ → List ℕ
 bytes_from b g i k = sum_bytes (map (turned_term b) (terms_in g i k))
+
+-- A term's weight and variable as they are read.
+held_weight : {m n : ℕ} {w : ℤ} → SFits w32 w → w ≡ signed n → n ≡ m → to_z w32 (of_z w32 w) ≡ signed m
+held_weight f e h = to_z-of_z f ∙ e ∙ ap signed h
+
+stored_small : (terms : List ℕ) (i : ℕ) → TermsFit terms i 1 → Small (signed (word_at terms (2 * i + 1)))
+unfolding term_of
+stored_small terms i f = let h = term_small (word_at terms) i 1 0 f.small (omega arith) in omega (arith, rw (add-zero i) at h)
+
+pub read_small : {terms : List ℕ} {i n : ℕ} {w : ℤ} → TermsFit terms i 1 → SFits w32 w → w ≡ signed n → n ≡ word_at terms (2 * i + 1)
+    → Small (to_z w32 (of_z w32 w))
+read_small {terms} {i} t f e h = rw (held_weight f e h) (stored_small terms i t)
+
+pub term_read : (b : Bool) (g : ℕ → ℕ) (i : ℕ) {n x : ℕ} {w r : ℤ} → SFits w32 w → w ≡ signed n → n ≡ g (2 * i + 1) → SFits w32 r
+    → r ≡ turned b (to_z w32 (of_z w32 w)) → x ≡ g (2 * i) → sum_bytes (weighted (to_z w32 (of_z w32 r)) x ∷ []) ≡ bytes_from b g i 1
+term_read b g i f e h k t z =
+    ap₂ (λ w x. sum_bytes (weighted w x ∷ [])) (to_z-of_z k ∙ t ∙ ap (turned b) (held_weight f e h)) z ∙ ap sum_bytes (sym (stored_term b g i))
 
 from_none : (b : Bool) (g : ℕ → ℕ) (i : ℕ) → bytes_from b g i 0 ≡ []
 from_none b g i = ap (λ ts. sum_bytes (map (turned_term b) ts)) (terms_none g i) ∙ sum_none

@@ -79,10 +79,8 @@ fn put_terms(
         out.old out.new result }
 {
     let mut next = at;
-    let mut i = first;
-    while i < first + count {
+    for i in first..first + count {
         next = put_stored(out, next, terms, i, turn);
-        i += 1;
     }
     next
 }

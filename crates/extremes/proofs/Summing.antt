@@ -7,6 +7,9 @@ use mathlib.Core.Path.{◌≡◌, refl, sym, ap, ap₂, ◌∙◌}
 use mathlib.Core.Bool.{Bool, true, false}
 use mathlib.Core.List.{List, [], ◌∷◌}
 use lib.IntN.{ℤ, pos, negsuc, nat_abs, ◌+ℤ◌}
+use mir.Facts.{to_z-of_z}
+use mir.Syntax.{w32}
+use mir.Val.{SFits, to_z, of_z}
 use Rattle.plpb.specs.Lists.{all}
 use Rattle.plpb.specs.Plan.{Term, negative_part, positive_part, least_total, greatest_total}
 use Rattle.words.specs.Words.{signed}
@@ -51,28 +54,35 @@ module _ (b : Bool) (g : ℕ → ℕ) (first count : ℕ) where
       let f : count - left ≡ count = omega arith in
       (s.is ∙ ap₂ (λ i k. extreme_of b (terms_in g i k)) e f, omega (arith, s.size))
 
-  module _ {left : ℕ} {sum w : ℤ} (small : all (λ t. weight_lawful t.weight) (terms_in g first count) ≡ true) (h : 0 < left)
-      (s : Summing b g first count left sum) (is-weight : w ≡ signed (g (2 * (first + (left - 1)) + 1))) where
-    term_is : w ≡ (term_of g (first + (left - 1))).weight
+  module _ {left : ℕ} {sum p : ℤ} (small : all (λ t. weight_lawful t.weight) (terms_in g first count) ≡ true) (h : 0 < left)
+      (s : Summing b g first count left sum) (is-part : p ≡ part_of b (signed (g (2 * (first + (left - 1)) + 1)))) where
+    term_part : p ≡ part_of b (term_of g (first + (left - 1))).weight
     unfolding term_of
-    term_is = is-weight
+    term_part = is-part
 
-    pub part_small : nat_abs (part_of b w) ≤ 1_000_000
-    part_small = omega (arith, part_size b w, ap nat_abs term_is, term_small g first count (left - 1) small (omega (arith, h, s.within)))
+    part_small : nat_abs p ≤ 1_000_000
+    part_small =
+        omega (arith, part_size b (term_of g (first + (left - 1))).weight, ap nat_abs term_part, term_small g first count (left - 1) small (omega (arith, h, s.within)))
 
-    pub sum_small : count ≤ 512 → nat_abs (part_of b w) + nat_abs sum < 2_147_483_648
+    pub sum_small : count ≤ 512 → nat_abs p + nat_abs sum < 2_147_483_648
     sum_small few = omega (arith, part_small, s.size)
 
-    pub summing_more : {r : ℤ} → r ≡ part_of b w +ℤ sum → Summing b g first count (left - 1) r
+    pub summing_more : {r : ℤ} → r ≡ p +ℤ sum → Summing b g first count (left - 1) r
     summing_more {r} e =
         let next : suc (first + (left - 1)) ≡ first + left = omega arith in
         let more : count - (left - 1) ≡ suc (count - left) = omega (arith, h, s.within) in
         record {
           within = omega (arith, s.within);
           is = e
-              ∙ ap₂ (λ v z. part_of b v +ℤ z) term_is (s.is ∙ ap (λ i. extreme_of b (terms_in g i (count - left))) (sym next))
+              ∙ ap₂ (λ v z. v +ℤ z) term_part (s.is ∙ ap (λ i. extreme_of b (terms_in g i (count - left))) (sym next))
               ∙ sym (extreme_cons b (term_of g (first + (left - 1))) (terms_in g (suc (first + (left - 1))) (count - left)))
               ∙ ap (extreme_of b) (sym (terms_cons g (first + (left - 1)) (count - left)))
               ∙ ap (λ k. extreme_of b (terms_in g (first + (left - 1)) k)) (sym more);
-          size = omega (arith, ap nat_abs e, size_sum (part_of b w) sum, part_small, s.size, more);
+          size = omega (arith, ap nat_abs e, size_sum p sum, part_small, s.size, more);
         }
+
+-- What a weight that was read gives, as the machine holds it.
+pub part_read :
+    (b : Bool) {w p : ℤ} {m n : ℕ} → SFits w32 w → w ≡ signed n → n ≡ m → SFits w32 p → p ≡ part_of b (to_z w32 (of_z w32 w))
+    → to_z w32 (of_z w32 p) ≡ part_of b (signed m)
+part_read b f e n g h = to_z-of_z g ∙ h ∙ ap (part_of b) (to_z-of_z f ∙ e ∙ ap signed n)

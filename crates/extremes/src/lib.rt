@@ -8,7 +8,7 @@ ghost use Rattle.extremes.specs.Terms.{terms_in, TermsFit, part_of, extreme_of, 
 use integers::{negative, plus, positive};
 use words::{to_signed, word};
 
-// What a weight gives to the greatest sum, or to the least.
+// What a weight gives to the greatest sum, or to the least. The flag is an argument: one contract and its laws say both, so a const parameter is no plainer.
 fn part(greatest: bool, weight: i32) -> i32
     ensures { result ≡ part_of greatest weight }
 {
@@ -25,10 +25,8 @@ pub fn extreme(terms: &[u8], first: usize, count: usize, greatest: bool) -> i32
     ensures { (result ≡ extreme_of greatest (terms_in (word_at terms.now) first count)) × (nat_abs result ≤ max_total) }
 {
     let mut sum: i32 = 0;
-    let mut left = count;
-    while 0 < left {
-        left -= 1;
-        let weight = to_signed(word(terms, 2 * (first + left) + 1));
+    for i in (0..count).rev() {
+        let weight = to_signed(word(terms, 2 * (first + i) + 1));
         sum = plus(part(greatest, weight), sum);
     }
     sum

@@ -49,7 +49,7 @@ pub fn add(s: Sums, finds: u64, flips: u64, cost: i64) -> Sums
 fn mark(found: u64) -> u32
     ensures { result ≡ cond (eqb found 0) 0 1 }
 {
-    if found == 0 { 0 } else { 1 }
+    u32::from(found != 0)
 }
 
 // The mean cost, 0 over 0 where it is absent.
@@ -80,7 +80,7 @@ pub fn figures_of(runs: u64, s: Sums) -> Figures
     }
 }
 
-// The answer of a call that is refused.
+// The answer of a call that is refused, by the number that C sees.
 pub fn refused(n: u32) -> Figures
     ensures { result ≡ refused_with n }
 {

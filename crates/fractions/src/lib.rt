@@ -2,7 +2,6 @@
 #![tactic(auto)]
 
 ghost use Rattle.std.specs.Prelude.{◌≡◌, ◌^◌, ◌<◌, nat_abs};
-ghost use Rattle.words.specs.Signed.{complement};
 ghost use Rattle.fractions.specs.Fractions.{gcd, reduced, reduced_z};
 
 #[repr(C)]
@@ -12,6 +11,7 @@ pub struct Fraction {
     pub bottom: u64,
 }
 
+// C sees the two kinds of fractions by their names, so they are no one struct over the type of the top.
 #[repr(C)]
 #[derive(Clone, Copy)]
 pub struct SignedFraction {
@@ -45,30 +45,12 @@ pub fn reduce(a: u64, b: u64) -> Fraction
     }
 }
 
-// -1 - v: the bits of a signed number turned over.
-fn turned(v: i64) -> i64
-    ensures { result ≡ complement v }
-{
-    -1 - v
-}
-
-// A signed number's size without its sign.
-fn size(v: i64) -> u64
-    ensures { result ≡ nat_abs v }
-{
-    if v < 0 {
-        (turned(v) as u64) + 1
-    } else {
-        v as u64
-    }
-}
-
-// The same for a number that may be negative.
+// The same for a number that may be negative. One function over both tops would need a trait with a size, a quotient and a law of each: it is no plainer.
 pub fn reduce_signed(a: i64, b: u64) -> SignedFraction
     requires { (0 < b) × (b < 2 ^ 63) }
     ensures { result ≡ reduced_z a b }
 {
-    let d = divisor(size(a), b);
+    let d = divisor(a.unsigned_abs(), b);
     SignedFraction {
         top: a / (d as i64),
         bottom: b / d,

@@ -3,12 +3,11 @@
 use Prim.Native.Nat.{ℕ, zero, suc, ◌+◌, ◌≤◌, ◌<◌}
 use native.Mathlib.Omega.{arith}
 use mathlib.Core.Path.{◌≡◌, refl}
-use mathlib.Core.Bool.{true, false}
 use lib.IntN.{ℤ, pos, negsuc, nat_abs, neg_ℤ, ◌-ℤ◌}
-use lib.Signed.{lt_z}
 use mir.Syntax.{w32}
 use mir.Val.{SFits}
-use borrow.Author.Tests.{ltb-true}
+use borrow.Author.Tests.{lt-ltb}
+use Rattle.std.specs.Int.{int_min, int_max}
 use Rattle.plpb.specs.Plan.{negative_part, positive_part}
 use Rattle.counting.proofs.Signed.{size_sum}
 
@@ -26,29 +25,15 @@ pub small_fits : (z : ℤ) → nat_abs z < 2_147_483_648 → SFits w32 z
 small_fits (pos n) h = record { sfits = h }
 small_fits (negsuc n) h = record { sfits = omega arith }
 
--- What the test `weight < 0` tells.
-pub positive_taken : (w : ℤ) → lt_z w (pos 0) ≡ true → pos 0 ≡ positive_part w
-unfolding positive_part
-positive_taken (pos n) h = absurd (none n (ltb-true n 0 h))
-  where
-    none : (n : ℕ) → n < 0 → ⊥
-    none n l = omega arith
-positive_taken (negsuc n) h = refl
-
-pub positive_left : (w : ℤ) → lt_z w (pos 0) ≡ false → w ≡ positive_part w
-unfolding positive_part
-positive_left (pos n) h = refl
-positive_left (negsuc n) h = absurd (let z : ◌≡◌ {A = ℕ} 0 1 = cc in omega arith)
-
-pub negative_taken : (w : ℤ) → lt_z w (pos 0) ≡ true → w ≡ negative_part w
+-- The smaller and the larger of a number and 0.
+pub negative_least : (w : ℤ) → int_min w (pos 0) ≡ negative_part w
 unfolding negative_part
-negative_taken (pos n) h = absurd (none n (ltb-true n 0 h))
-  where
-    none : (n : ℕ) → n < 0 → ⊥
-    none n l = omega arith
-negative_taken (negsuc n) h = refl
+negative_least (pos zero) = refl
+negative_least (pos (suc n)) = rw (lt-ltb 0 (suc n) (omega arith)) refl
+negative_least (negsuc n) = refl
 
-pub negative_left : (w : ℤ) → lt_z w (pos 0) ≡ false → pos 0 ≡ negative_part w
-unfolding negative_part
-negative_left (pos n) h = refl
-negative_left (negsuc n) h = absurd (let z : ◌≡◌ {A = ℕ} 0 1 = cc in omega arith)
+pub positive_most : (w : ℤ) → int_max w (pos 0) ≡ positive_part w
+unfolding positive_part
+positive_most (pos zero) = refl
+positive_most (pos (suc n)) = rw (lt-ltb 0 (suc n) (omega arith)) refl
+positive_most (negsuc n) = refl

@@ -22,11 +22,11 @@ pub fn minus(a: i32, b: i32) -> i32
 pub fn negative(weight: i32) -> i32
     ensures { result ≡ negative_part weight }
 {
-    if weight < 0 { weight } else { 0 }
+    weight.min(0)
 }
 
 pub fn positive(weight: i32) -> i32
     ensures { result ≡ positive_part weight }
 {
-    if weight < 0 { 0 } else { weight }
+    weight.max(0)
 }

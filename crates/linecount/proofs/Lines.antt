@@ -192,13 +192,14 @@ module _ (f : ℕ → ℕ) (base n : ℕ) where
   words_start = let e : n - n ≡ 0 = omega arith in rw e refl
 
   pub words_next :
-      {left m r : ℕ} → 0 < left → left ≤ n → r ≡ cond (eqb (f (base + left)) 0) m (1 + m) → WordsAre (λ x. signed (f (base + x))) n left m
+      {left m r : ℕ} → 0 < left → left ≤ n → r ≡ cond (eqb (f (base + 1 + (left - 1))) 0) m (1 + m) → WordsAre (λ x. signed (f (base + x))) n left m
       → WordsAre (λ x. signed (f (base + x))) n (left - 1) r
   unfolding sparse row keep is_some named
   words_next {left} {m} {r} k l e is =
       let more : n - (left - 1) ≡ suc (n - left) = omega arith in
       let next : suc (left - 1) ≡ left = omega arith in
-      rw (more, next, tested (f (base + left))) (e ∙ by (eqb (f (base + left)) 0))
+      let here : base + 1 + (left - 1) ≡ base + left = omega arith in
+      rw (more, next, tested (f (base + left))) (rw here at e ∙ by (eqb (f (base + left)) 0))
     where
       rest : List Term
       rest = keep is_some (map (named (λ x. signed (f (base + x)))) (row (suc left) (n - left)))

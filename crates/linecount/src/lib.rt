@@ -25,16 +25,15 @@ fn bounds(tables: &[u8], r: usize) -> usize
     if mode == 2 { 1 } else { 2 }
 }
 
+// Three loops here add up from the last to the first. One function over a closure would need clauses on its calls that are longer than the loops.
 // How many lines the rules of a clause with several have: of each, one for a bound that is there and one for each of (20) to (22) and both sides.
 fn rules_lines(tables: &[u8], first: usize, count: usize) -> usize
     requires { (4 * rule_first_at (first + count) ≤ length tables.now) × (count ≤ 1_024) }
     ensures { (((g : ℕ → ℕ) (k : ℕ) → result ≡ length (rules_lines k (rules_in (word_at tables.now) g first count)))) × (result ≤ 7 * count) }
 {
     let mut lines = 0;
-    let mut left = count;
-    while 0 < left {
-        left -= 1;
-        lines = bounds(tables, first + left) + 5 + lines;
+    for i in (0..count).rev() {
+        lines = bounds(tables, first + i) + 5 + lines;
     }
     lines
 }
@@ -58,10 +57,8 @@ pub fn clauses_lines(tables: &[u8]) -> usize
         × (result ≤ 7_169 * word_at tables.now 1) }
 {
     let mut lines = 0;
-    let mut left = index(tables, 1);
-    while 0 < left {
-        left -= 1;
-        lines = clause_lines(tables, left) + lines;
+    for c in (0..index(tables, 1)).rev() {
+        lines = clause_lines(tables, c) + lines;
     }
     lines
 }
@@ -73,10 +70,8 @@ pub fn variables(tables: &[u8]) -> usize
         + sum_by new_atoms (clauses_in (word_at tables.now) g 0 (word_at tables.now 1)) }
 {
     let mut count = 0;
-    let mut left = index(tables, 1);
-    while 0 < left {
-        left -= 1;
-        count = new_atoms(tables, left) + count;
+    for c in (0..index(tables, 1)).rev() {
+        count = new_atoms(tables, c) + count;
     }
     index(tables, 0) + count
 }
@@ -87,10 +82,8 @@ pub fn some_words(tables: &[u8], base: usize, n: usize) -> usize
     ensures { (result ≡ length (sparse (λ x. signed (word_at tables.now (base + x))) 0 n)) × (result ≤ n) }
 {
     let mut some = 0;
-    let mut left = n;
-    while 0 < left {
-        some = plus_if(word(tables, base + left) == 0, some);
-        left -= 1;
+    for i in (0..n).rev() {
+        some = plus_if(word(tables, base + 1 + i) == 0, some);
     }
     some
 }

@@ -86,15 +86,17 @@ objective_full (t ∷ ts) h = start ∙ ap (λ l. text "min:" ++ (text " " ++ l)
     shape : (b : List ℕ) → text "min:" ++ (text " " ++ (b ++ line (text ";" ∷ []))) ≡ text "min: " ++ (b ++ text ";\n")
     shape b = unfold line text in refl
 
-module _ (tables : List ℕ) {m : ℕ} (e : m ≡ length (sparse (λ x. signed (word_at tables (3 + x))) 0 (word_at tables 0))) where
-  pub objective_none : m ≡ 0 → [] ≡ spell_objective (objective_of (word_at tables))
-  objective_none z = objective_empty (objective_of (word_at tables)) (sym (objective_count tables) ∙ sym e ∙ z)
+module _ (tables : List ℕ) {m n : ℕ} (c : m ≡ length (sparse (λ x. signed (word_at tables (3 + x))) 0 n)) (i : n ≡ word_at tables 0) where
+  counted : m ≡ length (objective_of (word_at tables))
+  counted = c ∙ ap (λ k. length (sparse (λ x. signed (word_at tables (3 + x))) 0 k)) i ∙ objective_count tables
 
-  pub objective_some :
-      (m ≡ 0 → ⊥) → spell_objective (objective_of (word_at tables)) ≡ text "min: " ++ (sum_bytes (dense_terms tables 0 (word_at tables 0)) ++ text ";\n")
+  pub objective_none : m ≡ 0 → [] ≡ spell_objective (objective_of (word_at tables))
+  objective_none z = objective_empty (objective_of (word_at tables)) (sym counted ∙ z)
+
+  pub objective_some : (m ≡ 0 → ⊥) → spell_objective (objective_of (word_at tables)) ≡ text "min: " ++ (sum_bytes (dense_terms tables 0 n) ++ text ";\n")
   objective_some h =
-      objective_full (objective_of (word_at tables)) (λ z. h (e ∙ objective_count tables ∙ z))
-      ∙ ap (λ l. text "min: " ++ (l ++ text ";\n")) (objective_terms tables)
+      objective_full (objective_of (word_at tables)) (λ z. h (counted ∙ z))
+      ∙ ap (λ l. text "min: " ++ (l ++ text ";\n")) (objective_terms tables ∙ ap (λ k. sum_bytes (dense_terms tables 0 k)) (sym i))
 
 -- ---- the locks
 
@@ -123,6 +125,13 @@ module _ (tables : List ℕ) where
       positive : (w : ℕ) → (w ≡ 0 → ⊥) → 0 < w
       positive zero k = absurd (k refl)
       positive (suc v) k = omega arith
+
+  -- A lock as it is read.
+  pub read_lock : (i : ℕ) {w : ℕ} → w ≡ lock i → (w ≡ 0 → ⊥) → word_at tables (6_666 + (1 + i)) ≤ 2
+      → spell_line (lock_line (record { variable = i + 1; value = ltb 1 w })) ≡ lines_bytes (lock_lines tables i 1)
+  read_lock i e h l =
+      let at : 6_666 + (1 + i) ≡ 6_666 + 1 + i = omega arith in
+      ap (λ v. spell_line (lock_line (record { variable = i + 1; value = ltb 1 v }))) e ∙ lock_some i (λ z. h (e ∙ z)) (rw at at l)
 
   module _ (n : ℕ) where
     abbrev pub lock_rest : ℕ → List ℕ

@@ -48,3 +48,9 @@ module _ (tables terms : List ℕ) where
       parts : spell (tau (plan_of_tables tables terms))
           ≡ spell_first variable_count (length (clause_lines_of ++ lock_lines tables 0 (f 0))) ++ (spell_objective (objective_of f) ++ lines_bytes (clause_lines_of ++ lock_lines tables 0 (f 0)))
       parts = unfold spell tau plan_of_tables plan_in lines_bytes lock_lines locks_of clauses_in in refl
+
+  -- The numbers of the first line, as they are counted.
+  pub first_is :
+      {v m w n : ℕ} → v ≡ variable_count → m ≡ length clause_lines_of → w ≡ length (sparse (λ x. signed (f (6_666 + x))) 0 n) → n ≡ f 0
+      → spell_first v (m + w) ≡ spell_first variable_count line_count
+  first_is d e h i = ap₂ spell_first d (ap₂ ◌+◌ e (h ∙ ap (λ k. length (sparse (λ x. signed (f (6_666 + x))) 0 k)) i))

@@ -35,15 +35,13 @@ fn put_coefficients(out: &mut [u8], at: usize, tables: &[u8], n: usize) -> usize
     ensures { Puts (sum_bytes (dense_terms tables.now 0 n)) at out.old out.new result }
 {
     let mut next = at;
-    let mut i = 0;
-    while i < n {
+    for i in 0..n {
         next = put_term(
             out,
             next,
             to_signed(word(tables, format::OBJECTIVE + 1 + i)),
             i + 1,
         );
-        i += 1;
     }
     next
 }
@@ -81,10 +79,8 @@ fn put_locks(out: &mut [u8], at: usize, tables: &[u8]) -> usize
 {
     let n = index(tables, 0);
     let mut next = at;
-    let mut i = 0;
-    while i < n {
+    for i in 0..n {
         next = put_locked(out, next, tables, i);
-        i += 1;
     }
     next
 }

@@ -88,6 +88,7 @@ fn reported(
     figures_of(wide(runs), sums)
 }
 
+// The refusal is a number, as C sees it among the figures.
 pub fn report(
     tables: &[u8],
     terms: &[u8],

@@ -2,6 +2,7 @@
 -- Assumes nothing.
 use Prim.Native.Nat.{ℕ, ◌+◌, ◌*◌, ◌≤◌}
 use native.Mathlib.Omega.{arith}
+use mathlib.Core.List.{◌++◌}
 use mathlib.Core.Path.{◌≡◌, refl, sym, ap, ap₂, ◌∙◌}
 use mathlib.Core.List.{List}
 use lib.IntN.{ℤ, nat_abs}
@@ -12,7 +13,10 @@ use Rattle.format.specs.Tables.{rule_of}
 use Rattle.rules.specs.declared.entry.Entry.{Entry}
 use Rattle.rules.specs.Rules.{EntryAt}
 use Rattle.extremes.specs.Terms.{terms_in, TermsFit}
+use Rattle.opb.specs.Tau.{lower_line, upper_line, straight, minus_lines, plus_lines, both_lines, rule_lines}
+use Rattle.constraints.specs.Bytes.{lines_bytes}
 use Rattle.rulelines.specs.Rules.{RuleFits}
+use Rattle.rulelines.proofs.Lines.{rule_bytes, straight_bytes}
 
 module _ (tables terms : List ℕ) (r : ℕ) (e : Entry) (h : EntryAt (word_at tables) (1_542 + 5 * r) e) where
   abbrev f : ℕ → ℕ
@@ -47,6 +51,19 @@ module _ (tables terms : List ℕ) (r : ℕ) (e : Entry) (h : EntryAt (word_at t
   pub entry_terms : terms_in g e.first e.count ≡ (rule_of f g r).terms
   unfolding rule_of terms_in
   entry_terms = ap₂ (terms_in g) first_is count_is
+
+  -- The rule's lines as bytes, by its entry.
+  pub rule_parts :
+      (k : ℕ) → lines_bytes (rule_lines k (rule_of f g r))
+      ≡ lines_bytes (minus_lines (k + 2) (bound_of 1 e.mode e.upper) (terms_in g e.first e.count))
+      ++ (lines_bytes (plus_lines (k + 1) (bound_of 2 e.mode e.lower) (terms_in g e.first e.count)) ++ lines_bytes (both_lines k))
+  rule_parts k = rw (entry_upper, entry_lower, entry_terms) (rule_bytes k (rule_of f g r))
+
+  pub straight_parts :
+      lines_bytes (straight (rule_of f g r))
+      ≡ lines_bytes (lower_line (bound_of 2 e.mode e.lower) (terms_in g e.first e.count))
+      ++ lines_bytes (upper_line (bound_of 1 e.mode e.upper) (terms_in g e.first e.count))
+  straight_parts = rw (entry_lower, entry_upper, entry_terms) (straight_bytes (rule_of f g r))
 
   module _ (fit : RuleFits tables terms r) where
     pub entry_fit : TermsFit terms e.first e.count

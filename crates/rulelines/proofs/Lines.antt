@@ -3,7 +3,7 @@
 use Prim.Native.Nat.{ℕ, zero, suc, ◌+◌, ◌≤◌, ◌<◌}
 use native.Mathlib.Omega.{arith}
 use mathlib.Core.Path.{◌≡◌, refl, sym, ap, ap₂, ◌∙◌}
-use mathlib.Core.Bool.{Bool, true, false, cond}
+use mathlib.Core.Bool.{Bool, true, false, cond, not}
 use mathlib.Core.List.{List, [], ◌∷◌, ◌++◌, append-nil}
 use lib.IntN.{ℤ, pos, negsuc, nat_abs, ◌+ℤ◌, ◌-ℤ◌}
 use mir.Syntax.{w32}
@@ -25,10 +25,24 @@ use Rattle.rulelines.specs.Rules.{Extremes, two_lines}
 lines_two : (c d : _) → lines_bytes (c ∷ d ∷ []) ≡ spell_line c ++ spell_line d
 lines_two c d = lines_cons c (d ∷ []) ∙ ap (λ l. spell_line c ++ l) (lines_one d)
 
+pub two_parts :
+    (t : Bool) (ts : List Term) (x : ℕ) (w b v c : ℤ)
+    → two_lines t ts x w b v c ≡ spell_line (sided t (ts ++ (weighted w x ∷ [])) b) ++ spell_line (sided (not t) (ts ++ (weighted v x ∷ [])) c)
+unfolding two_lines
+two_parts t ts x w b v c = refl
+
+-- The numbers of two lines: of a rule's sum `end` and its bound, and of the number next to the bound and the rule's other sum.
+pub record Numbers (b step end other : ℤ) (far last near next : ℤ) : Type 0 where
+  pub far_is : far ≡ end -ℤ b
+  pub last_is : last ≡ end
+  pub near_is : near ≡ step -ℤ other
+  pub next_is : next ≡ step
+
 -- Two lines of the same numbers are the same.
-pub two_same :
-    (t : Bool) (ts : List Term) (x : ℕ) {w b v c w' b' v' c' : ℤ} → w ≡ w' → b ≡ b' → v ≡ v' → c ≡ c' → two_lines t ts x w b v c ≡ two_lines t ts x w' b' v' c'
-two_same t ts x p q r u i = two_lines t ts x (p i) (q i) (r i) (u i)
+pub numbers_lines :
+    (t : Bool) (ts : List Term) (x : ℕ) {b step end other far last near next : ℤ} → Numbers b step end other far last near next
+    → two_lines t ts x far last near next ≡ two_lines t ts x (end -ℤ b) end (step -ℤ other) step
+numbers_lines t ts x n i = two_lines t ts x (n.far_is i) (n.last_is i) (n.near_is i) (n.next_is i)
 
 bound_absent : (w m : ℕ) (b : ℤ) → m ≡ w → bound_of w m b ≡ absent
 unfolding bound_of
@@ -131,6 +145,37 @@ module _ {low high : ℤ} {ts : List Term} (e : Extremes low high ts) where
 
   pub greatest_size_lem : nat_abs (greatest_total ts) ≤ 512_000_000
   greatest_size_lem = omega (arith, ap nat_abs e.greatest, e.greatest_size)
+
+-- The numbers as the machine holds them, and their sizes.
+pub next_held : (b : ℤ) {r : ℤ} → nat_abs b ≤ 1_000_000_000 → SFits w32 r → r ≡ to_z w32 (of_z w32 b) +ℤ pos 1 → to_z w32 (of_z w32 r) ≡ b +ℤ pos 1
+next_held b h f e = to_z-of_z f ∙ e ∙ ap (λ z. z +ℤ pos 1) (to_z-of_z (bound_fits b h))
+
+pub last_held : (b : ℤ) {r : ℤ} → nat_abs b ≤ 1_000_000_000 → SFits w32 r → r ≡ to_z w32 (of_z w32 b) -ℤ pos 1 → to_z w32 (of_z w32 r) ≡ b -ℤ pos 1
+last_held b h f e = to_z-of_z f ∙ e ∙ ap (λ z. z -ℤ pos 1) (to_z-of_z (bound_fits b h))
+
+pub numbers_held :
+    {b step end other far last near low : ℤ} (next : ℤ) → nat_abs b ≤ 1_000_000_000 → SFits w32 last → last ≡ end → SFits w32 low → low ≡ other
+    → to_z w32 (of_z w32 next) ≡ step → SFits w32 far → far ≡ to_z w32 (of_z w32 last) -ℤ to_z w32 (of_z w32 b)
+    → SFits w32 near → near ≡ to_z w32 (of_z w32 next) -ℤ to_z w32 (of_z w32 low)
+    → Numbers b step end other (to_z w32 (of_z w32 far)) (to_z w32 (of_z w32 last)) (to_z w32 (of_z w32 near)) (to_z w32 (of_z w32 next))
+numbers_held {b} next h fl l fo o n ff f fn e =
+    record {
+      far_is = to_z-of_z ff ∙ f ∙ ap₂ ◌-ℤ◌ (to_z-of_z fl ∙ l) (to_z-of_z (bound_fits b h));
+      last_is = to_z-of_z fl ∙ l;
+      near_is = to_z-of_z fn ∙ e ∙ ap₂ ◌-ℤ◌ n (to_z-of_z fo ∙ o);
+      next_is = n;
+    }
+
+pub numbers_small :
+    {b step end other far last near next : ℤ} → Numbers b step end other far last near next
+    → nat_abs b ≤ 1_000_000_000 → nat_abs step ≤ 1_000_000_001 → nat_abs end ≤ 512_000_000 → nat_abs other ≤ 512_000_000
+    → Small far × Small last × Small near × Small next
+numbers_small {b} {step} {end} {other} n h k l m = (
+  small_by n.far_is (difference_small end b (omega (arith, h, l))),
+  small_by n.last_is (omega (arith, l)),
+  small_by n.near_is (difference_small step other (omega (arith, k, m))),
+  small_by n.next_is (omega (arith, k)),
+)
 
 module _ (b : ℤ) (h : nat_abs b ≤ 1_000_000_000) where
   pub next_size : nat_abs (b +ℤ pos 1) ≤ 1_000_000_001

@@ -44,6 +44,7 @@ fn put_two(
 }
 
 // (16) and (17), or the one line of an absent bound. Mode 1 has no upper bound.
+// It stays apart from put_plus: one function for both would take the mode, the bound, both sums, the step and the turn.
 fn put_minus(
     out: &mut [u8],
     at: usize,

@@ -96,19 +96,20 @@ module _ (s : Settings) (p : Plan) (count : ℕ) where
       ap (λ n. total (plus_run t (search s p (stream count g))) (answers s p count n (after count g))) (sym e)
 
   -- What is left to add after one run more.
-  pub go_on : (from to : Ran) (left : ℕ) → 0 < left → to.state ≡ after count from.state
+  pub go_on : (from to : Ran) (runs done : ℕ) → done < runs → to.state ≡ after count from.state
       → to.sums ≡ plus_run from.sums (search s p (stream count from.state))
-      → total to.sums (answers s p count (left - 1) to.state) ≡ total from.sums (answers s p count left from.state)
-  go_on from to left h e f = ap₂ (λ t g. total t (answers s p count (left - 1) g)) f e ∙ sym (one_less from.sums from.state left h)
+      → total to.sums (answers s p count (runs - (done + 1)) to.state) ≡ total from.sums (answers s p count (runs - done) from.state)
+  go_on from to runs done h e f =
+      let less : runs - (done + 1) ≡ runs - done - 1 = omega arith in
+      rw less (ap₂ (λ t g. total t (answers s p count (runs - done - 1) g)) f e ∙ sym (one_less from.sums from.state (runs - done) (omega arith)))
 
   -- The sums stay small.
-  pub stays : T (lawful p) → count ≤ 16_384 → (from to : Ran) (runs left : ℕ) → 0 < left → left ≤ runs
-      → to.sums ≡ plus_run from.sums (search s p (stream count from.state))
-      → AtMost (runs - left) from.sums → AtMost (runs - (left - 1)) to.sums
-  stays l few from to runs left h k e m =
+  pub stays : T (lawful p) → count ≤ 16_384 → (from to : Ran) (done : ℕ) → to.sums ≡ plus_run from.sums (search s p (stream count from.state))
+      → AtMost done from.sums → AtMost (done + 1) to.sums
+  stays l few from to done e m =
       let ns = stream count from.state in
       let r = search s p ns in
       let flips : r.flips ≤ 16_384 = omega (arith, search_flips s p ns, search_used s p ns, length_stream count from.state) in
       let cost : nat_abs r.cost ≤ 512_000_000 = rw (search_sound s p ns).cost_stated (cost_bounded p l r.assignment) in
-      most_more (suc (runs - left)) (runs - (left - 1)) to.sums (omega arith)
-      (subst (AtMost (suc (runs - left))) (sym e) (plus_most from.sums r.finds r.flips r.cost (runs - left) m flips cost))
+      most_more (suc done) (done + 1) to.sums (omega arith)
+      (subst (AtMost (suc done)) (sym e) (plus_most from.sums r.finds r.flips r.cost done m flips cost))

@@ -96,8 +96,7 @@ pub fn repeat_runs(
             cost: 0,
         },
     };
-    let mut left = runs;
-    while 0 < left {
+    for _run in 0..runs {
         ran = run_once(
             tables,
             terms,
@@ -112,7 +111,6 @@ pub fn repeat_runs(
             work_tallies,
             work_marks,
         );
-        left -= 1;
     }
     ran.sums
 }

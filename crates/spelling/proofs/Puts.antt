@@ -31,6 +31,10 @@ room_first at xs ys h = omega (arith, h, length-append xs ys)
 pub room_rest : (at : ℕ) (xs ys : List ℕ) {r : ℕ} → r ≡ at + length xs → Room at (xs ++ ys) → Room r ys
 room_rest at xs ys e h = omega (arith, h, e, length-append xs ys)
 
+-- The room of what comes behind bytes that were put.
+pub room_after : {at q : ℕ} {s t xs : List ℕ} → Puts xs at s t q → (ys : List ℕ) → Room at (xs ++ ys) → Room q ys
+room_after {at} {xs = xs} a ys h = room_rest at xs ys a.place h
+
 -- What is left to be put from a place on makes the whole.
 pub record Left (all : List ℕ) (at : ℕ) (s rest : List ℕ) (next : ℕ) (t : List ℕ) : Type 0 where
   pub bytes : overlay next rest t ≡ overlay at all s

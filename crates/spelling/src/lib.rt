@@ -26,10 +26,8 @@ pub fn put_bytes(out: &mut [u8], at: usize, bytes: &[u8]) -> usize
     ensures { Puts bytes.now at out.old out.new result }
 {
     let mut next = at;
-    let mut i = 0;
-    while i < bytes.len() {
-        next = put_byte(out, next, bytes[i]);
-        i += 1;
+    for b in bytes {
+        next = put_byte(out, next, *b);
     }
     next
 }

@@ -1,12 +1,14 @@
 -- The tests one after another: the first that fails decides.
 -- Assumes nothing.
 use Prim.Native.Nat.{ℕ, ◌≤◌, ◌<◌}
-use mathlib.Core.Path.{◌≡◌, sym, ◌∙◌}
-use mathlib.Core.Bool.{Bool, true, false}
-use lib.Dec.{T, eqb, leb}
+use mathlib.Core.Path.{◌≡◌, refl, sym, ◌∙◌}
+use mathlib.Core.Bool.{Bool, true, false, not, ◌&&◌}
+use mathlib.Core.Logic.{⊎_elim}
+use lib.Dec.{T, eqb, leb, ltb}
 use lib.ListN.{length}
 use mir.Facts.{leb_yes}
-use borrow.Author.Tests.{lt-ltb, le-ltb, lt-leb, le-leb, not-false, eq-eqb, ne_eqb}
+use borrow.Author.Tests.{lt-ltb, le-ltb, lt-leb, le-leb, not-false}
+use Rattle.std.proofs.lemmas.Bool.Decides.{leb_tells}
 use Rattle.plpb.specs.Lists.{◌and◌}
 use Rattle.plpb.proofs.Lists.{and_left, and_right, T_true}
 use Rattle.format.specs.File.{refuse}
@@ -17,42 +19,30 @@ use Rattle.trials.specs.Trials.{Trial, all_zero, outside, runs_refusal}
 
 -- ---- the tests
 
-module _ (g : Xorwow) where
-  pub some_x : (g.x ≡ 0 → ⊥) → false ≡ all_zero g
-  unfolding all_zero ◌and◌
-  some_x n = rw (ne_eqb g.x 0 n)
+joined : (a b c d e : Bool) → a && (b && (c && (d && (e && true)))) ≡ a and b and c and d and e
+unfolding ◌and◌
+joined false b c d e = refl
+joined true false c d e = refl
+joined true true false d e = refl
+joined true true true false e = refl
+joined true true true true false = refl
+joined true true true true true = refl
 
-  module _ (a : g.x ≡ 0) where
-    pub some_y : (g.y ≡ 0 → ⊥) → false ≡ all_zero g
-    unfolding all_zero ◌and◌
-    some_y n = rw (eq-eqb g.x 0 a, ne_eqb g.y 0 n)
+pub words_zero : (g : Xorwow) → eqb g.x 0 && (eqb g.y 0 && (eqb g.z 0 && (eqb g.w 0 && (eqb g.v 0 && true)))) ≡ all_zero g
+unfolding all_zero
+words_zero g = joined _ _ _ _ _
 
-    module _ (b : g.y ≡ 0) where
-      pub some_z : (g.z ≡ 0 → ⊥) → false ≡ all_zero g
-      unfolding all_zero ◌and◌
-      some_z n = rw (eq-eqb g.x 0 a, eq-eqb g.y 0 b, ne_eqb g.z 0 n)
-
-      module _ (c : g.z ≡ 0) where
-        pub some_w : (g.w ≡ 0 → ⊥) → false ≡ all_zero g
-        unfolding all_zero ◌and◌
-        some_w n = rw (eq-eqb g.x 0 a, eq-eqb g.y 0 b, eq-eqb g.z 0 c, ne_eqb g.w 0 n)
-
-        pub last_v : g.w ≡ 0 → eqb g.v 0 ≡ all_zero g
-        unfolding all_zero ◌and◌
-        last_v d = rw (eq-eqb g.x 0 a, eq-eqb g.y 0 b, eq-eqb g.z 0 c, eq-eqb g.w 0 d)
+not_le : (a b : ℕ) → ltb a b ≡ not (leb b a)
+not_le a b = ⊎_elim (λ h. rw (h.0, le-ltb a b h.1) refl) (λ h. rw (h.0, lt-ltb a b h.1) refl) (leb_tells b a)
 
 module _ (most n : ℕ) where
-  pub too_few : n < 1 → true ≡ outside most n
+  pub too_few : n < 1 → ltb n 1 ≡ outside most n
   unfolding outside ◌and◌
-  too_few h = rw (lt-leb 1 n h)
+  too_few h = rw (lt-ltb n 1 h, lt-leb 1 n h)
 
-  pub too_many : 1 ≤ n → most < n → true ≡ outside most n
+  pub at_most : 1 ≤ n → ltb most n ≡ outside most n
   unfolding outside ◌and◌
-  too_many h k = rw (le-leb 1 n h, lt-leb n most k)
-
-  pub between : 1 ≤ n → n ≤ most → false ≡ outside most n
-  unfolding outside ◌and◌
-  between h k = rw (le-leb 1 n h, le-leb n most k)
+  at_most h = rw (le-leb 1 n h) (not_le most n)
 
   pub inside : outside most n ≡ false → (1 ≤ n) × (n ≤ most)
   unfolding outside

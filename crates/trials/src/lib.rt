@@ -16,35 +16,17 @@ pub const NUMBERS: usize = 65536;
 fn all_zero(g: Xorwow) -> bool
     ensures { result ≡ all_zero g }
 {
-    if g.x != 0 {
-        return false;
-    }
-    if g.y != 0 {
-        return false;
-    }
-    if g.z != 0 {
-        return false;
-    }
-    if g.w != 0 {
-        return false;
-    }
-    g.v == 0
+    [g.x, g.y, g.z, g.w, g.v] == [0; 5]
 }
 
 // Whether a number is not from 1 to the most.
 fn is_outside(most: u32, n: u32) -> bool
     ensures { result ≡ outside most n }
 {
-    if n < 1 {
-        return true;
-    }
-    if most < n {
-        return true;
-    }
-    false
+    n < 1 || most < n
 }
 
-// The first refusal, 0 for none.
+// The first refusal, 0 for none: the number that C sees of it.
 pub fn runs_refusal(
     tables: &[u8],
     terms: &[u8],

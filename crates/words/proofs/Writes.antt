@@ -10,42 +10,38 @@ use mathlib.Core.Logic.{◌≢◌}
 use mathlib.Core.List.{List, [], ◌∷◌, ◌++◌, append_assoc, append-nil}
 use lib.ListN.{length, take, drop, get_or, set, replicate, length-append, length-drop, length-replicate, take-append-drop, get_or-replicate, get_or-append}
 use lib.Seq.{take-length, set_at, append_snoc, take-suc, drop-cons, sets, sets-eq, drop_at, drop-drop, length-take-le, drop-append_seam, drop-append-add, take-append_seam, take-append-le, take-take, drop-length, take_all}
+use mir.Syntax.{w16, w32}
+use Rattle.std.specs.Int.{from_le_bytes, to_le_bytes}
 use borrow.Rule.Slice.PartMut.{mid_of, post_of, put_mid, Post-is, mid_len, same_len_mid}
 use Rattle.words.specs.Words.{num_at, bytes_of, word_bytes, word_at}
 use Rattle.words.specs.Writes.{front, put, put_words, Wrote}
 use Rattle.words.proofs.Words.{num_at_append, num_at_inside, num_at_bytes_of, num_at_take, num_at_drop, length_bytes_of, length_word_bytes}
 
--- What two and four bytes read join to.
-pub num_two : (s : List ℕ) (at : ℕ) → get_or s at 0 + 256 * get_or s (at + 1) 0 ≡ num_at 2 s at
+-- The number that two and four bytes read stand for.
+pub num_two : (s : List ℕ) (at : ℕ) → from_le_bytes w16 (get_or s at 0 ∷ get_or s (at + 1) 0 ∷ []) ≡ num_at 2 s at
 unfolding num_at
 num_two s at = rw add-one (omega arith)
 
-pub num_four : (s : List ℕ) (at : ℕ) →
-    get_or s at 0 + 256 * (get_or s (at + 1) 0 + 256 * (get_or s (at + 2) 0 + 256 * get_or s (at + 3) 0)) ≡ num_at 4 s at
+pub num_four : (s : List ℕ) (at : ℕ)
+    → from_le_bytes w32 (get_or s at 0 ∷ get_or s (at + 1) 0 ∷ get_or s (at + 2) 0 ∷ get_or s (at + 3) 0 ∷ []) ≡ num_at 4 s at
 unfolding num_at
 num_four s at = rw (add-one, add-two, add-three) (omega arith)
 
--- The four bytes of a number stored one after the other.
-pub four_bytes : (v : ℕ) → v % 256 ∷ v / 256 % 256 ∷ v / 65_536 % 256 ∷ v / 16_777_216 % 256 ∷ [] ≡ bytes_of 4 v
+-- The four bytes of a number.
+pub four_bytes : (v : ℕ) → to_le_bytes w32 v ≡ bytes_of 4 v
 unfolding bytes_of
 four_bytes v =
     let a : v / 65_536 ≡ v / 256 / 256 = omega arith in
     let b : v / 16_777_216 ≡ v / 256 / 256 / 256 = omega arith in
     rw (a, b) refl
 
+-- Bytes stored one after the other.
 pub put_sets : (bs s : List ℕ) (at : ℕ) → at + length bs ≤ length s → sets s at bs ≡ put at bs s
 unfolding front put
 put_sets bs s at h =
     sets-eq bs s at h
     ∙ append_assoc (take at s) bs (drop (at + length bs) s)
     ∙ ap (λ (l : List ℕ). take at s ++ (bs ++ l)) (sym (drop-drop (length bs) at s))
-
-pub stored : (s : List ℕ) (at v : ℕ) {a b c d : ℕ} → at + 4 ≤ length s →
-    a ≡ v % 256 → b ≡ v / 256 % 256 → c ≡ v / 65_536 % 256 → d ≡ v / 16_777_216 % 256 →
-    set (set (set (set s at a) (suc at) b) (suc (suc at)) c) (suc (suc (suc at))) d ≡ put at (bytes_of 4 v) s
-stored s at v {a} {b} {c} {d} h p q r t =
-    let e : a ∷ b ∷ c ∷ d ∷ [] ≡ bytes_of 4 v = simp (p, q, r, t) (four_bytes v) in
-    put_sets (a ∷ b ∷ c ∷ d ∷ []) s at h ∙ ap (λ (bs : List ℕ). put at bs s) e
 
 -- Lengths.
 pub length_front : (bs s : List ℕ) → length bs ≤ length s → length (front bs s) ≡ length s
@@ -121,6 +117,13 @@ lent_tail at bs t ys h e =
 pub lent_part : (at end : ℕ) (t ys : List ℕ) → at ≤ end → length ys ≡ end - at → put_mid at (end - at) t ys ≡ put at ys t
 unfolding front put
 lent_part at end t ys h e = ap (λ (n : ℕ). take at t ++ (ys ++ drop n (drop at t))) (sym e)
+
+-- A part that a number's bytes are copied over.
+pub lent_number : (at v : ℕ) (t : List ℕ) {ys : List ℕ} → ys ≡ to_le_bytes w32 v → put_mid at (at + 4 - at) t ys ≡ put at (bytes_of 4 v) t
+lent_number at v t {ys} e =
+    let same : ys ≡ bytes_of 4 v = e ∙ four_bytes v in
+    let long : length ys ≡ at + 4 - at = ap length same ∙ length_bytes_of 4 v ∙ omega arith in
+    lent_part at (at + 4) t ys (omega arith) long ∙ ap (λ (b : List ℕ). put at b t) same
 
 pub word_bytes_append : (us vs : List ℕ) → word_bytes (us ++ vs) ≡ word_bytes us ++ word_bytes vs
 unfolding word_bytes

@@ -3,44 +3,30 @@
 
 ghost use Rattle.std.specs.Prelude.{◌≡◌, [], ◌∷◌, ◌++◌, ◌+◌, ◌*◌, ◌/◌, ◌%◌, ◌≤◌, ◌<◌, length, take, drop, replicate, nat_abs};
 ghost use Rattle.words.specs.Words.{num_at, bytes_of, word_at, signed, unsigned};
-ghost use Rattle.words.specs.Signed.{complement};
 ghost use Rattle.words.specs.Writes.{put, put_words};
 ghost use Rattle.words.specs.Tests.{Decides, ZeroWords};
-
-// Bytes joined to a number, the lowest first. The compiler makes one load of four reads that are joined.
-fn join2(a: u8, b: u8) -> u32
-    ensures { result ≡ a + 256 * b }
-{
-    (a as u32) + 256 * (b as u32)
-}
-
-fn join4(a: u8, b: u8, c: u8, d: u8) -> u32
-    ensures { result ≡ a + 256 * (b + 256 * (c + 256 * d)) }
-{
-    (a as u32) + 256 * ((b as u32) + 256 * ((c as u32) + 256 * (d as u32)))
-}
 
 // The number of 2 bytes at a place.
 pub fn read_u16(s: &[u8], at: usize) -> u32
     requires { at + 2 ≤ length s.now }
     ensures { result ≡ num_at 2 s.now at }
 {
-    join2(s[at], s[at + 1])
+    u32::from(u16::from_le_bytes([s[at], s[at + 1]]))
 }
 
-// The number of 4 bytes at a place.
+// The number of 4 bytes at a place. The compiler makes one load of it.
 pub fn read_u32(s: &[u8], at: usize) -> u32
     requires { at + 4 ≤ length s.now }
     ensures { result ≡ num_at 4 s.now at }
 {
-    join4(s[at], s[at + 1], s[at + 2], s[at + 3])
+    u32::from_le_bytes([s[at], s[at + 1], s[at + 2], s[at + 3]])
 }
 
 // A byte as a number.
 pub fn byte_word(b: u8) -> u32
     ensures { result ≡ b }
 {
-    b as u32
+    u32::from(b)
 }
 
 // A number as a length, a count or an index, and back.
@@ -80,44 +66,25 @@ pub fn index(s: &[u8], i: usize) -> usize
     widen(word(s, i))
 }
 
-// The bits of a signed number turned over: -1 - v.
-fn turned(v: i32) -> i32
-    ensures { result ≡ complement v }
-{
-    -1 - v
-}
-
 // The signed number that a word stands for.
 pub fn to_signed(n: u32) -> i32
     ensures { result ≡ signed n }
 {
-    if n < 2147483648 {
-        n as i32
-    } else {
-        turned((4294967295 - n) as i32)
-    }
+    n.cast_signed()
 }
 
 // The word that stands for a signed number.
 pub fn to_unsigned(v: i32) -> u32
     ensures { result ≡ unsigned v }
 {
-    if v < 0 {
-        4294967295 - (turned(v) as u32)
-    } else {
-        v as u32
-    }
+    v.cast_unsigned()
 }
 
 // A signed number's size without its sign.
 pub fn magnitude(v: i32) -> u32
     ensures { result ≡ nat_abs v }
 {
-    if v < 0 {
-        (turned(v) as u32) + 1
-    } else {
-        v as u32
-    }
+    v.unsigned_abs()
 }
 
 pub fn read_i32(s: &[u8], at: usize) -> i32
@@ -127,22 +94,12 @@ pub fn read_i32(s: &[u8], at: usize) -> i32
     to_signed(read_u32(s, at))
 }
 
-// The lowest byte of a number.
-fn byte(v: u32) -> u8
-    ensures { result ≡ v % 256 }
-{
-    (v % 256) as u8
-}
-
 // Writes a number's 4 bytes at a place.
 pub fn write_u32(s: &mut [u8], at: usize, v: u32)
     requires { at + 4 ≤ length s.old }
     ensures { s.new ≡ put at (bytes_of 4 v) s.old }
 {
-    s[at] = byte(v);
-    s[at + 1] = byte(v / 256);
-    s[at + 2] = byte(v / 65536);
-    s[at + 3] = byte(v / 16777216);
+    s[at..at + 4].copy_from_slice(&v.to_le_bytes());
 }
 
 // Writes a word at an index of a table.
@@ -169,10 +126,8 @@ pub fn zeros(s: &[u8], from: usize, end: usize) -> bool
     ensures { Decides result (ZeroWords s.now from end) }
 {
     let mut all = true;
-    let mut i = from;
-    while i < end {
+    for i in from..end {
         all = all & (word(s, i) == 0);
-        i += 1;
     }
     all
 }
@@ -182,20 +137,12 @@ pub fn copy(from: &[u8], to: &mut [u8], n: usize)
     requires { (n ≤ length from.now) × (n ≤ length to.old) }
     ensures { to.new ≡ take n from.now ++ drop n to.old }
 {
-    let mut i = 0;
-    while i < n {
-        to[i] = from[i];
-        i += 1;
-    }
+    to[..n].copy_from_slice(&from[..n]);
 }
 
 // Fills a slice with 0.
 pub fn clear(s: &mut [u8])
     ensures { s.new ≡ replicate (length s.old) 0 }
 {
-    let mut i = 0;
-    while i < s.len() {
-        s[i] = 0;
-        i += 1;
-    }
+    s.fill(0);
 }

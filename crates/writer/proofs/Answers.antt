@@ -13,7 +13,9 @@ use Rattle.plpb.specs.Lists.{◌or◌}
 use Rattle.words.specs.Writes.{front}
 use Rattle.format.specs.File.{refuse}
 use Rattle.format.specs.Layout.{table_size, term_size}
-use Rattle.format.specs.Tables.{is_loaded}
+use Rattle.format.specs.Tables.{is_loaded, plan_of_tables}
+use Rattle.opb.specs.Spell.{spell}
+use Rattle.opb.specs.Tau.{tau}
 use Rattle.spelling.specs.Overlay.{overlay, Puts}
 use Rattle.spelling.proofs.Overlay.{overlay_front}
 use Rattle.writer.specs.Calls.{text_of, too_small, write_refusal, write_length, text_after}
@@ -65,3 +67,26 @@ measured {bs} a = a.place ∙ zero-add (length bs)
 -- Put where there is room for all.
 pub all_put : {bs s t : List ℕ} {r : ℕ} → Puts bs 0 s t r → length bs ≤ length s → t ≡ front bs s
 all_put {bs} {s} a h = a.bytes ∙ overlay_front bs s h
+
+-- The text measured, and then put where there is room for it.
+module _ (tables terms text : List ℕ) (long : table_size ≤ length tables) (room : term_size ≤ length terms) (e : is_loaded tables terms ≡ true)
+    {none : List ℕ} {n : ℕ} (m : Puts (spell (tau (plan_of_tables tables terms))) 0 [] none n)
+  where
+    size : n ≡ length (text_of tables terms)
+    unfolding text_of
+    size = measured m
+
+    pub untouched : none ++ text ≡ text
+    untouched = ap (λ (l : List ℕ). l ++ text) (nothing_put m)
+
+    pub is_outgrown : length (none ++ text) < n → (33 ≡ write_refusal tables terms text) × (n ≡ write_length tables terms) × (none ++ text ≡ text_after tables terms text)
+    is_outgrown h =
+        let o = outgrown tables terms text long room e (omega (arith, h, size, ap length untouched)) in
+        (o.0.0, size ∙ o.0.1, untouched ∙ o.1)
+
+    pub is_written : {t : List ℕ} {r : ℕ} → n ≤ length (none ++ text) → Puts (spell (tau (plan_of_tables tables terms))) 0 (none ++ text) t r
+        → (0 ≡ write_refusal tables terms text) × (n ≡ write_length tables terms) × (t ≡ text_after tables terms text)
+    unfolding text_of
+    is_written h a =
+        let o = written tables terms text long room e (omega (arith, h, size, ap length untouched)) in
+        (o.0.0, size ∙ o.0.1, all_put a (omega (arith, h, size)) ∙ ap (front (text_of tables terms)) untouched ∙ o.1)

@@ -27,7 +27,12 @@ use Rattle.opb.specs.Tau.{weighted, has_weight, negated, geq, leq, lower_line, u
 use Rattle.constraints.specs.Bytes.{term_bytes, end_bytes, lines_bytes}
 use Rattle.constraints.proofs.Bytes.{line_bytes, end_bytes_lem, line_terms}
 use Rattle.opbtext.proofs.Parts.{first_bytes, objective_full}
-use Rattle.writer.proofs.Fits.{atoms_few, all_atoms_few}
+use Rattle.plpb.proofs.Lists.{T_true}
+use Rattle.format.specs.Layout.{table_size, term_size}
+use Rattle.format.specs.Tables.{is_loaded, plan_of_tables}
+use Rattle.spelling.specs.Overlay.{Room}
+use Rattle.opbtext.specs.Whole.{WholeFits}
+use Rattle.writer.proofs.Fits.{atoms_few, all_atoms_few, plan_lawful, loaded_fits}
 
 -- ---- numbers, terms, lines
 
@@ -457,3 +462,10 @@ module _ (p : Plan) (w : Within 512 1_024 6_000 p) where
 
 pub text_short : (p : Plan) → T (lawful p) → length (spell (tau p)) < 18_446_744_073_709_551_616
 text_short p t = whole_short p (plan_parts p t)
+
+-- Tables that passed the tests are fit to be put, and there is room for any place behind their text.
+pub ready : (tables terms : List ℕ) → table_size ≤ length tables → term_size ≤ length terms → is_loaded tables terms ≡ true
+    → WholeFits tables terms × Room 0 (spell (tau (plan_of_tables tables terms)))
+ready tables terms long room e =
+    let short = text_short (plan_of_tables tables terms) (plan_lawful tables terms long room (T_true e)) in
+    (loaded_fits tables terms long room (T_true e), omega (arith, short))

@@ -1,2 +1,3 @@
 -- What writing a plan as a text answers and leaves.
 pub mod Calls
+pub mod Refusals

@@ -1,8 +1,9 @@
 // A loaded plan as an OPB text in a lent buffer (document 02, T-02). The text is measured by putting it into no buffer at all, then put.
 #![tactic(auto)]
 
-ghost use Rattle.std.specs.Prelude.{◌≡◌};
+ghost use Rattle.std.specs.Prelude.{◌≡◌, MatchResult};
 ghost use Rattle.writer.specs.Calls.{write_refusal, write_length, text_after};
+ghost use Rattle.writer.specs.Refusals.{number_of, length_of};
 
 use opbtext::put_text;
 
@@ -14,10 +15,35 @@ pub struct Written {
     pub length: usize,
 }
 
-fn answer(refusal: u32, length: usize) -> Written
-    ensures { result ≡ record { refusal = refusal; length = length } }
+// Why no text is written. One that outgrows the buffer has its length.
+enum Refusal {
+    TooSmall,
+    NotLoaded,
+    Outgrown(usize),
+}
+
+// Writes the text where it is to be written, and answers its length.
+fn write_text(tables: &[u8], terms: &[u8], text: &mut [u8]) -> Result<usize, Refusal>
+    ensures answer { MatchResult result
+        (λ n. (0 ≡ write_refusal tables.now terms.now text.old) × (n ≡ write_length tables.now terms.now))
+        (λ e. (number_of e ≡ write_refusal tables.now terms.now text.old) × (length_of e ≡ write_length tables.now terms.now)) }
+    ensures text_after { text.new ≡ text_after tables.now terms.now text.old }
 {
-    Written { refusal, length }
+    if tables.len() < format::TABLES {
+        return Err(Refusal::TooSmall);
+    }
+    if terms.len() < format::TERMS {
+        return Err(Refusal::TooSmall);
+    }
+    if !loaded::good(tables, terms) {
+        return Err(Refusal::NotLoaded);
+    }
+    let length = put_text(&mut text[..0], tables, terms);
+    if text.len() < length {
+        return Err(Refusal::Outgrown(length));
+    }
+    put_text(text, tables, terms);
+    Ok(length)
 }
 
 pub fn write_opb(tables: &[u8], terms: &[u8], text: &mut [u8]) -> Written
@@ -25,19 +51,19 @@ pub fn write_opb(tables: &[u8], terms: &[u8], text: &mut [u8]) -> Written
         × (result.length ≡ write_length tables.now terms.now) }
     ensures text_after { text.new ≡ text_after tables.now terms.now text.old }
 {
-    if tables.len() < format::TABLES {
-        return answer(21, 0);
+    match write_text(tables, terms, text) {
+        Ok(length) => Written { refusal: 0, length },
+        Err(Refusal::TooSmall) => Written {
+            refusal: 21,
+            length: 0,
+        },
+        Err(Refusal::NotLoaded) => Written {
+            refusal: 22,
+            length: 0,
+        },
+        Err(Refusal::Outgrown(length)) => Written {
+            refusal: 33,
+            length,
+        },
     }
-    if terms.len() < format::TERMS {
-        return answer(21, 0);
-    }
-    if !loaded::good(tables, terms) {
-        return answer(22, 0);
-    }
-    let length = put_text(&mut text[..0], tables, terms);
-    if text.len() < length {
-        return answer(33, length);
-    }
-    put_text(text, tables, terms);
-    answer(0, length)
 }

@@ -1,10 +1,10 @@
 -- Numbers that follow a state, one more at the end; and what each of them is below.
 -- Assumes nothing.
-use Rattle.std.proofs.Common.{◌≡◌, ℕ, zero, suc, ◌+◌, ◌*◌, ◌%◌, ◌^◌, ◌<◌, ◌≤◌, List, [], ◌∷◌, ◌++◌, length, sym, refl, ap, ◌∙◌, mod-lt, add-one, arith}
+use Rattle.std.proofs.Common.{◌≡◌, ℕ, zero, suc, ◌+◌, ◌%◌, ◌^◌, ◌<◌, List, [], ◌∷◌, ◌++◌, length, sym, refl, ap, ◌∙◌, mod-lt, add-one, arith}
 use Rattle.words.specs.Words.{word_bytes}
 use Rattle.words.specs.Writes.{front}
-use Rattle.words.proofs.Words.{Below, below_nil, below_cons, length_word_bytes}
-use Rattle.words.proofs.Writes.{front_none, length_front}
+use Rattle.words.proofs.Words.{Below, below_nil, below_cons}
+use Rattle.words.proofs.Writes.{front_none}
 use Rattle.xorwow.specs.declared.Xorwow.{Xorwow}
 use Rattle.xorwow.specs.Xorwow.{step, output, stream, after}
 
@@ -35,10 +35,7 @@ stream_suc (suc n) g = ap (λ ns. output (step g) ∷ ns) (stream_suc n (step g)
 pub stream_next : (i : ℕ) (g : Xorwow) → stream (i + 1) g ≡ stream i g ++ (output (step (after i g)) ∷ [])
 stream_next i g = ap (λ n. stream n g) (add-one i) ∙ stream_suc i g
 
--- The buffer as it is before the first number; and its length.
+-- The buffer as it is before the first number.
 pub none_written : (g : Xorwow) (s : List ℕ) → s ≡ front (word_bytes (stream 0 g)) s
 unfolding stream word_bytes
 none_written g s = sym (front_none s)
-
-pub length_written : (k : ℕ) (g : Xorwow) (s : List ℕ) → 4 * k ≤ length s → length (front (word_bytes (stream k g)) s) ≡ length s
-length_written k g s h = length_front (word_bytes (stream k g)) s (omega (arith, length_word_bytes (stream k g), length_stream k g))

@@ -39,7 +39,7 @@ fn next(g: Xorwow) -> Xorwow
         z: g.w,
         w: g.v,
         v: join(g.v, mix(g.x)),
-        counter: std::num::wrapping_add_u32(g.counter, 362437),
+        counter: g.counter.wrapping_add(362437),
     }
 }
 
@@ -47,7 +47,7 @@ fn next(g: Xorwow) -> Xorwow
 fn number(counter: u32, v: u32) -> u32
     ensures { result ≡ (counter + v) % 2 ^ 32 }
 {
-    std::num::wrapping_add_u32(counter, v)
+    counter.wrapping_add(v)
 }
 
 // Writes the next k numbers and answers the state after them.
@@ -56,12 +56,10 @@ pub fn fill(g: Xorwow, numbers: &mut [u8], k: usize) -> Xorwow
     ensures { (result ≡ after k g) × (numbers.new ≡ front (word_bytes (stream k g)) numbers.old) }
 {
     let mut at = g;
-    let mut i = 0;
-    while i < k {
+    for i in 0..k {
         let stepped = next(at);
         words::write_word(numbers, i, number(stepped.counter, stepped.v));
         at = stepped;
-        i += 1;
     }
     at
 }

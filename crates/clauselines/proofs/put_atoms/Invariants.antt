@@ -9,6 +9,3 @@ use Rattle.clauselines.proofs.put_atoms.Given as goal
 
 abbrev pub invariant-loop-i : goal.invariant-loop-i
 invariant-loop-i l = Looping (sum_bytes (atom_terms l.k l.count)) (atom_rest l.k l.count) l.count l.at l.initial.out l.i l.next l.out
-
-abbrev pub decreases-loop-i : goal.decreases-loop-i
-decreases-loop-i l = l.count - l.i

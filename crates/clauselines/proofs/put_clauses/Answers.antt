@@ -7,9 +7,6 @@ use Rattle.words.specs.Words.{word_at}
 use Rattle.clauselines.proofs.Clauses.{going_start, going_room, going_few, going_fits, going_more, going_done, atom_small}
 use Rattle.clauselines.proofs.put_clauses.Goals as goal
 
-pub loop-c-init : goal.loop-c-init
-loop-c-init c = going_start c.args.tables.now c.args.terms.now c.args.at c.args.out.now c.index-k.ensures
-
 pub put_clause-next-requires : goal.put_clause-next-requires
 put_clause-next-requires c =
     let test : c.loop-c.c < word_at c.args.tables.now 1 = omega (arith, c.loop-c-test.true, c.index-clauses.ensures) in
@@ -34,18 +31,3 @@ loop-c-preserved c =
 
 pub returns : goal.returns
 returns c = going_done c.args.tables.now c.args.terms.now c.args.at c.args.out.now c.loop-c.invariant (omega (arith, c.loop-c-test.false, c.index-clauses.ensures))
-
-pub index-clauses-requires : goal.index-clauses-requires
-index-clauses-requires c = omega (arith, c.requires.clauses_fit.entries)
-
-pub index-k-requires : goal.index-k-requires
-index-k-requires c = omega (arith, c.requires.clauses_fit.entries)
-
-pub overflow_add-c : goal.overflow_add-c
-overflow_add-c c = omega (arith, c.loop-c-test.true)
-
-pub loop-c-smaller : goal.loop-c-smaller
-loop-c-smaller c = omega (arith, c.loop-c-test.true)
-
-pub shape_of-out : goal.shape_of-out
-shape_of-out c = c.loop-c.invariant.left.same

@@ -6,6 +6,3 @@ use Rattle.clauselines.proofs.put_clauses.Given as goal
 
 abbrev pub invariant-loop-c : goal.invariant-loop-c
 invariant-loop-c l = Going l.tables l.terms l.at l.initial.out l.c l.k l.next l.out
-
-abbrev pub decreases-loop-c : goal.decreases-loop-c
-decreases-loop-c l = l.clauses - l.c

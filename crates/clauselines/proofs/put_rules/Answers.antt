@@ -7,9 +7,6 @@ use Rattle.words.specs.Words.{word_at}
 use Rattle.clauselines.proofs.Rules.{rule_pieces}
 use Rattle.clauselines.proofs.put_rules.Goals as goal
 
-pub loop-i-init : goal.loop-i-init
-loop-i-init c = looping_start (rule_pieces (word_at c.args.tables.now) (word_at c.args.terms.now) c.args.first c.args.count c.args.k) c.args.at c.args.out.now
-
 pub put_rule-next-requires : goal.put_rule-next-requires
 put_rule-next-requires c =
     record { rule_fits = (c.requires.rules_fit.each c.loop-i.i c.loop-i-test.true, omega (arith, c.requires.rules_fit.low, c.loop-i-test.true)); room = looping_room (rule_pieces (word_at c.args.tables.now) (word_at c.args.terms.now) c.args.first c.args.count c.args.k) c.loop-i.invariant c.loop-i-test.true c.requires.room }
@@ -20,21 +17,3 @@ loop-i-preserved c =
 
 pub returns : goal.returns
 returns c = looping_done (rule_pieces (word_at c.args.tables.now) (word_at c.args.terms.now) c.args.first c.args.count c.args.k) c.loop-i.invariant c.loop-i-test.false
-
-pub overflow_add-first : goal.overflow_add-first
-overflow_add-first c = omega (arith, c.requires.rules_fit.low, c.requires.rules_fit.few, c.loop-i-test.true)
-
-pub overflow_mul-i : goal.overflow_mul-i
-overflow_mul-i c = omega (arith, c.requires.rules_fit.low, c.requires.rules_fit.few, c.loop-i-test.true)
-
-pub overflow_add-k : goal.overflow_add-k
-overflow_add-k c = omega (arith, c.requires.rules_fit.low, c.requires.rules_fit.few, c.loop-i-test.true)
-
-pub overflow_add-i : goal.overflow_add-i
-overflow_add-i c = omega (arith, c.loop-i-test.true)
-
-pub loop-i-smaller : goal.loop-i-smaller
-loop-i-smaller c = omega (arith, c.loop-i-test.true)
-
-pub shape_of-out : goal.shape_of-out
-shape_of-out c = c.loop-i.invariant.left.same

@@ -11,6 +11,3 @@ use Rattle.clauselines.proofs.put_rules.Given as goal
 
 abbrev pub invariant-loop-i : goal.invariant-loop-i
 invariant-loop-i l = Looping (lines_bytes (rules_lines l.k (rules_in (word_at l.tables) (word_at l.terms) l.first l.count))) (rule_rest (word_at l.tables) (word_at l.terms) l.first l.count l.k) l.count l.at l.initial.out l.i l.next l.out
-
-abbrev pub decreases-loop-i : goal.decreases-loop-i
-decreases-loop-i l = l.count - l.i

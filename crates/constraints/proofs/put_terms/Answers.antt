@@ -24,14 +24,5 @@ returns c =
 pub loop-i-init : goal.loop-i-init
 loop-i-init c = going_start _ _ _ _ _ _
 
-pub overflow_add-first : goal.overflow_add-first
-overflow_add-first c = omega (arith, c.requires.0.inside, c.well_formed.1.1.0)
-
-pub overflow_add-i : goal.overflow_add-i
-overflow_add-i c = omega (arith, c.loop-i-test.true)
-
-pub loop-i-smaller : goal.loop-i-smaller
-loop-i-smaller c = omega (arith, c.loop-i-test.true)
-
-pub shape_of-out : goal.shape_of-out
-shape_of-out c = c.loop-i.invariant.left.same
+pub overflow_add-i-end : goal.overflow_add-i-end
+overflow_add-i-end c = omega (arith, c.requires.0.inside, c.well_formed.1.1.0)

@@ -6,6 +6,3 @@ use Rattle.constraints.proofs.put_terms.Given as goal
 
 abbrev pub invariant-loop-i : goal.invariant-loop-i
 invariant-loop-i l = Going l.turn l.terms l.first l.count l.at l.initial.out l.i l.next l.out
-
-abbrev pub decreases-loop-i : goal.decreases-loop-i
-decreases-loop-i l = l.first + l.count - l.i

@@ -12,7 +12,7 @@ use Rattle.fractions.proofs.reduce_signed.Goals as goal
 
 module _ (c : goal.After-divisor-d) where
   is : c.divisor-d.result ≡ gcd (nat_abs c.args.a) c.args.b
-  is = c.divisor-d.ensures ∙ ap (λ n. gcd n c.args.b) (c.size.ensures ∙ ap nat_abs (to_z-of_z c.ranges.a))
+  is = c.divisor-d.ensures ∙ ap (λ n. gcd n c.args.b) (c.unsigned_abs.ensures.value ∙ ap nat_abs (to_z-of_z c.ranges.a))
 
   small : gcd (nat_abs c.args.a) c.args.b < 2 ^ 63
   small = omega (arith, c.requires, gcd_small (nat_abs c.args.a) c.args.b c.requires.0)

@@ -1,12 +1,12 @@
--- `integers::negative` meets its contract, by the two signs.
+-- `integers::negative` meets its contract: it is the smaller of the weight and 0.
 -- Assumes nothing.
-use mathlib.Core.Path.{◌∙◌}
+use mathlib.Core.Path.{ap, ◌∙◌}
 use mir.Facts.{to_z-of_z}
-use Rattle.integers.proofs.Sizes.{negative_taken, negative_left}
+use mir.Syntax.{w32}
+use Rattle.plpb.specs.Plan.{negative_part}
+use Rattle.integers.proofs.Sizes.{negative_least}
 use Rattle.integers.proofs.negative.Goals as goal
 
-pub returns-then-weight-lt0 : goal.returns-then-weight-lt0
-returns-then-weight-lt0 c = let e = to_z-of_z c.ranges.weight in e ∙ negative_taken _ (rw e at c.if-weight-lt0.true)
-
-pub returns-else-weight-lt0 : goal.returns-else-weight-lt0
-returns-else-weight-lt0 c = negative_left _ (rw (to_z-of_z c.ranges.weight) at c.if-weight-lt0.false)
+pub returns : goal.returns
+returns c =
+    to_z-of_z {w = w32} (record { sfits = c.min.type_inv }) ∙ c.min.ensures.value ∙ negative_least _ ∙ ap negative_part (to_z-of_z c.ranges.weight)

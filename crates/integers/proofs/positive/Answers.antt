@@ -1,12 +1,12 @@
--- `integers::positive` meets its contract, by the two signs.
+-- `integers::positive` meets its contract: it is the larger of the weight and 0.
 -- Assumes nothing.
-use mathlib.Core.Path.{◌∙◌}
+use mathlib.Core.Path.{ap, ◌∙◌}
 use mir.Facts.{to_z-of_z}
-use Rattle.integers.proofs.Sizes.{positive_taken, positive_left}
+use mir.Syntax.{w32}
+use Rattle.plpb.specs.Plan.{positive_part}
+use Rattle.integers.proofs.Sizes.{positive_most}
 use Rattle.integers.proofs.positive.Goals as goal
 
-pub returns-then-weight-lt0 : goal.returns-then-weight-lt0
-returns-then-weight-lt0 c = positive_taken _ (rw (to_z-of_z c.ranges.weight) at c.if-weight-lt0.true)
-
-pub returns-else-weight-lt0 : goal.returns-else-weight-lt0
-returns-else-weight-lt0 c = let e = to_z-of_z c.ranges.weight in e ∙ positive_left _ (rw e at c.if-weight-lt0.false)
+pub returns : goal.returns
+returns c =
+    to_z-of_z {w = w32} (record { sfits = c.max.type_inv }) ∙ c.max.ensures.value ∙ positive_most _ ∙ ap positive_part (to_z-of_z c.ranges.weight)

@@ -19,12 +19,3 @@ pub returns-else-mode-eq2 : goal.returns-else-mode-eq2
 returns-else-mode-eq2 c =
     let e = c.word-mode.ensures in
     ((λ (g : ℕ → ℕ). straight_both (word_at c.args.tables.now) g c.args.r (λ (p : _ ≡ 1). c.if-mode-eq1.false (e ∙ p)) (λ (p : _ ≡ 2). c.if-mode-eq2.false (e ∙ p))), omega arith)
-
-pub overflow_mul-r : goal.overflow_mul-r
-overflow_mul-r c = omega (arith, c.requires, c.well_formed.0.0)
-
-pub overflow_add-r : goal.overflow_add-r
-overflow_add-r c = omega (arith, c.requires, c.well_formed.0.0)
-
-pub word-mode-requires : goal.word-mode-requires
-word-mode-requires c = omega (arith, c.requires)

@@ -32,30 +32,3 @@ returns c =
           (λ (g : ℕ → ℕ) (k : ℕ). c.rules_lines.ensures.0 g k ∙ ap (λ (n : ℕ). length (rules_lines k (rules_in f g n c.index-count.result))) p ∙ ap (λ (n : ℕ). length (rules_lines k (rules_in f g (f (clause_first_at c.args.c)) n))) q),
       omega (arith, c.rules_lines.ensures.1, q, fit),
     )
-
-pub overflow_mul-c : goal.overflow_mul-c
-overflow_mul-c c = omega (arith, c.requires.0.clauses, c.requires.1)
-
-pub overflow_add-c : goal.overflow_add-c
-overflow_add-c c = omega (arith, c.requires.0.clauses, c.requires.1)
-
-pub index-first-requires : goal.index-first-requires
-index-first-requires c = omega (arith, c.requires.0.entries, c.requires.1)
-
-pub overflow_mul-c-2 : goal.overflow_mul-c-2
-overflow_mul-c-2 c = omega (arith, c.requires.0.clauses, c.requires.1)
-
-pub overflow_add-c-2 : goal.overflow_add-c-2
-overflow_add-c-2 c = omega (arith, c.requires.0.clauses, c.requires.1)
-
-pub index-count-requires : goal.index-count-requires
-index-count-requires c = omega (arith, c.requires.0.entries, c.requires.1)
-
-pub bounds-requires : goal.bounds-requires
-bounds-requires c = omega (arith, c.requires.0.room, c.requires.0.rules c.args.c c.requires.1, c.index-first.ensures, c.index-count.ensures, c.if-count-eq1.true)
-
-pub rules_lines-requires : goal.rules_lines-requires
-rules_lines-requires c = (omega (arith, c.requires.0.room, c.requires.0.rules c.args.c c.requires.1, c.index-first.ensures, c.index-count.ensures), omega (arith, c.requires.0.rules c.args.c c.requires.1, c.index-count.ensures))
-
-pub overflow_add-result : goal.overflow_add-result
-overflow_add-result c = omega (arith, c.rules_lines.ensures.1, c.requires.0.rules c.args.c c.requires.1, c.index-count.ensures)

@@ -11,36 +11,18 @@ use lib.ListN.{length}
 use native.Mathlib.Nat.{add-zero}
 use Rattle.linecount.proofs.rules_lines.Goals as goal
 
-pub loop-left-preserved : goal.loop-left-preserved
-loop-left-preserved c =
-    let d = c.loop-left.invariant in
-    let test = c.loop-left-test.true in
+pub loop-i-preserved : goal.loop-i-preserved
+loop-i-preserved c =
+    let d = c.loop-i.invariant in
+    let test = c.loop-i-test.true in
     down_more (RulesAre (word_at c.args.tables.now) c.args.first c.args.count) 7 c.args.count d (c.bounds.result + 5) test (omega (arith, c.bounds.ensures.1))
     (rules_next (word_at c.args.tables.now) c.args.first c.args.count test d.within c.bounds.ensures.0 d.is)
 
 pub returns : goal.returns
 returns c =
-    let d = down_done (RulesAre (word_at c.args.tables.now) c.args.first c.args.count) 7 c.args.count c.loop-left.invariant c.loop-left-test.false in
+    let d = down_done (RulesAre (word_at c.args.tables.now) c.args.first c.args.count) 7 c.args.count c.loop-i.invariant c.loop-i-test.false in
     let z : c.args.count - 0 ≡ c.args.count = omega arith in
     ((λ (g : ℕ → ℕ) (k : ℕ). d.0 g k ∙ ap (λ (n : ℕ). length (rules_lines k (rules_in (word_at c.args.tables.now) g n (c.args.count - 0)))) (add-zero c.args.first) ∙ ap (λ (n : ℕ). length (rules_lines k (rules_in (word_at c.args.tables.now) g c.args.first n))) z), d.1)
 
-pub loop-left-init : goal.loop-left-init
-loop-left-init c = down_start (RulesAre (word_at c.args.tables.now) c.args.first c.args.count) 7 c.args.count (rules_start (word_at c.args.tables.now) c.args.first c.args.count)
-
-pub overflow_sub-left : goal.overflow_sub-left
-overflow_sub-left c = omega (arith, c.loop-left-test.true)
-
-pub overflow_add-first : goal.overflow_add-first
-overflow_add-first c = omega (arith, c.requires.0, c.loop-left.invariant.within, c.well_formed.0.0)
-
-pub bounds-requires : goal.bounds-requires
-bounds-requires c = omega (arith, c.loop-left-test.true, c.requires.0, c.loop-left.invariant.within)
-
-pub overflow_add-lines : goal.overflow_add-lines
-overflow_add-lines c = omega (arith, c.bounds.ensures.1)
-
-pub overflow_add-lines-in-loop-left : goal.overflow_add-lines-in-loop-left
-overflow_add-lines-in-loop-left c = omega (arith, c.bounds.ensures.1, c.loop-left.invariant.size, c.requires.1)
-
-pub loop-left-smaller : goal.loop-left-smaller
-loop-left-smaller c = omega (arith, c.loop-left-test.true)
+pub loop-i-init : goal.loop-i-init
+loop-i-init c = down_start (RulesAre (word_at c.args.tables.now) c.args.first c.args.count) 7 c.args.count (rules_start (word_at c.args.tables.now) c.args.first c.args.count)

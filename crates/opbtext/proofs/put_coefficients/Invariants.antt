@@ -9,6 +9,3 @@ use Rattle.opbtext.proofs.put_coefficients.Given as goal
 
 abbrev pub invariant-loop-i : goal.invariant-loop-i
 invariant-loop-i l = Looping (sum_bytes (dense_terms l.tables 0 l.n)) (dense_rest l.tables l.n) l.n l.at l.initial.out l.i l.next l.out
-
-abbrev pub decreases-loop-i : goal.decreases-loop-i
-decreases-loop-i l = l.n - l.i

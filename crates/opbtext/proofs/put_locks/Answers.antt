@@ -8,9 +8,6 @@ use Rattle.clauselines.proofs.Looping.{looping_start, looping_room, looping_more
 use Rattle.opbtext.proofs.Parts.{lock_pieces}
 use Rattle.opbtext.proofs.put_locks.Goals as goal
 
-pub loop-i-init : goal.loop-i-init
-loop-i-init c = looping_start (lock_pieces c.args.tables.now (word_at c.args.tables.now 0)) c.args.at c.args.out.now
-
 pub put_locked-next-requires : goal.put_locked-next-requires
 put_locked-next-requires c =
     let i = c.loop-i.i in
@@ -24,15 +21,3 @@ loop-i-preserved c =
 
 pub returns : goal.returns
 returns c = looping_done (lock_pieces c.args.tables.now (word_at c.args.tables.now 0)) c.loop-i.invariant (omega (arith, c.loop-i-test.false, c.index-n.ensures))
-
-pub index-n-requires : goal.index-n-requires
-index-n-requires c = omega (arith, c.requires.0.size)
-
-pub overflow_add-i : goal.overflow_add-i
-overflow_add-i c = omega (arith, c.loop-i-test.true)
-
-pub loop-i-smaller : goal.loop-i-smaller
-loop-i-smaller c = omega (arith, c.loop-i-test.true)
-
-pub shape_of-out : goal.shape_of-out
-shape_of-out c = c.loop-i.invariant.left.same

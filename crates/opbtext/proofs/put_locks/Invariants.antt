@@ -10,6 +10,3 @@ use Rattle.opbtext.proofs.put_locks.Given as goal
 
 abbrev pub invariant-loop-i : goal.invariant-loop-i
 invariant-loop-i l = Looping (lines_bytes (lock_lines l.tables 0 (word_at l.tables 0))) (lock_rest l.tables (word_at l.tables 0)) (word_at l.tables 0) l.at l.initial.out l.i l.next l.out
-
-abbrev pub decreases-loop-i : goal.decreases-loop-i
-decreases-loop-i l = l.n - l.i

@@ -1,6 +1,6 @@
 -- `repeat_runs` meets its contract. The loop's invariant: with what the runs that are left add, the sums come to those of all runs.
 -- Assumes nothing.
-use Prim.Native.Nat.{◌-◌, ◌≤◌}
+use Prim.Native.Nat.{◌-◌}
 use mathlib.Core.Path.{◌≡◌}
 use Rattle.format.specs.Tables.{plan_of_tables}
 use Rattle.settings.specs.Settings.{settings_of}
@@ -11,13 +11,10 @@ use Rattle.figures.proofs.Adding.{total}
 use Rattle.runs.specs.Repeating.{WithinLimits}
 use Rattle.runs.proofs.repeat_runs.Given as goal
 
-abbrev pub invariant-loop-left : goal.invariant-loop-left
-invariant-loop-left l =
-    (l.left ≤ l.runs) × AtMost (l.runs - l.left) l.ran.sums
-    × (total l.ran.sums (answers (settings_of l.s) (plan_of_tables l.tables l.terms) l.count l.left l.ran.state)
+abbrev pub invariant-loop-run : goal.invariant-loop-run
+invariant-loop-run l =
+    AtMost l._run l.ran.sums
+    × (total l.ran.sums (answers (settings_of l.s) (plan_of_tables l.tables l.terms) l.count (l.runs - l._run) l.ran.state)
     ≡ total l.initial.ran.sums (answers (settings_of l.s) (plan_of_tables l.tables l.terms) l.count l.runs l.initial.ran.state))
     × WithinLimits (lent_all l.tables l.terms l.initial.numbers l.initial.assignment l.initial.work_tables l.initial.work_terms l.initial.work_assignment l.initial.work_tallies l.initial.work_marks)
     (lent_all l.tables l.terms l.numbers l.assignment l.work_tables l.work_terms l.work_assignment l.work_tallies l.work_marks)
-
-abbrev pub decreases-loop-left : goal.decreases-loop-left
-decreases-loop-left l = l.left

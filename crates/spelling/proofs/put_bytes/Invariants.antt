@@ -1,12 +1,8 @@
--- `spelling::put_bytes` meets its contract. The invariant: the bytes to come make the whole. The measure is how many there are.
+-- `spelling::put_bytes` meets its contract. The invariant: the bytes to come make the whole.
 -- Assumes nothing.
-use Prim.Native.Nat.{◌-◌}
-use lib.ListN.{length, drop}
+use lib.ListN.{drop}
 use Rattle.spelling.proofs.Puts.{Left}
 use Rattle.spelling.proofs.put_bytes.Given as goal
 
-abbrev pub invariant-loop-i : goal.invariant-loop-i
-invariant-loop-i l = Left l.bytes l.at l.initial.out (drop l.i l.bytes) l.next l.out
-
-abbrev pub decreases-loop-i : goal.decreases-loop-i
-decreases-loop-i l = length l.bytes - l.i
+abbrev pub invariant-loop-b : goal.invariant-loop-b
+invariant-loop-b l = Left l.bytes l.at l.initial.out (drop l.b-index l.bytes) l.next l.out

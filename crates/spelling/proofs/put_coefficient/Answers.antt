@@ -16,19 +16,9 @@ module _ (c : After-sign) where
   parts : c.sign.result ∷ decimal (nat_abs c.args.v) ≡ coefficient c.args.v
   parts = rw (to_z-of_z c.ranges.v) at c.sign.ensures
 
-pub put_byte-next-requires : goal.put_byte-next-requires
-put_byte-next-requires c =
-    room_first c.args.at (c.sign.result ∷ []) (decimal (nat_abs c.args.v)) (room_same c.args.at (sym (parts c)) c.requires)
-
 module _ (c : After-magnitude) where
   size_is : decimal (nat_abs c.args.v) ≡ decimal c.magnitude.result
   size_is = ap decimal (sym (c.magnitude.ensures ∙ ap nat_abs (to_z-of_z c.ranges.v)))
-
-pub put_decimal-requires : goal.put_decimal-requires
-put_decimal-requires c =
-    room_same c.put_byte-next.result (size_is c)
-    (room_rest c.args.at (c.sign.result ∷ []) (decimal (nat_abs c.args.v)) c.put_byte-next.ensures.place
-    (room_same c.args.at (sym (parts c.before.before.before.before.before)) c.requires))
 
 pub returns : goal.returns
 returns c =

@@ -1,14 +1,10 @@
--- `is_outside` meets its contract, by the two tests.
+-- `is_outside` meets its contract, by the first test.
 -- Assumes nothing.
-use native.Mathlib.Omega.{arith}
-use Rattle.trials.proofs.Refusing.{too_few, too_many, between}
+use Rattle.trials.proofs.Refusing.{too_few, at_most}
 use Rattle.trials.proofs.is_outside.Goals as goal
 
 pub returns-then-n-lt1 : goal.returns-then-n-lt1
-returns-then-n-lt1 c = too_few _ _ (omega arith)
+returns-then-n-lt1 c = too_few _ _ c.if-n-lt1.true
 
-pub returns-then-most-n : goal.returns-then-most-n
-returns-then-most-n c = too_many _ _ (omega arith) (omega arith)
-
-pub returns : goal.returns
-returns c = between _ _ (omega arith) (omega arith)
+pub returns-else-n-lt1 : goal.returns-else-n-lt1
+returns-else-n-lt1 c = at_most _ _ c.if-n-lt1.false

@@ -1,36 +1,11 @@
--- `words::to_unsigned` meets its contract, by the two signs.
+-- `words::to_unsigned` meets its contract: the word is the number's bits.
 -- Assumes nothing.
-use Prim.Native.Nat.{ℕ, ◌-◌}
-use native.Mathlib.Omega.{arith}
-use mathlib.Core.Path.{ap, sym, ◌∙◌}
-use Rattle.words.specs.Words.{unsigned}
-use Rattle.words.proofs.Signs.{Negative, Natural, negative, natural, turned_is, cast_natural, size_natural}
+use mathlib.Core.Path.{ap, ◌∙◌}
+use mir.Facts.{to_z-of_z}
+use mir.Syntax.{w32}
+use mir.Val.{of_z}
+use Rattle.words.proofs.Signs.{unsigned_bits}
 use Rattle.words.proofs.to_unsigned.Goals as goal
 
-below : (c : goal.After-turned) → Negative c.args.v
-below c = negative c.ranges.v c.if-v-lt0.true
-
--- The number turned over is not negative.
-abbrev turned : (c : goal.After-turned) → Natural c.turned.result
-turned c = ((below c).0, turned_is c.ranges.v (below c) c.turned.ensures, (below c).2)
-
-pub overflow_cast-result : goal.overflow_cast-result
-overflow_cast-result c = cast_natural (turned c)
-
-pub overflow_sub-result : goal.overflow_sub-result
-overflow_sub-result c = rw (size_natural (turned c)) (omega (arith, (turned c).2))
-
-pub overflow_cast-result-else-v-lt0 : goal.overflow_cast-result-else-v-lt0
-overflow_cast-result-else-v-lt0 c = cast_natural (natural c.ranges.v c.if-v-lt0.false)
-
-pub returns-then-v-lt0 : goal.returns-then-v-lt0
-unfolding unsigned
-returns-then-v-lt0 c =
-    ap (λ (n : ℕ). 4_294_967_295 - n) (size_natural (turned c))
-    ∙ sym (ap unsigned (below c).1)
-
-pub returns-else-v-lt0 : goal.returns-else-v-lt0
-unfolding unsigned
-returns-else-v-lt0 c =
-    let h = natural c.ranges.v c.if-v-lt0.false in
-    size_natural h ∙ sym (ap unsigned h.1)
+pub returns : goal.returns
+returns c = c.cast_unsigned.ensures ∙ ap (of_z w32) (to_z-of_z c.ranges.v) ∙ unsigned_bits c.args.v

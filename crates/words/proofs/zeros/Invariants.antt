@@ -6,6 +6,3 @@ use Rattle.words.proofs.zeros.Given as goal
 
 abbrev pub invariant-loop-i : goal.invariant-loop-i
 invariant-loop-i l = (l.from ≤ l.i) × (l.i ≤ l.from + (l.end - l.from)) × Decides l.all (ZeroWords l.s l.from l.i)
-
-abbrev pub decreases-loop-i : goal.decreases-loop-i
-decreases-loop-i l = l.end - l.i

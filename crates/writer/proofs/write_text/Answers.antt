@@ -1,0 +1,46 @@
+-- `writer::write_text` meets its contract: each refusal in its order, then the text, which was measured first.
+-- Assumes nothing.
+use mathlib.Core.Path.{sym, ap, ◌∙◌}
+use borrow.Author.Tests.{not-true, not-false}
+use Rattle.writer.proofs.Short.{ready}
+use Rattle.writer.proofs.Answers.{short_tables, short_terms, not_loaded, untouched, is_outgrown, is_written}
+use Rattle.writer.proofs.write_text.Goals as goal
+
+pub returns-then-tables-lt-TABLES : goal.returns-then-tables-lt-TABLES
+returns-then-tables-lt-TABLES c =
+    let o = short_tables c.args.tables.now c.args.terms.now c.args.text.now c.if-tables-lt-TABLES.true in
+    record { answer = o.0; text_after = o.1 }
+
+pub returns-then-terms-lt-TERMS : goal.returns-then-terms-lt-TERMS
+returns-then-terms-lt-TERMS c =
+    let o = short_terms c.args.tables.now c.args.terms.now c.args.text.now c.if-tables-lt-TABLES.false c.if-terms-lt-TERMS.true in
+    record { answer = o.0; text_after = o.1 }
+
+pub returns-then-not-good : goal.returns-then-not-good
+returns-then-not-good c =
+    let o =
+    not_loaded c.args.tables.now c.args.terms.now c.args.text.now c.if-tables-lt-TABLES.false c.if-terms-lt-TERMS.false
+    (sym c.good.ensures ∙ not-true _ c.if-not-good.true-raw) in
+    record { answer = o.0; text_after = o.1 }
+
+pub put_text-length-requires : goal.put_text-length-requires
+put_text-length-requires c =
+    ready c.args.tables.now c.args.terms.now c.if-tables-lt-TABLES.false c.if-terms-lt-TERMS.false (sym c.good.ensures ∙ not-false _ c.if-not-good.false-raw)
+
+pub returns-then-text-length : goal.returns-then-text-length
+returns-then-text-length c =
+    let o =
+    is_outgrown c.args.tables.now c.args.terms.now c.args.text.now c.if-tables-lt-TABLES.false c.if-terms-lt-TERMS.false
+    (sym c.good.ensures ∙ not-false _ c.if-not-good.false-raw) c.put_text-length.ensures c.if-text-length.true in
+    record { answer = (o.0, o.1); text_after = o.2 }
+
+pub put_text-requires : goal.put_text-requires
+put_text-requires c =
+    ready c.args.tables.now c.args.terms.now c.if-tables-lt-TABLES.false c.if-terms-lt-TERMS.false (sym c.good.ensures ∙ not-false _ c.if-not-good.false-raw)
+
+pub returns : goal.returns
+returns c =
+    let o =
+    is_written c.args.tables.now c.args.terms.now c.args.text.now c.if-tables-lt-TABLES.false c.if-terms-lt-TERMS.false
+    (sym c.good.ensures ∙ not-false _ c.if-not-good.false-raw) c.put_text-length.ensures c.if-text-length.false c.put_text.ensures in
+    record { answer = (o.0, o.1); text_after = o.2 }
