@@ -1,4 +1,5 @@
 -- The laws behind the tests of a field's body.
+pub mod Found
 pub mod Tags
 pub mod TermLaws
 pub mod LockLaws

@@ -1,8 +1,8 @@
 -- Laws of a field of locks judged entry by entry: an entry at fault decides, and one without passes on to those behind it.
 -- Assumes nothing.
-use Prim.Native.Nat.{ℕ, zero, suc, ◌+◌, ◌-◌, ◌/◌, ◌≤◌, ◌<◌}
+use Prim.Native.Nat.{ℕ, suc, ◌+◌, ◌*◌, ◌-◌, ◌/◌, ◌≤◌, ◌<◌}
 use native.Mathlib.Omega.{arith}
-use mathlib.Core.Path.{◌≡◌, refl, sym, ap, ◌∙◌}
+use mathlib.Core.Path.{◌≡◌, refl, sym, ap, ap₂, ◌∙◌}
 use mathlib.Core.Bool.{Bool, true, false}
 use mathlib.Core.List.{List}
 use lib.ListN.{get_or}
@@ -30,27 +30,40 @@ byte_at : (s : List ℕ) (at : ℕ) → get_or s at 0 ≡ num_at 1 s at
 unfolding tag_at
 byte_at s at = tag_byte s at
 
-module _ (s : List ℕ) (n v at : ℕ) where
-  pub entries_end : (k : ℕ) → k ≤ 0 → entries_fault n v s at k ≡ 0
+-- Entry i of a field's.
+module _ (s : List ℕ) (n v from count i : ℕ) where
+  pub entries_end : count ≤ i → entries_fault n v s (from + 3 * i) (count - i) ≡ 0
   unfolding entries_fault
-  entries_end zero h = refl
-  entries_end (suc k) h = absurd (omega arith)
+  entries_end h = ap (entries_fault n v s (from + 3 * i)) (none h)
+    where
+      none : count ≤ i → count - i ≡ 0
+      none h = omega arith
 
-  module _ (k x f : ℕ) (some : 0 < k) (number : x ≡ num_at 2 s at) (fault : f ≡ entry_fault n v x (get_or s (at + 2) 0)) where
-    one_more : k ≡ suc (k - 1)
+  module _ (x f : ℕ) (some : i < count) (number : x ≡ num_at 2 s (from + 3 * i)) (fault : f ≡ entry_fault n v x (get_or s (from + 3 * i + 2) 0)) where
+    one_more : count - i ≡ suc (count - (i + 1))
     one_more = omega (arith, some)
 
-    here : f ≡ entry_fault n v (num_at 2 s at) (num_at 1 s (at + 2))
-    here = fault ∙ ap (λ (y : ℕ). entry_fault n v y (get_or s (at + 2) 0)) number ∙ ap (entry_fault n v (num_at 2 s at)) (byte_at s (at + 2))
+    next : from + 3 * i + 3 ≡ from + 3 * (i + 1)
+    next = omega arith
 
-    pub entries_go : f ≡ 0 → entries_fault n v s at k ≡ entries_fault n x s (at + 3) (k - 1)
-    unfolding entries_fault entry_fault
-    entries_go z =
-        ap (entries_fault n v s at) one_more ∙ passed _ _ _ (sym here ∙ z) ∙ ap (λ (y : ℕ). entries_fault n y s (at + 3) (k - 1)) (sym number)
+    here : f ≡ entry_fault n v (num_at 2 s (from + 3 * i)) (num_at 1 s (from + 3 * i + 2))
+    here =
+        fault
+        ∙ ap (λ (y : ℕ). entry_fault n v y (get_or s (from + 3 * i + 2) 0)) number
+        ∙ ap (entry_fault n v (num_at 2 s (from + 3 * i))) (byte_at s (from + 3 * i + 2))
 
-    pub entries_stop : (f ≡ 0 → ⊥) → entries_fault n v s at k ≡ f
+    pub entries_stop : (f ≡ 0 → ⊥) → entries_fault n v s (from + 3 * i) (count - i) ≡ f
     unfolding entries_fault entry_fault
-    entries_stop z = ap (entries_fault n v s at) one_more ∙ stopped _ _ _ (λ e. z (here ∙ e)) ∙ sym here
+    entries_stop z = ap (entries_fault n v s (from + 3 * i)) one_more ∙ stopped _ _ _ (λ e. z (here ∙ e)) ∙ sym here
+
+  pub entries_go :
+      (x : ℕ) → i < count → x ≡ num_at 2 s (from + 3 * i) → 0 ≡ entry_fault n v x (get_or s (from + 3 * i + 2) 0)
+      → entries_fault n v s (from + 3 * i) (count - i) ≡ entries_fault n x s (from + 3 * (i + 1)) (count - (i + 1))
+  unfolding entries_fault entry_fault
+  entries_go x some number fault =
+      ap (entries_fault n v s (from + 3 * i)) (one_more x 0 some number fault)
+      ∙ passed _ _ _ (sym (here x 0 some number fault))
+      ∙ ap₂ (λ (y a : ℕ). entries_fault n y s a (count - (i + 1))) (sym number) (next x 0 some number fault)
 
 -- The field's fault, by its tag.
 module _ (s : List ℕ) (st : File.State) where

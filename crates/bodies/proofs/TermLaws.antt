@@ -1,8 +1,8 @@
 -- Laws of a field's terms judged one after the other.
 -- Assumes nothing.
-use Prim.Native.Nat.{ℕ, zero, suc, ◌+◌, ◌-◌, ◌≤◌, ◌<◌}
+use Prim.Native.Nat.{ℕ, suc, ◌+◌, ◌*◌, ◌-◌, ◌≤◌, ◌<◌}
 use native.Mathlib.Omega.{arith}
-use mathlib.Core.Path.{◌≡◌, refl, sym, ap, ◌∙◌}
+use mathlib.Core.Path.{◌≡◌, refl, sym, ap, ap₂, ◌∙◌}
 use mathlib.Core.Bool.{Bool, true, false}
 use mathlib.Core.List.{List}
 use lib.Dec.{ltb, eqb}
@@ -42,10 +42,22 @@ pub lawful_start : (n : ℕ) (ts : List Term) → lawful_above n 0 ts ≡ terms_
 unfolding lawful_above terms_lawful rising
 lawful_start n ts = refl
 
-pub lawful_end : (s : List ℕ) (n v at k : ℕ) → k ≤ 0 → lawful_above n v (terms_at s at k) ≡ true
+pub lawful_first : (s : List ℕ) (n from count : ℕ) → lawful_above n 0 (terms_at s (from + 6 * 0) (count - 0)) ≡ terms_lawful n (terms_at s from count)
+lawful_first s n from count = lawful_start n (terms_at s (from + 6 * 0) (count - 0)) ∙ ap₂ (λ (a k : ℕ). terms_lawful n (terms_at s a k)) first all_left
+  where
+    first : from + 6 * 0 ≡ from
+    first = omega arith
+
+    all_left : count - 0 ≡ count
+    all_left = omega arith
+
+-- No term is left.
+pub lawful_end : (s : List ℕ) (n v from count i : ℕ) → count ≤ i → lawful_above n v (terms_at s (from + 6 * i) (count - i)) ≡ true
 unfolding lawful_above terms_at rising_above all ◌and◌
-lawful_end s n v at zero h = refl
-lawful_end s n v at (suc k) h = absurd (omega arith)
+lawful_end s n v from count i h = ap (λ (m : ℕ). lawful_above n v (terms_at s (from + 6 * i) m)) none
+  where
+    none : count - i ≡ 0
+    none = omega arith
 
 cross : (a b c d : Bool) → ((a and c) and (b and d)) ≡ ((a and b) and (c and d))
 unfolding ◌and◌
@@ -59,18 +71,24 @@ lawful_more : (s : List ℕ) (n v at k : ℕ) → lawful_above n v (terms_at s a
 unfolding lawful_above terms_at rising_above all term_lawful
 lawful_more s n v at k = cross (ltb v (term_at s at).variable) _ _ _
 
-less : (k : ℕ) → 0 < k → k ≡ suc (k - 1)
-less k h = omega arith
+-- Term i of a field's.
+module _ (s : List ℕ) (n v from count i : ℕ) (some : i < count) where
+  less : count - i ≡ suc (count - (i + 1))
+  less = omega (arith, some)
 
-pub lawful_go :
-    (s : List ℕ) (n v at k x : ℕ) → 0 < k → term_lawful n v (term_at s at) ≡ true → x ≡ num_at 2 s at
-    → lawful_above n v (terms_at s at k) ≡ lawful_above n x (terms_at s (at + 6) (k - 1))
-unfolding ◌and◌ term_at
-lawful_go s n v at k x h e q =
-    ap (λ (m : ℕ). lawful_above n v (terms_at s at m)) (less k h)
-    ∙ lawful_more s n v at (k - 1)
-    ∙ rw e (ap (λ (m : ℕ). lawful_above n m (terms_at s (at + 6) (k - 1))) (sym q))
+  next : from + 6 * i + 6 ≡ from + 6 * (i + 1)
+  next = omega arith
 
-pub lawful_stop : (s : List ℕ) (n v at k : ℕ) → 0 < k → term_lawful n v (term_at s at) ≡ false → lawful_above n v (terms_at s at k) ≡ false
-unfolding ◌and◌
-lawful_stop s n v at k h e = ap (λ (m : ℕ). lawful_above n v (terms_at s at m)) (less k h) ∙ lawful_more s n v at (k - 1) ∙ rw e
+  pub lawful_go :
+      (x : ℕ) → term_lawful n v (term_at s (from + 6 * i)) ≡ true → x ≡ num_at 2 s (from + 6 * i)
+      → lawful_above n v (terms_at s (from + 6 * i) (count - i)) ≡ lawful_above n x (terms_at s (from + 6 * (i + 1)) (count - (i + 1)))
+  unfolding ◌and◌ term_at
+  lawful_go x e q =
+      ap (λ (m : ℕ). lawful_above n v (terms_at s (from + 6 * i) m)) less
+      ∙ lawful_more s n v (from + 6 * i) (count - (i + 1))
+      ∙ rw e (ap₂ (λ (m a : ℕ). lawful_above n m (terms_at s a (count - (i + 1)))) (sym q) next)
+
+  pub lawful_stop : term_lawful n v (term_at s (from + 6 * i)) ≡ false → lawful_above n v (terms_at s (from + 6 * i) (count - i)) ≡ false
+  unfolding ◌and◌
+  lawful_stop e =
+      ap (λ (m : ℕ). lawful_above n v (terms_at s (from + 6 * i) m)) less ∙ lawful_more s n v (from + 6 * i) (count - (i + 1)) ∙ rw e

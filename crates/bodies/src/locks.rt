@@ -2,7 +2,10 @@
 ghost use Rattle.std.specs.Prelude.{◌≡◌, ◌+◌, ◌*◌, ◌≤◌, leb, ltb, length};
 ghost use Rattle.plpb.specs.Lists.{◌and◌};
 ghost use Rattle.format.specs.File.{entries_fault};
+ghost use Rattle.bodies.specs.Faults.{found};
 ghost use Rattle.bodies.specs.Locks.{entry_fault};
+
+use crate::Fault;
 
 fn number_right(variable: u32, before: u32, variables: u32) -> bool
     ensures { result ≡ (ltb before variable and leb variable variables) }
@@ -13,34 +16,28 @@ fn number_right(variable: u32, before: u32, variables: u32) -> bool
     variable <= variables
 }
 
-fn entry_fault(variable: u32, value: u8, before: u32, variables: u32) -> u32
-    ensures { result ≡ entry_fault variables before variable value }
+fn entry_fault(variable: u32, value: u8, before: u32, variables: u32) -> Result<(), Fault>
+    ensures { found result ≡ entry_fault variables before variable value }
 {
     if !number_right(variable, before, variables) {
-        return 5;
+        return Err(Fault::WrongTerm);
     }
     if 1 < value {
-        return 10;
+        return Err(Fault::WrongLock);
     }
-    0
+    Ok(())
 }
 
-pub fn entries_fault(file: &[u8], from: usize, count: usize, variables: u32) -> u32
+pub fn entries_fault(file: &[u8], from: usize, count: usize, variables: u32) -> Result<(), Fault>
     requires { from + 3 * count ≤ length file.now }
-    ensures { result ≡ entries_fault variables 0 file.now from count }
+    ensures { found result ≡ entries_fault variables 0 file.now from count }
 {
-    let mut at = from;
-    let mut left = count;
     let mut before = 0;
-    while 0 < left {
+    for i in 0..count {
+        let at = from + 3 * i;
         let variable = words::read_u16(file, at);
-        let fault = entry_fault(variable, file[at + 2], before, variables);
-        if fault != 0 {
-            return fault;
-        }
+        entry_fault(variable, file[at + 2], before, variables)?;
         before = variable;
-        at += 3;
-        left -= 1;
     }
-    0
+    Ok(())
 }

@@ -64,16 +64,13 @@ pub fn terms_lawful(file: &[u8], from: usize, count: usize, variables: u32) -> b
     requires { from + 6 * count ≤ length file.now }
     ensures { result ≡ terms_lawful variables (terms_at file.now from count) }
 {
-    let mut at = from;
-    let mut left = count;
     let mut before = 0;
-    while 0 < left {
+    for i in 0..count {
+        let at = from + 6 * i;
         if !term_lawful(file, at, before, variables) {
             return false;
         }
         before = words::read_u16(file, at);
-        at += 6;
-        left -= 1;
     }
     true
 }

@@ -17,7 +17,6 @@ use Rattle.format.proofs.Bools.{and_left}
 use Rattle.format.specs.File as File
 use Rattle.format.specs.File.{tag_at, length_at, length_lawful, refuse, past_limits, bounds_lawful, lower_at, upper_at, mode_at, wrong_bounds, terms_in, terms_at, field_terms, locks_fault}
 use Rattle.format.specs.Limits.{terms_lawful}
-use Rattle.faults.specs.declared.State.{State}
 use Rattle.faults.specs.Faults.{body_fault, Headed}
 use Rattle.bodies.proofs.Tags.{tag_byte}
 

@@ -5,8 +5,10 @@ ghost use Rattle.std.specs.Prelude.{◌≡◌, not, ◌+◌, leb, ltb};
 ghost use Rattle.plpb.specs.Lists.{◌and◌, ◌or◌};
 ghost use Rattle.format.specs.Limits.{terms_lawful};
 ghost use Rattle.format.specs.File.{past_limits, wrong_bounds, field_terms, locks_fault};
+ghost use Rattle.bodies.specs.Faults.{found};
 ghost use Rattle.faults.specs.Faults.{state_of, body_fault, Headed};
 
+use bodies::Fault;
 use bodies::locks::entries_fault;
 use bodies::terms::{bounds_lawful, terms_lawful};
 
@@ -52,83 +54,98 @@ fn rules_full(rules: usize, terms: usize, more: usize) -> bool
     6000 - terms < more
 }
 
-fn past_limits(file: &[u8], st: State) -> bool
-    requires { Headed file.now st.at }
-    ensures { result ≡ past_limits file.now (state_of st) }
-{
-    let at = st.at;
-    let tag = file[at];
-    if tag == 1 {
-        return count_wrong(words::read_u16(file, at + 3));
-    }
-    if tag == 3 {
-        return 512 <= st.clauses;
-    }
-    if tag == 4 {
-        return rules_full(st.rules, st.terms, (words::read_size(file, at + 1) - 9) / 6);
-    }
-    false
+// A field whose head has nothing wrong, and where reading is before it.
+#[derive(Clone, Copy)]
+struct Field<'a> {
+    file: &'a [u8],
+    st: State,
+    ghost headed: { Headed file.now st.at },
 }
 
-// "6: mode outside 1 to 3, a bound outside ±1,000,000,000, an absent bound not 0."
-fn wrong_bounds(file: &[u8], at: usize) -> bool
-    requires { Headed file.now at }
-    ensures { result ≡ wrong_bounds file.now at }
-{
-    if file[at] != 4 {
-        return false;
+impl<'a> Field<'a> {
+    fn past_limits(self) -> bool
+        ensures { result ≡ past_limits self.entry.file.now (state_of self.entry.st) }
+    {
+        let file = self.file;
+        let st = self.st;
+        let at = st.at;
+        let tag = file[at];
+        if tag == 1 {
+            return count_wrong(words::read_u16(file, at + 3));
+        }
+        if tag == 3 {
+            return 512 <= st.clauses;
+        }
+        if tag == 4 {
+            return rules_full(st.rules, st.terms, (words::read_size(file, at + 1) - 9) / 6);
+        }
+        false
     }
-    !bounds_lawful(
-        file[at + 3],
-        words::read_i32(file, at + 4),
-        words::read_i32(file, at + 8),
-    )
-}
 
-fn right_terms(file: &[u8], at: usize, variables: u32) -> bool
-    requires { Headed file.now at }
-    ensures { result ≡ terms_lawful variables (field_terms file.now at) }
-{
-    if file[at] == 2 {
-        return terms_lawful(file, at + 3, words::read_size(file, at + 1) / 6, variables);
+    // "6: mode outside 1 to 3, a bound outside ±1,000,000,000, an absent bound not 0."
+    fn wrong_bounds(self) -> bool
+        ensures { result ≡ wrong_bounds self.entry.file.now self.entry.st.at }
+    {
+        let file = self.file;
+        let at = self.st.at;
+        if file[at] != 4 {
+            return false;
+        }
+        !bounds_lawful(
+            file[at + 3],
+            words::read_i32(file, at + 4),
+            words::read_i32(file, at + 8),
+        )
     }
-    if file[at] == 4 {
-        return terms_lawful(
-            file,
-            at + 12,
-            (words::read_size(file, at + 1) - 9) / 6,
-            variables,
-        );
-    }
-    true
-}
 
-// "5 for a wrong number as in terms, 10 for another value (after 5 of that entry)"
-fn locks_fault(file: &[u8], st: State) -> u32
-    requires { Headed file.now st.at }
-    ensures { result ≡ locks_fault file.now (state_of st) }
-{
-    let at = st.at;
-    if file[at] != 6 {
-        return 0;
+    fn right_terms(self) -> bool
+        ensures { result ≡ terms_lawful self.entry.st.variables (field_terms self.entry.file.now self.entry.st.at) }
+    {
+        let file = self.file;
+        let at = self.st.at;
+        let variables = self.st.variables;
+        if file[at] == 2 {
+            return terms_lawful(file, at + 3, words::read_size(file, at + 1) / 6, variables);
+        }
+        if file[at] == 4 {
+            return terms_lawful(
+                file,
+                at + 12,
+                (words::read_size(file, at + 1) - 9) / 6,
+                variables,
+            );
+        }
+        true
     }
-    let size = words::read_size(file, at + 1);
-    entries_fault(file, at + 3, size / 3, st.variables)
+
+    // "5 for a wrong number as in terms, 10 for another value (after 5 of that entry)"
+    fn locks_fault(self) -> Result<(), Fault>
+        ensures { found result ≡ locks_fault self.entry.file.now (state_of self.entry.st) }
+    {
+        let file = self.file;
+        let at = self.st.at;
+        if file[at] != 6 {
+            return Ok(());
+        }
+        let size = words::read_size(file, at + 1);
+        entries_fault(file, at + 3, size / 3, self.st.variables)
+    }
 }
 
 // ".., 4, 6, then 5 from left to right."
-pub fn body_fault(file: &[u8], st: State) -> u32
+pub fn body_fault(file: &[u8], st: State) -> Result<(), Fault>
     requires { Headed file.now st.at }
-    ensures { result ≡ body_fault file.now (state_of st) }
+    ensures { found result ≡ body_fault file.now (state_of st) }
 {
-    if past_limits(file, st) {
-        return 4;
+    let field = Field { file, st };
+    if field.past_limits() {
+        return Err(Fault::TooLarge);
     }
-    if wrong_bounds(file, st.at) {
-        return 6;
+    if field.wrong_bounds() {
+        return Err(Fault::WrongBound);
     }
-    if !right_terms(file, st.at, st.variables) {
-        return 5;
+    if !field.right_terms() {
+        return Err(Fault::WrongTerm);
     }
-    locks_fault(file, st)
+    field.locks_fault()
 }

@@ -8,14 +8,12 @@ use mathlib.Core.List.{List}
 use lib.Dec.{eqb}
 use lib.ListN.{length, get_or}
 use borrow.Author.Tests.{ne_eqb, lt-ltb, le-ltb, ltb-false, not-false}
-use Rattle.plpb.specs.Lists.{◌and◌, ◌or◌}
+use Rattle.plpb.specs.Lists.{◌or◌}
 use Rattle.words.specs.Words.{num_at}
 use Rattle.format.specs.File as File
 use Rattle.format.specs.File.{at_locks, at_clause, after_rule, may_stand, tag_at, length_at, length_lawful, refuse, fault}
-use Rattle.faults.specs.declared.State.{State}
-use Rattle.judge.specs.declared.field.Field.TheVariants.{Taken, Fault}
-use Rattle.faults.specs.Faults.{stage_of, state_of, body_fault, Headed}
-use Rattle.judge.specs.Fields.{head_fault, taken_at, field_at}
+use Rattle.faults.specs.Faults.{body_fault, Headed}
+use Rattle.judge.specs.Fields.{head_fault}
 use Rattle.bodies.proofs.Tags.{tag_byte}
 
 either : (a b c : Bool) → b ≡ false → (a or c) ≡ (a or b or c)
@@ -106,33 +104,10 @@ chain_some false false false true x n = refl
 chain_some false false false false x n = absurd (n refl)
 
 module _ (s : List ℕ) (st : File.State) where
-  pub fault_head : (head_fault s st.at st.stage ≡ 0 → ⊥) → fault s st ≡ head_fault s st.at st.stage
+  pub fault_head : (head_fault s st.at st.stage ≡ 0 → ⊥) → head_fault s st.at st.stage ≡ fault s st
   unfolding fault head_fault chain
-  fault_head n = chain_some _ _ _ _ _ n
+  fault_head n = sym (chain_some _ _ _ _ _ n)
 
-  pub fault_body : head_fault s st.at st.stage ≡ 0 → fault s st ≡ body_fault s st
+  pub fault_body : 0 ≡ head_fault s st.at st.stage → body_fault s st ≡ fault s st
   unfolding fault head_fault body_fault chain
-  fault_body e = chain_none _ _ _ _ _ e
-
-positive : (h : ℕ) → (h ≡ 0 → ⊥) → 0 < h
-positive h n = omega arith
-
--- A field taken apart, or its fault.
-module _ (s : List ℕ) (st : State) where
-  pub field_head : (h : ℕ) → h ≡ head_fault s st.at (stage_of st.stage) → (h ≡ 0 → ⊥) → Fault h ≡ field_at s st
-  unfolding field_at state_of
-  field_head h e n =
-      let f : fault s (state_of st) ≡ h = fault_head s (state_of st) (λ z. n (e ∙ z)) ∙ sym e in
-      rw (f, lt-ltb 0 h (positive h n))
-
-  pub field_body : (b : ℕ) → head_fault s st.at (stage_of st.stage) ≡ 0 → b ≡ body_fault s (state_of st) → (b ≡ 0 → ⊥) → Fault b ≡ field_at s st
-  unfolding field_at state_of
-  field_body b z e n =
-      let f : fault s (state_of st) ≡ b = fault_body s (state_of st) z ∙ sym e in
-      rw (f, lt-ltb 0 b (positive b n))
-
-  pub field_taken : head_fault s st.at (stage_of st.stage) ≡ 0 → body_fault s (state_of st) ≡ 0 → Taken (taken_at s st.at) ≡ field_at s st
-  unfolding field_at state_of
-  field_taken z e =
-      let f : fault s (state_of st) ≡ 0 = fault_body s (state_of st) z ∙ e in
-      rw f
+  fault_body e = sym (chain_none _ _ _ _ _ (sym e))

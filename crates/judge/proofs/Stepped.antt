@@ -1,13 +1,14 @@
 -- Laws of one step of reading: the state behind a field, and what reading from a state comes to.
 -- Assumes nothing.
-use Prim.Native.Nat.{ℕ, zero, suc, ◌+◌, ◌-◌, ◌≤◌, ◌<◌}
+use Prim.Native.Nat.{ℕ, suc, ◌+◌, ◌-◌, ◌≤◌, ◌<◌}
 use native.Mathlib.Omega.{arith}
 use mathlib.Core.Path.{◌≡◌, refl, sym, ap, ap₂, ◌∙◌, subst}
 use mathlib.Core.Bool.{Bool, true, false, cond}
 use mathlib.Core.List.{List}
+use Rattle.std.specs.Prelude.{Option, None, Some, Result, Ok, Err, IsErrAnd}
 use lib.Dec.{ltb, eqb, T}
 use lib.ListN.{length, get_or}
-use borrow.Author.Tests.{lt-ltb, eq-eqb, ne_eqb, ltb-true, ltb-false, leb-false, eqb-true}
+use borrow.Author.Tests.{lt-ltb, eq-eqb, ne_eqb, ltb-false, leb-false, eqb-true}
 use Rattle.plpb.specs.Lists.{◌or◌}
 use Rattle.words.specs.Words.{num_at}
 use Rattle.format.specs.File as File
@@ -17,15 +18,13 @@ use Rattle.faults.specs.declared.Stage.{Stage}
 use Rattle.faults.specs.declared.Stage.TheVariants.{Count}
 use Rattle.faults.specs.declared.State.{State}
 use Rattle.judge.specs.declared.field.Taken.{Taken as TakenT}
-use Rattle.judge.specs.declared.field.Field.{Field}
-use Rattle.judge.specs.declared.field.Field.TheVariants.{Taken, Fault}
-use Rattle.verdict.specs.declared.Answer.{Answer}
-use Rattle.verdict.specs.declared.Answer.TheVariants.{Accepted, Refused}
-use Rattle.judge.specs.declared.Step.{Step}
-use Rattle.judge.specs.declared.Step.TheVariants.{Go, Stop}
-use Rattle.verdict.specs.Answers.{outcome}
+use Rattle.verdict.specs.declared.Refusal.{Refusal}
+use Rattle.verdict.specs.Answers.{Answer, Accepted, Refused, outcome}
+use Rattle.bodies.specs.declared.Fault.{Fault}
+use Rattle.bodies.specs.Faults.{number}
+use Rattle.bodies.proofs.Found.{fault_numbered}
 use Rattle.faults.specs.Faults.{stage_of, state_of, Headed}
-use Rattle.judge.specs.Fields.{taken_at, field_at, fault_in, ending, Steps, answer_in}
+use Rattle.judge.specs.Fields.{taken_at, ending, Steps}
 use Rattle.bodies.proofs.Tags.{tag_byte}
 use Rattle.faults.proofs.Faults.{count_size, rule_size, body_room}
 
@@ -124,33 +123,6 @@ module _ (s : List ℕ) (st : State) (t : TakenT) (f : fault s (state_of st) ≡
       let ps = qs ∙ ap stage_after tag in
       λ i. record { at = behind i; stage = ps i; variables = pv i; clauses = pc i; rules = pr i; terms = pt i }
 
--- What taking a field tells.
-abbrev IsFault : Field → Type 0
-IsFault (Taken t) = ⊥
-IsFault (Fault n) = Unit {0}
-
-took : (b : Bool) (n : ℕ) (u t : TakenT) → cond b (Fault n) (Taken u) ≡ Taken t → (b ≡ false) × (t ≡ u)
-took true n u t e = absurd (subst (λ (x : Field). IsFault x) e tt)
-took false n u t e = (refl, cc)
-
-failed : (b : Bool) (m n : ℕ) (u : TakenT) → cond b (Fault m) (Taken u) ≡ Fault n → (b ≡ true) × (n ≡ m)
-failed true m n u e = (refl, cc)
-failed false m n u e = absurd (subst (λ (x : Field). IsFault x) (sym e) tt)
-
-module _ (s : List ℕ) (st : State) where
-  pub taken_told : (f : Field) (t : TakenT) → f ≡ field_at s st → f ≡ Taken t → (fault s (state_of st) ≡ 0) × (t ≡ taken_at s st.at)
-  unfolding field_at
-  taken_told f t e q =
-      let h = took _ _ _ _ (sym e ∙ q) in
-      let z : fault s (state_of st) ≤ 0 = ltb-false _ _ h.0 in
-      (omega arith, h.1)
-
-  pub fault_told : (f : Field) (n : ℕ) → f ≡ field_at s st → f ≡ Fault n → (0 < fault s (state_of st)) × (n ≡ fault s (state_of st))
-  unfolding field_at
-  fault_told f n e q =
-      let h = failed _ _ _ _ (sym e ∙ q) in
-      (ltb-true _ _ h.0, h.1)
-
 outcome_map : {A B : Type 0} (f : A → B) (r : Reading A) → outcome (map_reading f r) ≡ outcome r
 unfolding outcome map_reading
 outcome_map f (refused n o) = refl
@@ -169,63 +141,73 @@ end_outcome s st behind e =
 
 -- What reading from a state comes to, by the field that stands there.
 module _ (s : List ℕ) (st : State) where
-  pub step_fault : (f : Field) (m n : ℕ) → f ≡ field_at s st → f ≡ Fault n → m ≡ fault_in f → Steps s st (Stop (Refused m st.at))
-  unfolding Steps state_of read_from outcome fault_in
-  step_fault f m n e q r left =
-      let h = fault_told s st f n e q in
-      rw (lt-ltb 0 (fault s (state_of st)) h.0, r, q) (ap (λ (k : ℕ). Refused k st.at) (sym h.1))
+  pub step_fault : (fault_here : Fault) (r : Refusal) → number fault_here ≡ fault s (state_of st) → r ≡ record { number = number fault_here; offset = st.at } → Steps s st (Err r)
+  unfolding Steps state_of read_from outcome
+  step_fault f r e q left =
+      let some : 0 < fault s (state_of st) = omega (arith, e, fault_numbered f) in
+      rw (lt-ltb 0 (fault s (state_of st)) some) (ap (λ (k : ℕ). Refused k st.at) (sym e) ∙ sym (ap (λ (x : Refusal). Err x) q))
 
-  pub step_go :
-      (on : State) → fault s (state_of st) ≡ 0 → (tag_at s st.at ≡ 5 → ⊥) → state_of on ≡ next s (state_of st) → Steps s st (Go on)
-  unfolding Steps state_of
-  step_go on f n e left =
-      ap outcome (read_on s left (state_of st) (fault_clean s (state_of st) f) (ne_eqb _ _ n))
-      ∙ outcome_map _ (read_from s left (next s (state_of st)))
-      ∙ ap (λ (x : File.State). outcome (read_from s left x)) (sym e)
+  module _ (t : TakenT) (f : 0 ≡ fault s (state_of st)) (p : t ≡ taken_at s st.at) where
+    pub took_more : (on : State) → (t.tag ≡ 5 → ⊥) → state_of on ≡ next s (state_of st) → Steps s st (Ok (Some on))
+    unfolding Steps state_of
+    took_more on n e left =
+        ap outcome (read_on s left (state_of st) (fault_clean s (state_of st) (sym f)) (ne_eqb _ _ (λ g. n (tag s st t (sym f) p ∙ g))))
+        ∙ outcome_map _ (read_from s left (next s (state_of st)))
+        ∙ ap (λ (x : File.State). outcome (read_from s left x)) (sym e)
 
-  pub step_end :
-      (a : Answer) (behind : ℕ) → fault s (state_of st) ≡ 0 → tag_at s st.at ≡ 5 → behind ≡ st.at + 3 + length_at s st.at → a ≡ ending s behind
-      → Steps s st (Stop a)
-  unfolding Steps state_of
-  step_end a behind f e p q left =
-      ap outcome (read_end s left (state_of st) (fault_clean s (state_of st) f) (eq-eqb _ _ e))
-      ∙ end_outcome s (state_of st) behind (omega (arith, p, clean_end s (state_of st) (fault_clean s (state_of st) f) e))
-      ∙ sym q
+    took_end : (a : Answer) → t.tag ≡ 5 → a ≡ ending s t.next → (left : ℕ) → outcome (read_from s (suc left) (state_of st)) ≡ a
+    unfolding state_of
+    took_end a g q left =
+        let clean = fault_clean s (state_of st) (sym f) in
+        let here : tag_at s st.at ≡ 5 = sym (tag s st t (sym f) p) ∙ g in
+        ap outcome (read_end s left (state_of st) clean (eq-eqb _ _ here))
+        ∙ end_outcome s (state_of st) t.next (omega (arith, behind s st t (sym f) p, clean_end s (state_of st) clean here))
+        ∙ sym q
 
-  pub took_end : (f : Field) (t : TakenT) (a : Answer) → f ≡ field_at s st → f ≡ Taken t → t.tag ≡ 5 → a ≡ ending s t.next → Steps s st (Stop a)
-  took_end f t a e q g r =
-      let h = taken_told s st f t e q in
-      step_end a t.next h.0 (sym (tag s st t h.0 h.1) ∙ g) (behind s st t h.0 h.1) r
+    pub took_last : t.tag ≡ 5 → Accepted ≡ ending s t.next → Steps s st (Ok None)
+    unfolding Steps
+    took_last g q = took_end Accepted g q
 
-  pub took_more : (f : Field) (t : TakenT) (on : State) → f ≡ field_at s st → f ≡ Taken t → (t.tag ≡ 5 → ⊥) → state_of on ≡ next s (state_of st) → Steps s st (Go on)
-  took_more f t on e q n r =
-      let h = taken_told s st f t e q in
-      step_go on h.0 (λ g. n (tag s st t h.0 h.1 ∙ g)) r
+    pub took_bytes : (r : Result (Option State) Refusal) (e : Refusal) → t.tag ≡ 5 → Err e ≡ ending s t.next → IsErrAnd r (λ x. x ≡ e) → Steps s st r
+    unfolding Steps
+    took_bytes (Ok x) e g q h = absurd h
+    took_bytes (Err x) e g q h = took_end (Err x) g (ap (λ (y : Refusal). Err y) h ∙ q)
 
 -- What a loop over steps comes to.
-module _ (s : List ℕ) (st : State) (step : Step) (left : ℕ) (some : 0 < left) (h : Steps s st step) where
-  one_more : left ≡ suc (left - 1)
+module _ (s : List ℕ) (st : State) (n i : ℕ) (some : i < n) where
+  one_more : n - i ≡ suc (n - (i + 1))
   one_more = omega (arith, some)
 
-  pub goes : (on : State) → step ≡ Go on → outcome (read_from s left (state_of st)) ≡ outcome (read_from s (left - 1) (state_of on))
-  unfolding Steps
-  goes on e = ap (λ (n : ℕ). outcome (read_from s n (state_of st))) one_more ∙ subst (λ (x : Step). Steps s st x) e h (left - 1)
+  turn : (a : Answer) → outcome (read_from s (suc (n - (i + 1))) (state_of st)) ≡ a → outcome (read_from s (n - i) (state_of st)) ≡ a
+  turn a e = ap (λ (k : ℕ). outcome (read_from s k (state_of st))) one_more ∙ e
 
-  pub stops : (a : Answer) → step ≡ Stop a → outcome (read_from s left (state_of st)) ≡ answer_in step
-  unfolding Steps answer_in
-  stops a e =
-      ap (λ (n : ℕ). outcome (read_from s n (state_of st))) one_more
-      ∙ subst (λ (x : Step). Steps s st x) e h (left - 1)
-      ∙ sym (ap answer_in e)
+  module _ (behind_field : Option State) (h : Steps s st (Ok behind_field)) where
+    pub goes : (on : State) → behind_field ≡ Some on → outcome (read_from s (n - i) (state_of st)) ≡ outcome (read_from s (n - (i + 1)) (state_of on))
+    unfolding Steps
+    goes on e = turn _ (subst (λ (o : Option State). Steps s st (Ok o)) e h (n - (i + 1)))
+
+    pub ends : behind_field ≡ None → outcome (read_from s (n - i) (state_of st)) ≡ Accepted
+    unfolding Steps
+    ends e = turn _ (subst (λ (o : Option State). Steps s st (Ok o)) e h (n - (i + 1)))
+
+  pub stops : (e : Refusal) → Steps s st (Err e) → (a : Answer) → IsErrAnd a (λ x. x ≡ e) → outcome (read_from s (n - i) (state_of st)) ≡ a
+  unfolding Steps
+  stops e h (Ok x) r = absurd r
+  stops e h (Err x) r = turn _ (h (n - (i + 1))) ∙ sym (ap (λ (y : Refusal). Err y) r)
 
 abbrev pub start : State
 start = record { at = 0; stage = Count; variables = 0; clauses = 0; rules = 0; terms = 0 }
 
-pub judge_start : (s : List ℕ) → outcome (read_from s (length s) (state_of start)) ≡ outcome (read s)
+pub judge_start : (s : List ℕ) → outcome (read_from s (length s - 0) (state_of start)) ≡ outcome (read s)
 unfolding read state_of stage_of begin
-judge_start s = sym (outcome_map plan_of (read_from s (length s) begin))
+judge_start s = ap (λ (k : ℕ). outcome (read_from s k begin)) all_left ∙ sym (outcome_map plan_of (read_from s (length s) begin))
+  where
+    all_left : length s - 0 ≡ length s
+    all_left = omega arith
 
-pub judge_end : (s : List ℕ) (st : State) (left : ℕ) → left ≤ 0 → Refused 1 st.at ≡ outcome (read_from s left (state_of st))
+pub judge_end : (s : List ℕ) (st : State) (n i : ℕ) → n ≤ i → Refused 1 st.at ≡ outcome (read_from s (n - i) (state_of st))
 unfolding read_from outcome state_of
-judge_end s st zero h = refl
-judge_end s st (suc left) h = absurd (omega arith)
+judge_end s st n i h = ap (λ (k : ℕ). outcome (read_from s k (state_of st))) none
+  where
+    none : 0 ≡ n - i
+    none = omega arith

@@ -1,10 +1,12 @@
 // One field of a plan file: "A field is taken apart into tag, body and next place, or reading stops with its refusal."
-ghost use Rattle.std.specs.Prelude.{◌≡◌, ◌+◌, ◌-◌};
+ghost use Rattle.std.specs.Prelude.{◌≡◌, ◌+◌, ◌-◌, IfOk};
 ghost use Rattle.plpb.specs.Lists.{◌and◌, ◌or◌};
-ghost use Rattle.format.specs.File.{at_clause, may_stand, length_lawful};
-ghost use Rattle.faults.specs.Faults.{stage_of, Headed};
-ghost use Rattle.judge.specs.Fields.{head_fault, taken_at, field_at};
+ghost use Rattle.format.specs.File.{at_clause, may_stand, length_lawful, fault};
+ghost use Rattle.bodies.specs.Faults.{found};
+ghost use Rattle.faults.specs.Faults.{stage_of, state_of, Headed};
+ghost use Rattle.judge.specs.Fields.{head_fault, taken_at};
 
+use bodies::Fault;
 use faults::{Stage, State, body_fault};
 
 // A field's tag, where its body begins, and the next place.
@@ -13,12 +15,6 @@ pub struct Taken {
     pub tag: u8,
     pub body: usize,
     pub next: usize,
-}
-
-#[derive(Clone, Copy)]
-pub enum Field {
-    Taken(Taken),
-    Fault(u32),
 }
 
 // A clause or the end.
@@ -62,24 +58,24 @@ fn left_of(length: usize, at: usize) -> usize
 }
 
 // "In a field: 1 for the head, 2, 3, 1 for the body, .."
-fn head_fault(file: &[u8], at: usize, stage: Stage) -> u32
-    ensures { result ≡ head_fault file.now at (stage_of stage) }
+fn head_fault(file: &[u8], at: usize, stage: Stage) -> Result<(), Fault>
+    ensures { found result ≡ head_fault file.now at (stage_of stage) }
 {
     let left = left_of(file.len(), at);
     if left < 3 {
-        return 1;
+        return Err(Fault::CutShort);
     }
     if !may_stand(stage, file[at]) {
-        return 2;
+        return Err(Fault::WrongTag);
     }
     let size = words::read_size(file, at + 1);
     if !length_lawful(file[at], size) {
-        return 3;
+        return Err(Fault::WrongLength);
     }
     if left - 3 < size {
-        return 1;
+        return Err(Fault::CutShort);
     }
-    0
+    Ok(())
 }
 
 fn parts(file: &[u8], at: usize) -> Taken
@@ -93,18 +89,11 @@ fn parts(file: &[u8], at: usize) -> Taken
     }
 }
 
-pub fn take(file: &[u8], st: State) -> Field
-    ensures { result ≡ field_at file.now st }
+pub fn take(file: &[u8], st: State) -> Result<Taken, Fault>
+    ensures fault { found result ≡ fault file.now (state_of st) }
+    ensures taken { IfOk result (λ field. field ≡ taken_at file.now st.at) }
 {
-    let at = st.at;
-    let stage = st.stage;
-    let head = head_fault(file, at, stage);
-    if head != 0 {
-        return Field::Fault(head);
-    }
-    let body = body_fault(file, st);
-    if body != 0 {
-        return Field::Fault(body);
-    }
-    Field::Taken(parts(file, at))
+    head_fault(file, st.at, st.stage)?;
+    body_fault(file, st)?;
+    Ok(parts(file, st.at))
 }

@@ -6,20 +6,15 @@ ghost use Rattle.words.specs.Words.{num_at};
 ghost use Rattle.format.specs.File.{stage_after, terms_in, fault, next, read};
 ghost use Rattle.verdict.specs.Answers.{outcome};
 ghost use Rattle.faults.specs.Faults.{stage_of, state_of};
-ghost use Rattle.judge.specs.Fields.{taken_at, fault_in, ending, Steps, answer_in};
+ghost use Rattle.bodies.specs.Faults.{number};
+ghost use Rattle.judge.specs.Fields.{taken_at, ending, Steps};
 
-use crate::field::{Field, Taken};
+use crate::field::Taken;
+use bodies::Fault;
 use faults::{Stage, State};
-use verdict::Answer;
+use verdict::Refusal;
 
 mod field;
-
-// One field read: the state behind it, or what reading comes to.
-#[derive(Clone, Copy)]
-pub enum Step {
-    Go(State),
-    Stop(Answer),
-}
 
 fn stage_after(tag: u8) -> Stage
     ensures { stage_of result ≡ stage_after tag }
@@ -79,51 +74,42 @@ fn behind(file: &[u8], st: State, field: Taken) -> State
     }
 }
 
-fn fault_of(field: Field) -> u32
-    ensures { result ≡ fault_in field }
+fn refusal(fault: Fault, offset: usize) -> Refusal
+    ensures { result ≡ record { number = number fault; offset = offset } }
 {
-    match field {
-        Field::Taken(_) => 0,
-        Field::Fault(number) => number,
+    Refusal {
+        number: fault.number(),
+        offset,
     }
 }
 
 // "7: bytes after the end field; the offset is the first of them."
-fn finish(file: &[u8], next: usize) -> Answer
+fn finish(file: &[u8], next: usize) -> Result<(), Refusal>
     ensures { result ≡ ending file.now next }
 {
     if next < file.len() {
-        Answer::Refused(7, next)
-    } else {
-        Answer::Accepted
+        return Err(refusal(Fault::BytesAfterEnd, next));
     }
+    Ok(())
 }
 
-fn go_on(file: &[u8], st: State) -> Step
+// One field read: the state behind it, or none behind the end field.
+fn go_on(file: &[u8], st: State) -> Result<Option<State>, Refusal>
     ensures { Steps file.now st result }
 {
-    let at = st.at;
-    let field = field::take(file, st);
-    let Field::Taken(taken) = field else {
-        return Step::Stop(Answer::Refused(fault_of(field), at));
+    let answer = field::take(file, st);
+    let Ok(taken) = answer else {
+        return Err(refusal(answer.unwrap_err(), st.at));
     };
     if taken.tag == 5 {
-        return Step::Stop(finish(file, taken.next));
+        finish(file, taken.next)?;
+        return Ok(None);
     }
-    Step::Go(behind(file, st, taken))
-}
-
-fn stopped(step: Step) -> Answer
-    ensures { result ≡ answer_in step }
-{
-    match step {
-        Step::Go(_) => Answer::Accepted,
-        Step::Stop(answer) => answer,
-    }
+    Ok(Some(behind(file, st, taken)))
 }
 
 // What a file comes to. A field takes three bytes at least, so that there are fewer fields than bytes.
-pub fn judge(file: &[u8]) -> Answer
+pub fn judge(file: &[u8]) -> Result<(), Refusal>
     ensures { result ≡ outcome (read file.now) }
 {
     let mut st = State {
@@ -134,14 +120,11 @@ pub fn judge(file: &[u8]) -> Answer
         rules: 0,
         terms: 0,
     };
-    let mut left = file.len();
-    while 0 < left {
-        let step = go_on(file, st);
-        let Step::Go(next) = step else {
-            return stopped(step);
-        };
-        st = next;
-        left -= 1;
+    for _field in 0..file.len() {
+        match go_on(file, st)? {
+            Some(next) => st = next,
+            None => return Ok(()),
+        }
     }
-    Answer::Refused(1, st.at)
+    Err(refusal(Fault::CutShort, st.at))
 }

@@ -38,6 +38,7 @@ fn work_small(tables: &[u8], terms: &[u8], assignment: &[u8], tallies: &[u8], ma
     marks.len() < columns::COLUMNS
 }
 
+// The number of the first test that fails, 0 for none: the C interface gives it out as it is.
 pub fn search_refusal(
     tables: &[u8],
     terms: &[u8],

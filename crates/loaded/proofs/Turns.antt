@@ -6,9 +6,9 @@ use mathlib.Core.Bool.{Bool, true, false, not}
 use native.Mathlib.Numerals.{add-one}
 use native.Mathlib.Omega.{arith}
 use lib.Dec.{eqb, leb}
-use borrow.Author.Tests.{not-true, not-false}
+use borrow.Author.Tests.{not-true, not-false, leb-true}
 use Rattle.plpb.specs.Lists.{◌and◌}
-use Rattle.format.proofs.Bools.{and_assoc}
+use Rattle.format.proofs.Bools.{and_assoc, and_right}
 use Rattle.format.specs.Good.{every_from, link_good, chain_from, term_good, terms_from}
 use Rattle.format.proofs.Good.{left_of, chain_step, chain_fail, chain_end}
 use Rattle.format.proofs.Chains.{link_parts}
@@ -59,8 +59,9 @@ module _ (first count : ℕ → ℕ) (e at i : ℕ) {a n : ℕ} {r : Bool} (p : 
   pub link_start : at ≤ e → not r ≡ false → at ≡ first i
   link_start l t = sym (link_parts first count e at i l (link_good_lem t)).start
 
-  pub link_fits : at ≤ e → not r ≡ false → at + n ≤ e
-  link_fits l t = rw q (link_parts first count e at i l (link_good_lem t)).fits
+-- An entry that passed its test ends within the chain.
+pub link_fits : (x n at e : ℕ) {r : Bool} → r ≡ (eqb x at and leb 1 n and leb n (e - at)) → at ≤ e → not r ≡ false → at + n ≤ e
+link_fits x n at e {r} h l t = omega (arith, leb-true _ _ (and_right _ _ (sym h ∙ not-false r t)), l)
 
 pub chain_done : (first count : ℕ → ℕ) (e at i m : ℕ) → m ≤ i → chain_from first count e at i (m - i) ≡ eqb at e
 chain_done first count e at i m h = let z : m - i ≡ 0 = omega arith in rw z (chain_end first count e at i)

@@ -1,6 +1,6 @@
 // The test of tables: refusal 22 is for "tables that no accepted loading leaves". One pass over both tables, each loop one piece of the
-// definition `goodBy`; the order has its own (crate ordered). Good tables are the rule and are read whole in any case, so a loop that only compares words does not stop at the
-// first fault: without a way out it takes 16 bytes at a time.
+// definition `good_by`; the order has its own (crate ordered). Good tables are the rule and are read whole in any case, so a loop that only
+// compares words does not stop at the first fault: without a way out it takes 16 bytes at a time.
 #![tactic(auto)]
 
 ghost use Rattle.std.specs.Prelude.{◌≡◌, ◌+◌, ◌*◌, ◌-◌, ◌≤◌, leb, ltb, eqb, nat_abs, length};
@@ -42,10 +42,8 @@ fn coefficients(tables: &[u8], variables: usize) -> bool
     ensures { result ≡ every_from (coefficient_good (word_at tables.now)) 1 variables }
 {
     let mut all = true;
-    let mut x = 1;
-    while x < variables + 1 {
+    for x in 1..variables + 1 {
         all = all & (size(word(tables, OBJECTIVE + x)) <= 1000000);
-        x += 1;
     }
     all
 }
@@ -56,10 +54,8 @@ fn locks(tables: &[u8], variables: usize) -> bool
     ensures { result ≡ every_from (lock_good (word_at tables.now)) 1 variables }
 {
     let mut all = true;
-    let mut x = 1;
-    while x < variables + 1 {
+    for x in 1..variables + 1 {
         all = all & (word(tables, LOCKS + x) <= 2);
-        x += 1;
     }
     all
 }
@@ -79,14 +75,12 @@ fn clause_chain(tables: &[u8], clauses: usize, rules: usize) -> bool
         ≡ chain_from (λ c. word_at tables.now (clause_first_at c)) (λ c. word_at tables.now (clause_count_at c)) rules 0 0 clauses }
 {
     let mut at = 0;
-    let mut c = 0;
-    while c < clauses {
+    for c in 0..clauses {
         let count = index(tables, CLAUSE_COUNT + 2 * c);
         if !link_good(index(tables, CLAUSES + 2 * c), count, at, rules) {
             return false;
         }
         at += count;
-        c += 1;
     }
     at == rules
 }
@@ -106,12 +100,10 @@ fn rule_terms(terms: &[u8], variables: u32, from: usize, to: usize) -> bool
 {
     let mut all = true;
     let mut above = 0;
-    let mut i = from;
-    while i < to {
+    for i in from..to {
         let variable = word(terms, 2 * i);
         all = all & term_good(above, variable, word(terms, 2 * i + 1), variables);
         above = variable;
-        i += 1;
     }
     all
 }
@@ -155,8 +147,7 @@ fn rule_chain(tables: &[u8], terms: &[u8], rules: usize, total: usize) -> bool
 {
     let variables = word(tables, 0);
     let mut at = 0;
-    let mut r = 0;
-    while r < rules {
+    for r in 0..rules {
         let count = index(tables, RULE_COUNT + 5 * r);
         if !link_good(index(tables, RULES + 5 * r), count, at, total) {
             return false;
@@ -165,7 +156,6 @@ fn rule_chain(tables: &[u8], terms: &[u8], rules: usize, total: usize) -> bool
             return false;
         }
         at += count;
-        r += 1;
     }
     at == total
 }
@@ -181,48 +171,52 @@ fn counts_good(variables: usize, clauses: usize, rules: usize, total: usize) -> 
         & (total <= MAX_TERMS)
 }
 
-// The objective: 0 or a lawful coefficient for each variable, 0 beyond the last.
-fn objective_good(tables: &[u8], variables: usize) -> bool
-    requires variables_value { variables ≡ word_at tables.now 0 }
-    requires variables_le_max_variables { variables ≤ max_variables }
-    requires table_size_in_bounds { table_size ≤ length tables.now }
-    ensures { result ≡ objective_good (word_at tables.now) }
-{
-    coefficients(tables, variables) & zeros(tables, 4 + variables, CLAUSES)
+// Tables of full size whose counts are within the limits.
+#[derive(Clone, Copy)]
+struct Counted<'a> {
+    tables: &'a [u8],
+    terms: &'a [u8],
+    variables: usize,
+    clauses: usize,
+    rules: usize,
+    total: usize,
+    ghost long: { (table_size ≤ length tables.now) × (term_size ≤ length terms.now) },
+    ghost counts: { (variables ≡ word_at tables.now 0) × (clauses ≡ word_at tables.now 1) × (rules ≡ word_at tables.now 2) × (total ≡ word_at tables.now 3) },
+    ghost limits: { (variables ≤ max_variables) × (clauses ≤ max_clauses) × (rules ≤ max_rules) × (total ≤ max_terms) },
 }
 
-// The clauses, and 0 beyond the last.
-fn clauses_good(tables: &[u8], clauses: usize, rules: usize) -> bool
-    requires clauses_value { clauses ≡ word_at tables.now 1 }
-    requires rules_value { rules ≡ word_at tables.now 2 }
-    requires clauses_le_max_clauses { clauses ≤ max_clauses }
-    requires table_size_in_bounds { table_size ≤ length tables.now }
-    ensures { result ≡ clauses_good (word_at tables.now) }
-{
-    clause_chain(tables, clauses, rules) & zeros(tables, CLAUSES + 2 * clauses, RULES)
-}
+impl<'a> Counted<'a> {
+    // The objective: 0 or a lawful coefficient for each variable, 0 beyond the last.
+    fn objective_good(self) -> bool
+        ensures { result ≡ objective_good (word_at self.entry.tables.now) }
+    {
+        coefficients(self.tables, self.variables) & zeros(self.tables, 4 + self.variables, CLAUSES)
+    }
 
-// The rules, and 0 beyond the last.
-fn rules_good(tables: &[u8], terms: &[u8], rules: usize, total: usize) -> bool
-    requires rules_value { rules ≡ word_at tables.now 2 }
-    requires total_value { total ≡ word_at tables.now 3 }
-    requires rules_le_max_rules { rules ≤ max_rules }
-    requires table_size_in_bounds { table_size ≤ length tables.now }
-    requires total_in_bounds { 8 * total ≤ length terms.now }
-    ensures { result
-        ≡ (rules_good (word_at tables.now) and every_from (rule_good (word_at tables.now) (word_at terms.now)) 0 rules) }
-{
-    rule_chain(tables, terms, rules, total) & zeros(tables, RULES + 5 * rules, RULES_END)
-}
+    // The clauses, and 0 beyond the last.
+    fn clauses_good(self) -> bool
+        ensures { result ≡ clauses_good (word_at self.entry.tables.now) }
+    {
+        clause_chain(self.tables, self.clauses, self.rules)
+            & zeros(self.tables, CLAUSES + 2 * self.clauses, RULES)
+    }
 
-// The locks: 0, 1 or 2 for each variable, 0 beyond the last.
-fn locks_good(tables: &[u8], variables: usize) -> bool
-    requires variables_value { variables ≡ word_at tables.now 0 }
-    requires variables_le_max_variables { variables ≤ max_variables }
-    requires table_size_in_bounds { table_size ≤ length tables.now }
-    ensures { result ≡ locks_good (word_at tables.now) }
-{
-    locks(tables, variables) & zeros(tables, RULES_END + variables, ENDS)
+    // The rules, and 0 beyond the last.
+    fn rules_good(self) -> bool
+        ensures { result
+            ≡ (rules_good (word_at self.entry.tables.now)
+            and every_from (rule_good (word_at self.entry.tables.now) (word_at self.entry.terms.now)) 0 self.entry.rules) }
+    {
+        rule_chain(self.tables, self.terms, self.rules, self.total)
+            & zeros(self.tables, RULES + 5 * self.rules, RULES_END)
+    }
+
+    // The locks: 0, 1 or 2 for each variable, 0 beyond the last.
+    fn locks_good(self) -> bool
+        ensures { result ≡ locks_good (word_at self.entry.tables.now) }
+    {
+        locks(self.tables, self.variables) & zeros(self.tables, RULES_END + self.variables, ENDS)
+    }
 }
 
 // The base of tables of full size, and the terms.
@@ -238,11 +232,19 @@ fn base_good(tables: &[u8], terms: &[u8]) -> bool
     if !counts_good(variables, clauses, rules, total) {
         return false;
     }
-    objective_good(tables, variables)
-        & clauses_good(tables, clauses, rules)
-        & rules_good(tables, terms, rules, total)
+    let counted = Counted {
+        tables,
+        terms,
+        variables,
+        clauses,
+        rules,
+        total,
+    };
+    counted.objective_good()
+        & counted.clauses_good()
+        & counted.rules_good()
         & zeros(terms, 2 * total, TERM_WORDS)
-        & locks_good(tables, variables)
+        & counted.locks_good()
 }
 
 // Whether an accepted loading leaves these tables, for any bytes: format/proofs/IsLoaded.antt says that `isLoaded` is just that.

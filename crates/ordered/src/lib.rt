@@ -12,106 +12,120 @@ use format::{CLAUSE_COUNT, CLAUSES, ENDS, ORDER, RULE_COUNT, RULES, TABLE_WORDS}
 use places::{clause_in, is_negative_word, rule_in, spell, term_in};
 use words::{index, word, zeros};
 
-// A place that there is: its clause, its rule and its term.
-fn place_good(tables: &[u8], terms: &[u8], c: usize, r: usize, i: usize) -> bool
-    requires { Ready tables.now terms.now × (r < 2_048) }
-    ensures { result ≡ place_good (word_at tables.now) (record { clause = c; rule = r; term = i }) }
-{
-    if index(tables, 1) <= c {
-        return false;
-    }
-    let first = index(tables, CLAUSES + 2 * c);
-    let count = index(tables, CLAUSE_COUNT + 2 * c);
-    if r < first {
-        return false;
-    }
-    if first + count <= r {
-        return false;
-    }
-    i < index(tables, RULE_COUNT + 5 * r)
+// What a word of the order names: a clause, a rule and a place among the rule's terms.
+#[derive(Clone, Copy)]
+struct Place {
+    clause: usize,
+    rule: usize,
+    term: usize,
 }
 
-// The word of such a place in the run of x, where rules from `least` on may stand.
-fn word_good(
-    tables: &[u8],
-    terms: &[u8],
-    x: u32,
-    least: usize,
-    w: u32,
-    c: usize,
-    r: usize,
-    i: usize,
-) -> bool
-    requires { Ready tables.now terms.now × (i < 512) × (place_good (word_at tables.now) (record { clause = c; rule = r; term = i }) ≡ true) }
-    ensures { result
-        ≡ word_good (word_at tables.now) (word_at terms.now) x least w (record { clause = c; rule = r; term = i }) }
-{
-    let k = index(tables, RULES + 5 * r) + i;
-    let several = 1 < index(tables, CLAUSE_COUNT + 2 * c);
-    let negated = is_negative_word(word(terms, 2 * k + 1));
-    (word(terms, 2 * k) == x) & (least <= r) & (w == spell(several, c, r, i, negated))
+// Tables whose base has passed its test, and the terms beside them.
+#[derive(Clone, Copy)]
+struct Base<'a> {
+    tables: &'a [u8],
+    terms: &'a [u8],
+    ghost ready: { Ready tables.now terms.now },
 }
 
-fn entry_good(tables: &[u8], terms: &[u8], x: u32, least: usize, w: u32) -> bool
-    requires { Ready tables.now terms.now }
-    ensures { result ≡ entry_good (word_at tables.now) (word_at terms.now) x least w }
-{
-    let c = clause_in(w);
-    let r = rule_in(w);
-    let i = term_in(w);
-    if !place_good(tables, terms, c, r, i) {
-        return false;
-    }
-    word_good(tables, terms, x, least, w, c, r, i)
-}
-
-// The entries of x from one on and before another: their rules rise.
-fn entries_good(tables: &[u8], terms: &[u8], x: u32, from: usize, to: usize) -> bool
-    requires { Ready tables.now terms.now × (from ≤ to) × (to ≤ word_at tables.now 3) }
-    ensures { result ≡ entries_from (word_at tables.now) (word_at terms.now) x 0 from (to - from) }
-{
-    let mut least = 0;
-    let mut k = from;
-    while k < to {
-        let w = word(tables, ORDER + k);
-        if !entry_good(tables, terms, x, least, w) {
+impl<'a> Base<'a> {
+    // A place that there is.
+    fn place_good(self, place: Place) -> bool
+        requires { place.rule < 2_048 }
+        ensures { result
+            ≡ place_good (word_at self.entry.tables.now) (record { clause = place.clause; rule = place.rule; term = place.term }) }
+    {
+        let c = place.clause;
+        let r = place.rule;
+        if index(self.tables, 1) <= c {
             return false;
         }
-        least = rule_in(w) + 1;
-        k += 1;
-    }
-    true
-}
-
-// The run of x: it begins where that of the variable before ends.
-fn run_good(tables: &[u8], terms: &[u8], x: usize) -> bool
-    requires { Ready tables.now terms.now × (1 ≤ x) × (x ≤ 512) }
-    ensures { result ≡ run_good (word_at tables.now) (word_at terms.now) x }
-{
-    let from = index(tables, ENDS + (x - 1));
-    let to = index(tables, ENDS + x);
-    if to < from {
-        return false;
-    }
-    if index(tables, 3) < to {
-        return false;
-    }
-    entries_good(tables, terms, words::narrow(x), from, to)
-}
-
-// The runs of all variables.
-fn runs_good(tables: &[u8], terms: &[u8], variables: usize) -> bool
-    requires { Ready tables.now terms.now × (variables ≤ 512) }
-    ensures { result ≡ every_from (run_good (word_at tables.now) (word_at terms.now)) 1 variables }
-{
-    let mut x = 1;
-    while x < variables + 1 {
-        if !run_good(tables, terms, x) {
+        let first = index(self.tables, CLAUSES + 2 * c);
+        let count = index(self.tables, CLAUSE_COUNT + 2 * c);
+        if r < first {
             return false;
         }
-        x += 1;
+        if first + count <= r {
+            return false;
+        }
+        place.term < index(self.tables, RULE_COUNT + 5 * r)
     }
-    true
+
+    // The word of such a place in the run of x, where rules from `least` on may stand.
+    fn word_good(self, x: u32, least: usize, w: u32, place: Place) -> bool
+        requires { (place.term < 512)
+            × (place_good (word_at self.tables.now) (record { clause = place.clause; rule = place.rule; term = place.term }) ≡ true) }
+        ensures { result
+            ≡ word_good (word_at self.entry.tables.now) (word_at self.entry.terms.now) x least w
+            (record { clause = place.clause; rule = place.rule; term = place.term }) }
+    {
+        let c = place.clause;
+        let r = place.rule;
+        let i = place.term;
+        let k = index(self.tables, RULES + 5 * r) + i;
+        let several = 1 < index(self.tables, CLAUSE_COUNT + 2 * c);
+        let negated = is_negative_word(word(self.terms, 2 * k + 1));
+        (word(self.terms, 2 * k) == x) & (least <= r) & (w == spell(several, c, r, i, negated))
+    }
+
+    fn entry_good(self, x: u32, least: usize, w: u32) -> bool
+        ensures { result ≡ entry_good (word_at self.entry.tables.now) (word_at self.entry.terms.now) x least w }
+    {
+        let place = Place {
+            clause: clause_in(w),
+            rule: rule_in(w),
+            term: term_in(w),
+        };
+        if !self.place_good(place) {
+            return false;
+        }
+        self.word_good(x, least, w, place)
+    }
+
+    // The entries of x from one on and before another: their rules rise.
+    fn entries_good(self, x: u32, from: usize, to: usize) -> bool
+        requires { (from ≤ to) × (to ≤ word_at self.tables.now 3) }
+        ensures { result ≡ entries_from (word_at self.entry.tables.now) (word_at self.entry.terms.now) x 0 from (to - from) }
+    {
+        let mut least = 0;
+        for k in from..to {
+            let w = word(self.tables, ORDER + k);
+            if !self.entry_good(x, least, w) {
+                return false;
+            }
+            least = rule_in(w) + 1;
+        }
+        true
+    }
+
+    // The run of x: it begins where that of the variable before ends.
+    fn run_good(self, x: usize) -> bool
+        requires { (1 ≤ x) × (x ≤ 512) }
+        ensures { result ≡ run_good (word_at self.entry.tables.now) (word_at self.entry.terms.now) x }
+    {
+        let from = index(self.tables, ENDS + (x - 1));
+        let to = index(self.tables, ENDS + x);
+        if to < from {
+            return false;
+        }
+        if index(self.tables, 3) < to {
+            return false;
+        }
+        self.entries_good(words::narrow(x), from, to)
+    }
+
+    // The runs of all variables.
+    fn runs_good(self, variables: usize) -> bool
+        requires { variables ≤ 512 }
+        ensures { result ≡ every_from (run_good (word_at self.entry.tables.now) (word_at self.entry.terms.now)) 1 variables }
+    {
+        for x in 1..variables + 1 {
+            if !self.run_good(x) {
+                return false;
+            }
+        }
+        true
+    }
 }
 
 // The order: the first run begins at 0, the last ends where the terms do; unused entries 0.
@@ -124,7 +138,7 @@ pub fn order_good(tables: &[u8], terms: &[u8]) -> bool
     if !(word(tables, ENDS) == 0) {
         return false;
     }
-    if !runs_good(tables, terms, variables) {
+    if !(Base { tables, terms }).runs_good(variables) {
         return false;
     }
     (index(tables, ENDS + variables) == total)

@@ -5,6 +5,7 @@ ghost use Rattle.std.specs.Prelude.{◌≡◌};
 ghost use Rattle.settings.specs.Settings.{choice_refusal, settings_refusal};
 
 // Noise in thousandths, the tries of a call, the flips of a try, 0 for linear or 1 for LBS, 0 for SKC or 1 for Novelty+, and its walk chance in thousandths.
+// The C interface takes any number for mode and heuristic and refuses one out of range, so that both are numbers here.
 #[derive(Clone, Copy)]
 pub struct Settings {
     pub noise: u32,
@@ -28,7 +29,7 @@ fn choice_refusal(s: Settings) -> u32
     0
 }
 
-// The number of the first setting out of its range, 0 for none.
+// The number of the first setting out of its range, 0 for none: the C interface gives it out as it is.
 pub fn settings_refusal(s: Settings) -> u32
     ensures { result ≡ settings_refusal s }
 {

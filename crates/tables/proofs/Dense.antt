@@ -5,7 +5,7 @@ use native.Mathlib.Omega.{arith}
 use native.Mathlib.Nat.{add-zero}
 use native.Mathlib.Numerals.{one-add}
 use native.Mathlib.Decide.{dec_lt, ℕ_discrete}
-use mathlib.Core.Path.{◌≡◌, refl, sym, ap, ◌∙◌}
+use mathlib.Core.Path.{◌≡◌, refl, sym, ap, ap₂, ◌∙◌, subst}
 use mathlib.Core.Bool.{Bool, true, false, cond}
 use mathlib.Core.List.{List, [], ◌∷◌, map}
 use lib.Dec.{eqb}
@@ -30,6 +30,7 @@ use Rattle.format.proofs.Locks.{lock_dense}
 use Rattle.tables.specs.Places.{behind_objective, behind_field, locks_in}
 use Rattle.tables.specs.Sections.{objective_words, lock_words, placed, in_range}
 use Rattle.bodies.proofs.Tags.{tag_byte}
+use Rattle.tables.proofs.Entered.{one_less, none_left, all_left, terms_more}
 use Rattle.tables.proofs.Found.{begun_file, begun_front}
 use Rattle.tables.proofs.Filled.{lawful_file}
 
@@ -154,6 +155,9 @@ pub record Placing (ts : List Term) (o : List ℕ) (left : List Term) (t : List 
 pub placing_start : (ts : List Term) (o : List ℕ) → in_range ts ≡ true → length o ≡ 2_048 → Placing ts o ts o
 placing_start ts o r n = record { whole = refl; range = r; long = n; same = refl }
 
+pub placing_first : (ts left : List Term) (o : List ℕ) → left ≡ ts → in_range ts ≡ true → length o ≡ 2_048 → Placing ts o left o
+placing_first ts left o e r n = subst (λ (l : List Term). Placing ts o l o) (sym e) (placing_start ts o r n)
+
 module _ {ts : List Term} {o : List ℕ} {left : List Term} {t : List ℕ} (h : Placing ts o left t) where
   module _ (x : Term) (rest : List Term) (e : left ≡ x ∷ rest) where
     range_here : in_range (x ∷ rest) ≡ true
@@ -181,28 +185,41 @@ module _ {ts : List Term} {o : List ℕ} {left : List Term} {t : List ℕ} (h : 
   placing_end e = ap (λ (l : List Term). placed l t) (sym e) ∙ h.whole
 
 -- The terms left of a field, and of the locks of one.
-less : (k : ℕ) → 0 < k → k ≡ suc (k - 1)
-less k h = omega arith
-
-none : (k : ℕ) → k ≤ 0 → k ≡ 0
-none k h = omega arith
-
-module _ (s : List ℕ) (at left : ℕ) where
-  pub terms_left_lem : 0 < left → terms_at s at left ≡ term_at s at ∷ terms_at s (at + 6) (left - 1)
+module _ (s : List ℕ) (from count i : ℕ) where
+  pub terms_left_lem : i < count → terms_at s (from + 6 * i) (count - i) ≡ term_at s (from + 6 * i) ∷ terms_at s (from + 6 * (i + 1)) (count - (i + 1))
   unfolding terms_at
-  terms_left_lem h = ap (terms_at s at) (less left h)
+  terms_left_lem h = terms_more s (from + 6 * i) (one_less h) (omega arith)
 
-  pub no_terms_left : left ≤ 0 → terms_at s at left ≡ []
+  pub no_terms_left : count ≤ i → terms_at s (from + 6 * i) (count - i) ≡ []
   unfolding terms_at
-  no_terms_left h = ap (terms_at s at) (none left h)
+  no_terms_left h = ap (terms_at s (from + 6 * i)) (none_left h)
 
-  pub locks_left : 0 < left → map lock_term (lock_entries s at left) ≡ lock_term (lock_entry s at) ∷ map lock_term (lock_entries s (at + 3) (left - 1))
+  pub locks_left :
+      i < count → map lock_term (lock_entries s (from + 3 * i) (count - i))
+      ≡ lock_term (lock_entry s (from + 3 * i)) ∷ map lock_term (lock_entries s (from + 3 * (i + 1)) (count - (i + 1)))
   unfolding lock_entries
-  locks_left h = ap (λ (k : ℕ). map lock_term (lock_entries s at k)) (less left h)
+  locks_left h =
+      ap (λ (k : ℕ). map lock_term (lock_entries s (from + 3 * i) k)) (one_less h)
+      ∙ ap (λ (a : ℕ). lock_term (lock_entry s (from + 3 * i)) ∷ map lock_term (lock_entries s a (count - (i + 1)))) next_lock
+    where
+      next_lock : from + 3 * i + 3 ≡ from + 3 * (i + 1)
+      next_lock = omega arith
 
-  pub no_locks_left : left ≤ 0 → map lock_term (lock_entries s at left) ≡ []
+  pub no_locks_left : count ≤ i → map lock_term (lock_entries s (from + 3 * i) (count - i)) ≡ []
   unfolding lock_entries
-  no_locks_left h = ap (λ (k : ℕ). map lock_term (lock_entries s at k)) (none left h)
+  no_locks_left h = ap (λ (k : ℕ). map lock_term (lock_entries s (from + 3 * i) k)) (none_left h)
+
+pub terms_first : (s : List ℕ) (from count : ℕ) → terms_at s (from + 6 * 0) (count - 0) ≡ terms_at s from count
+terms_first s from count = ap₂ (terms_at s) first_place (all_left count)
+  where
+    first_place : from + 6 * 0 ≡ from
+    first_place = omega arith
+
+pub locks_first : (s : List ℕ) (from count : ℕ) → map lock_term (lock_entries s (from + 3 * 0) (count - 0)) ≡ map lock_term (lock_entries s from count)
+locks_first s from count = ap₂ (λ (a k : ℕ). map lock_term (lock_entries s a k)) first_place (all_left count)
+  where
+    first_place : from + 3 * 0 ≡ from
+    first_place = omega arith
 
 -- What is written for a term, and for a lock.
 pub term_written :

@@ -1,16 +1,18 @@
 -- Laws of entries: the words that the code writes for a rule and for terms are those of the definitions.
 -- Assumes nothing.
-use Prim.Native.Nat.{ℕ, zero, suc, ◌+◌, ◌*◌, ◌-◌, ◌≤◌, ◌<◌}
+use Prim.Native.Nat.{ℕ, suc, ◌+◌, ◌*◌, ◌-◌, ◌≤◌, ◌<◌}
 use native.Mathlib.Omega.{arith}
 use mathlib.Core.Path.{◌≡◌, refl, sym, ap, ap₂, ◌∙◌}
 use mathlib.Core.List.{List, [], ◌∷◌, ◌++◌, append_assoc, append-nil}
-use lib.ListN.{length, get_or, length-append}
+use lib.ListN.{length, get_or, length-append, take}
 use borrow.Rule.Slice.PartMut.{mid_of, put_mid}
 use Rattle.plpb.specs.Plan.{Term, Rule}
 use Rattle.words.specs.Words.{num_at, word_bytes, signed, unsigned}
-use Rattle.words.specs.Writes.{front, put}
+use Rattle.words.specs.Writes.{front, put, put_words}
 use Rattle.words.proofs.Words.{Below, num_at_lt, unsigned_signed, length_word_bytes}
-use Rattle.words.proofs.Writes.{front_none, front_put, length_front, lent_tail, word_bytes_append}
+use Rattle.words.proofs.Writes.{front_none, front_put, length_front, lent_tail, word_bytes_append, words_behind}
+use Rattle.std.proofs.lemmas.List.{take_more, length-take-le}
+use Rattle.std.proofs.Math.Seq.{take-length}
 use Rattle.format.specs.File.{tag_at, length_at, terms_in, term_at, terms_at, field_terms, rule_at, mode_at, lower_at, upper_at}
 use Rattle.format.specs.Tables.{rule_entries, term_entries}
 use Rattle.format.proofs.Bounds.{Meant, bounds_tested, bounds_meant}
@@ -79,56 +81,82 @@ terms_lent o t ts us end ys p q l e =
     ∙ front_put (word_bytes (term_entries ts)) (word_bytes (term_entries us)) o
     ∙ ap (λ (x : List ℕ). front x o) (sym (ap word_bytes (term_entries_append ts us) ∙ word_bytes_append (term_entries ts) (term_entries us)))
 
-terms_more : (s : List ℕ) (at left : ℕ) → 0 < left → term_at s at ∷ terms_at s (at + 6) (left - 1) ≡ terms_at s at left
-unfolding terms_at
-terms_more s at zero h = absurd (omega arith)
-terms_more s at (suc left) h = ap (λ (n : ℕ). term_at s at ∷ terms_at s (at + 6) n) (less left)
-  where
-    less : (n : ℕ) → suc n - 1 ≡ n
-    less n = omega arith
+-- The words of an entry written one behind the other.
+pub entry_start : (ws o : List ℕ) → o ≡ front (word_bytes (take 0 ws)) o
+unfolding word_bytes
+entry_start ws o = sym (front_none o)
 
-terms_none : (s : List ℕ) (at left : ℕ) → left ≤ 0 → terms_at s at left ≡ []
+module _ (ws o : List ℕ) (i : ℕ) where
+  pub entry_more : {s t : List ℕ} → i < length ws → s ≡ front (word_bytes (take i ws)) o → t ≡ put_words i (get_or ws i 0 ∷ []) s → t ≡ front (word_bytes (take (i + 1) ws)) o
+  entry_more h p q =
+      words_behind o (take i ws) (get_or ws i 0 ∷ []) i p (sym (length-take-le i ws (omega (arith, h)))) q
+      ∙ ap (λ (us : List ℕ). front (word_bytes us) o) (sym (take_more ws i 0 h))
+
+  pub entry_end : {s : List ℕ} → length ws ≤ i → i ≤ length ws → s ≡ front (word_bytes (take i ws)) o → s ≡ front (word_bytes ws) o
+  entry_end h l p =
+      let all : i ≡ length ws = omega (arith, h, l) in
+      p ∙ ap (λ (n : ℕ). front (word_bytes (take n ws)) o) all ∙ ap (λ (us : List ℕ). front (word_bytes us) o) (take-length ws)
+
+-- How many entries are left behind i of them.
+pub one_less : {i n : ℕ} → i < n → n - i ≡ suc (n - (i + 1))
+one_less h = omega (arith, h)
+
+pub none_left : {i n : ℕ} → n ≤ i → n - i ≡ 0
+none_left h = omega (arith, h)
+
+pub all_left : (n : ℕ) → n - 0 ≡ n
+all_left n = omega arith
+
+-- The terms left, and the one at the place.
+pub terms_more : (s : List ℕ) (at : ℕ) {left less next : ℕ} → left ≡ suc less → at + 6 ≡ next → terms_at s at left ≡ term_at s at ∷ terms_at s next less
 unfolding terms_at
-terms_none s at zero h = refl
-terms_none s at (suc left) h = absurd (omega arith)
+terms_more s at {less = less} e f = ap (terms_at s at) e ∙ ap (λ (a : ℕ). term_at s at ∷ terms_at s a less) f
+
+terms_none : (s : List ℕ) (at : ℕ) {left : ℕ} → left ≡ 0 → terms_at s at left ≡ []
+unfolding terms_at
+terms_none s at e = ap (terms_at s at) e
 
 pub front_long : (o : List ℕ) (ts : List Term) → 8 * length ts ≤ length o → length (front (word_bytes (term_entries ts)) o) ≡ length o
 front_long o ts h = length_front (word_bytes (term_entries ts)) o (omega (arith, length_word_bytes (term_entries ts), length_term_entries ts))
 
 -- Terms of a field written one behind the other.
-pub record Written (s : List ℕ) (from count : ℕ) (o : List ℕ) (at end left : ℕ) (t : List ℕ) : Type 0 where
+pub record Written (s : List ℕ) (from count : ℕ) (o : List ℕ) (i : ℕ) (t : List ℕ) : Type 0 where
   pub done : List Term
   pub filled : t ≡ front (word_bytes (term_entries done)) o
-  pub place : end ≡ 8 * length done
-  pub rest : done ++ terms_at s at left ≡ terms_at s from count
-  pub room : at + 6 * left ≤ length s
-  pub space : end + 8 * left ≤ length o
+  pub many : length done ≡ i
+  pub rest : done ++ terms_at s (from + 6 * i) (count - i) ≡ terms_at s from count
   pub same : length t ≡ length o
 
-pub written_start : (s : List ℕ) (from count : ℕ) (o : List ℕ) → from + 6 * count ≤ length s → 8 * count ≤ length o → Written s from count o from 0 count o
+pub written_start : (s : List ℕ) (from count : ℕ) (o : List ℕ) → Written s from count o 0 o
 unfolding term_entries word_bytes
-written_start s from count o h l =
-    record { done = []; filled = sym (front_none o); place = refl; rest = refl; room = h; space = omega arith; same = refl }
+written_start s from count o =
+    record { done = []; filled = sym (front_none o); many = refl; rest = ap₂ (terms_at s) first_place (all_left count); same = refl }
+  where
+    first_place : from + 6 * 0 ≡ from
+    first_place = omega arith
 
-module _ {s : List ℕ} {from count : ℕ} {o : List ℕ} {at end left : ℕ} {t : List ℕ} (h : Written s from count o at end left t) where
+module _ {s : List ℕ} {from count : ℕ} {o : List ℕ} {i : ℕ} {t : List ℕ} (h : Written s from count o i t) where
   pub written_more :
-      (ys : List ℕ) → 0 < left → ys ≡ front (word_bytes (term_entries (term_at s at ∷ []))) (mid_of end (length t - end) t)
-      → Written s from count o (at + 6) (end + 8) (left - 1) (put_mid end (length t - end) t ys)
-  written_more ys l e =
-      let f = terms_lent o t h.done (term_at s at ∷ []) end ys h.filled h.place (omega (arith, h.space, h.same)) e in
-      let n : length (h.done ++ (term_at s at ∷ [])) ≡ length h.done + 1 = length-append h.done (term_at s at ∷ []) in
+      (ys : List ℕ) → i < count → 8 * count ≤ length o
+      → ys ≡ front (word_bytes (term_entries (term_at s (from + 6 * i) ∷ []))) (mid_of (8 * i) (length t - 8 * i) t)
+      → Written s from count o (i + 1) (put_mid (8 * i) (length t - 8 * i) t ys)
+  written_more ys l space e =
+      let x = term_at s (from + 6 * i) in
+      let f = terms_lent o t h.done (x ∷ []) (8 * i) ys h.filled (omega (arith, h.many)) (omega (arith, space, l, h.same)) e in
+      let n : length (h.done ++ (x ∷ [])) ≡ length h.done + 1 = length-append h.done (x ∷ []) in
       record {
-        done = h.done ++ (term_at s at ∷ []);
+        done = h.done ++ (x ∷ []);
         filled = f;
-        place = omega (arith, n, h.place);
-        rest = append_assoc h.done (term_at s at ∷ []) (terms_at s (at + 6) (left - 1)) ∙ ap (λ (l : List Term). h.done ++ l) (terms_more s at left l) ∙ h.rest;
-        room = omega (arith, h.room);
-        space = omega (arith, h.space);
-        same = ap length f ∙ front_long o (h.done ++ (term_at s at ∷ [])) (omega (arith, n, h.place, h.space));
+        many = omega (arith, n, h.many);
+        rest =
+            append_assoc h.done (x ∷ []) (terms_at s (from + 6 * (i + 1)) (count - (i + 1)))
+            ∙ ap (λ (l : List Term). h.done ++ l) (sym (terms_more s (from + 6 * i) (one_less l) (omega arith)))
+            ∙ h.rest;
+        same = ap length f ∙ front_long o (h.done ++ (x ∷ [])) (omega (arith, n, h.many, l, space));
       }
 
-  pub written_end : left ≤ 0 → t ≡ front (word_bytes (term_entries (terms_at s from count))) o
+  pub written_end : count ≤ i → t ≡ front (word_bytes (term_entries (terms_at s from count))) o
   written_end l =
       h.filled
       ∙ ap (λ (ts : List Term). front (word_bytes (term_entries ts)) o)
-      (sym (append-nil h.done) ∙ ap (λ (ts : List Term). h.done ++ ts) (sym (terms_none s at left l)) ∙ h.rest)
+      (sym (append-nil h.done) ∙ ap (λ (ts : List Term). h.done ++ ts) (sym (terms_none s (from + 6 * i) (none_left l))) ∙ h.rest)

@@ -17,8 +17,7 @@ use Rattle.format.specs.Tables.{table_words, term_words, table_size, term_size, 
 use Rattle.format.proofs.Accepted.{accepted_lawful}
 use Rattle.format.proofs.Lawful.{plan_parts, room_for}
 use Rattle.format.proofs.Sections.{length_table_words, length_term_words}
-use Rattle.verdict.specs.declared.Answer.{Answer}
-use Rattle.verdict.specs.declared.Answer.TheVariants.{Accepted, Refused}
+use Rattle.verdict.specs.Answers.{Answer, Accepted, Refused}
 use Rattle.tables.specs.Load.{outcome, too_small, loading, tables_of, terms_of, tables_after, terms_after, LoadingHolds}
 
 not_accepted : (n o : ℕ) → ◌≡◌ {A = Answer} (Refused n o) Accepted → ⊥

@@ -23,8 +23,7 @@ use Rattle.format.proofs.Lists.{length_row}
 use Rattle.format.proofs.Lawful.{LawfulPlan, room_for}
 use Rattle.format.proofs.Spells.{length_pad_to}
 use Rattle.format.proofs.Sections.{length_clause_entries, length_rule_entries, length_base_words, length_table_words, length_term_words}
-use Rattle.verdict.specs.declared.Answer.{Answer}
-use Rattle.verdict.specs.declared.Answer.TheVariants.{Accepted, Refused}
+use Rattle.verdict.specs.Answers.{Answer, Accepted, Refused}
 use Rattle.tables.specs.Load.{outcome, too_small, loading, tables_of, terms_of, tables_after, terms_after}
 use Rattle.tables.specs.Places.{said}
 use Rattle.tables.specs.Sections.{objective_words, clause_words, rule_words, lock_words}

@@ -13,7 +13,7 @@ use Rattle.format.specs.Limits.{lawful}
 use Rattle.format.specs.Tables.{table_size, term_size, Holds}
 use Rattle.format.proofs.Accepted.{accepted_lawful}
 use Rattle.format.proofs.Within.{short_within}
-use Rattle.verdict.specs.declared.Answer.TheVariants.{Refused}
+use Rattle.verdict.specs.Answers.{Refused}
 use Rattle.tables.specs.Load.{outcome, too_small, loading, tables_of, terms_of, tables_after, terms_after, LoadsWithin}
 use Rattle.tables.proofs.Holding.{words_hold}
 

@@ -8,8 +8,7 @@ use Rattle.words.specs.Words.{word_bytes}
 use Rattle.words.specs.Writes.{SameWithin}
 use Rattle.format.specs.File.{Reading, refused, accepted, read}
 use Rattle.format.specs.Tables.{table_words, term_words, table_size, term_size, Holds}
-use Rattle.verdict.specs.declared.Answer.{Answer}
-use Rattle.verdict.specs.declared.Answer.TheVariants.{Accepted, Refused}
+use Rattle.verdict.specs.Answers.{Answer, Accepted, Refused}
 unfoldable pub use Rattle.verdict.specs.Answers.{refusal_of, offset_of, outcome}
 
 -- "21: a buffer or table smaller than the full limits need"

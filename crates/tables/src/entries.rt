@@ -7,14 +7,16 @@ ghost use Rattle.format.specs.Tables.{rule_entries, term_entries};
 ghost use Rattle.tables.specs.Places.{RuleHere};
 
 use crate::fields;
-use words::{byte_word, narrow, write_two, write_word};
+use words::{byte_word, narrow, write_word};
 
-fn put4(out: &mut [u8], a: u32, b: u32, c: u32, d: u32)
-    requires { 16 ≤ length out.old }
-    ensures { out.new ≡ front (word_bytes (a ∷ b ∷ c ∷ d ∷ [])) out.old }
+// The words of an entry, one behind the other.
+fn put_entry(out: &mut [u8], entry: &[u32])
+    requires { 4 * length entry.now ≤ length out.old }
+    ensures { out.new ≡ front (word_bytes entry.now) out.old }
 {
-    write_two(out, 0, a, b);
-    write_two(out, 2, c, d);
+    for i in 0..entry.len() {
+        write_word(out, i, entry[i]);
+    }
 }
 
 // Five words, as a rule's entry has them.
@@ -22,8 +24,7 @@ pub fn put5(out: &mut [u8], a: u32, b: u32, c: u32, d: u32, e: u32)
     requires { 20 ≤ length out.old }
     ensures { out.new ≡ front (word_bytes (a ∷ b ∷ c ∷ d ∷ e ∷ [])) out.old }
 {
-    put4(out, a, b, c, d);
-    write_word(out, 4, e);
+    put_entry(out, &[a, b, c, d, e]);
 }
 
 // The counts of variables, clauses, rules and terms.
@@ -31,12 +32,9 @@ pub fn put_head(out: &mut [u8], variables: u32, clauses: usize, rules: usize, te
     requires { (16 ≤ length out.old) × (clauses < 4_294_967_296) × (rules < 4_294_967_296) × (terms < 4_294_967_296) }
     ensures { out.new ≡ front (word_bytes (variables ∷ clauses ∷ rules ∷ terms ∷ [])) out.old }
 {
-    put4(
+    put_entry(
         out,
-        variables,
-        narrow(clauses),
-        narrow(rules),
-        narrow(terms),
+        &[variables, narrow(clauses), narrow(rules), narrow(terms)],
     );
 }
 
@@ -45,7 +43,7 @@ pub fn put_clause(out: &mut [u8], first: usize, rules: usize)
     requires { (8 ≤ length out.old) × (first < 4_294_967_296) × (rules < 4_294_967_296) }
     ensures { out.new ≡ front (word_bytes (first ∷ rules ∷ [])) out.old }
 {
-    write_two(out, 0, narrow(first), narrow(rules));
+    put_entry(out, &[narrow(first), narrow(rules)]);
 }
 
 // A rule: its first term, how many it has, its mode and its two bounds.
@@ -58,7 +56,7 @@ pub fn put_rule(file: &[u8], at: usize, first: usize, out: &mut [u8])
     let mode = byte_word(file[at + 3]);
     let lower = words::read_u32(file, at + 4);
     let upper = words::read_u32(file, at + 8);
-    put5(out, narrow(first), terms, mode, lower, upper);
+    put_entry(out, &[narrow(first), terms, mode, lower, upper]);
 }
 
 // A term: its variable and its weight.
@@ -66,11 +64,9 @@ fn put_term(file: &[u8], at: usize, out: &mut [u8])
     requires { (at + 6 ≤ length file.now) × (8 ≤ length out.old) }
     ensures { out.new ≡ front (word_bytes (term_entries (term_at file.now at ∷ []))) out.old }
 {
-    write_two(
+    put_entry(
         out,
-        0,
-        words::read_u16(file, at),
-        words::read_u32(file, at + 2),
+        &[words::read_u16(file, at), words::read_u32(file, at + 2)],
     );
 }
 
@@ -79,13 +75,7 @@ pub fn put_terms(file: &[u8], from: usize, count: usize, out: &mut [u8])
     requires { (from + 6 * count ≤ length file.now) × (8 * count ≤ length out.old) }
     ensures { out.new ≡ front (word_bytes (term_entries (terms_at file.now from count))) out.old }
 {
-    let mut at = from;
-    let mut end = 0;
-    let mut left = count;
-    while 0 < left {
-        put_term(file, at, &mut out[end..]);
-        at += 6;
-        end += 8;
-        left -= 1;
+    for i in 0..count {
+        put_term(file, from + 6 * i, &mut out[8 * i..]);
     }
 }

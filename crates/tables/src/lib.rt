@@ -14,55 +14,54 @@ pub mod fields;
 pub mod sections;
 
 use arrange::derive;
-pub use verdict::Answer;
+use verdict::Refusal;
 
-// The table of counts, objective, clauses, rules and locks of an accepted file: all but the order of the terms.
-fn fill_tables(file: &[u8], tables: &mut [u8])
-    requires accepts { Accepts file.now }
-    requires table_size_in_bounds { table_size ≤ length tables.old }
-    ensures { tables.new ≡ front (word_bytes (base_words (plan_of_file file.now))) tables.old }
-{
-    sections::objective_section(
-        file,
-        &mut tables[format::OBJECTIVE_BYTE..format::CLAUSES_BYTE],
-    );
-    let clauses = sections::clause_section(
-        file,
-        &mut tables[format::CLAUSES_BYTE..format::RULES_BYTE],
-    );
-    let counted = sections::rule_section(file, &mut tables[format::RULES_BYTE..format::LOCKS_BYTE]);
-    sections::lock_section(file, &mut tables[format::LOCKS_BYTE..format::ENDS_BYTE]);
-    let variables = words::read_u16(file, 3);
-    entries::put_head(tables, variables, clauses, counted.rules, counted.terms);
+// A file that was judged lawful.
+#[derive(Clone, Copy)]
+struct Lawful<'a> {
+    file: &'a [u8],
+    ghost accepts: { Accepts file.now },
 }
 
-// The table of the terms of an accepted file's rules.
-fn fill_terms(file: &[u8], terms: &mut [u8])
-    requires accepts { Accepts file.now }
-    requires term_size_in_bounds { term_size ≤ length terms.old }
-    ensures { terms.new ≡ front (word_bytes (term_words (plan_of_file file.now))) terms.old }
-{
-    sections::term_section(file, &mut terms[0..format::TERMS]);
+impl<'a> Lawful<'a> {
+    // The table of counts, objective, clauses, rules and locks of an accepted file: all but the order of the terms.
+    fn fill_tables(self, tables: &mut [u8])
+        requires table_size_in_bounds { table_size ≤ length tables.old }
+        ensures { tables.new ≡ front (word_bytes (base_words (plan_of_file self.entry.file.now))) tables.old }
+    {
+        self.objective_section(&mut tables[format::OBJECTIVE_BYTE..format::CLAUSES_BYTE]);
+        let clauses = self.clause_section(&mut tables[format::CLAUSES_BYTE..format::RULES_BYTE]);
+        let counted = self.rule_section(&mut tables[format::RULES_BYTE..format::LOCKS_BYTE]);
+        self.lock_section(&mut tables[format::LOCKS_BYTE..format::ENDS_BYTE]);
+        let variables = words::read_u16(self.file, 3);
+        entries::put_head(tables, variables, clauses, counted.rules, counted.terms);
+    }
+
+    // The table of the terms of an accepted file's rules.
+    fn fill_terms(self, terms: &mut [u8])
+        requires term_size_in_bounds { term_size ≤ length terms.old }
+        ensures { terms.new ≡ front (word_bytes (term_words (plan_of_file self.entry.file.now))) terms.old }
+    {
+        self.term_section(&mut terms[0..format::TERMS]);
+    }
 }
 
 // Fills the two tables from a plan file, or refuses it: "Loading: 21, then the file."
-pub fn load(file: &[u8], tables: &mut [u8], terms: &mut [u8]) -> Answer
+pub fn load(file: &[u8], tables: &mut [u8], terms: &mut [u8]) -> Result<(), Refusal>
     ensures value { result ≡ loading file.now tables.old terms.old }
     ensures tables_after { tables.new ≡ tables_after file.now tables.old terms.old }
     ensures terms_after { terms.new ≡ terms_after file.now tables.old terms.old }
 {
-    if tables.len() < format::TABLES {
-        return Answer::Refused(21, 0);
+    if tables.len() < format::TABLES || terms.len() < format::TERMS {
+        return Err(Refusal {
+            number: 21,
+            offset: 0,
+        });
     }
-    if terms.len() < format::TERMS {
-        return Answer::Refused(21, 0);
-    }
-    let verdict = judge::judge(file);
-    let Answer::Accepted = verdict else {
-        return verdict;
-    };
-    fill_tables(file, tables);
-    fill_terms(file, terms);
+    judge::judge(file)?;
+    let lawful = Lawful { file };
+    lawful.fill_tables(tables);
+    lawful.fill_terms(terms);
     derive(tables, terms);
-    Answer::Accepted
+    Ok(())
 }

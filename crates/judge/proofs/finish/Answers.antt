@@ -6,8 +6,8 @@ use Rattle.judge.proofs.finish.Goals as goal
 
 pub returns-then-next-file : goal.returns-then-next-file
 unfolding ending
-returns-then-next-file c = rw (lt-ltb _ _ c.if-next-file.true)
+returns-then-next-file c = rw (lt-ltb _ _ c.if-next-file.true, c.refusal.ensures)
 
-pub returns-else-next-file : goal.returns-else-next-file
+pub returns : goal.returns
 unfolding ending
-returns-else-next-file c = rw (le-ltb _ _ c.if-next-file.false)
+returns c = rw (le-ltb _ _ c.if-next-file.false)

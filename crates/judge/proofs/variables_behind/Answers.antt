@@ -6,8 +6,5 @@ use Rattle.judge.proofs.variables_behind.Goals as goal
 pub returns-then-tag-eq1 : goal.returns-then-tag-eq1
 returns-then-tag-eq1 c = rw (eq-eqb _ _ c.if-tag-eq1.true) c.read_u16.ensures
 
-pub read_u16-requires : goal.read_u16-requires
-read_u16-requires c = c.requires c.if-tag-eq1.true
-
 pub returns-else-tag-eq1 : goal.returns-else-tag-eq1
 returns-else-tag-eq1 c = rw (ne_eqb _ _ c.if-tag-eq1.false)

@@ -6,9 +6,6 @@ use lib.ListN.{drop, replicate}
 use lib.Seq.{length-take-le}
 use Rattle.lending.proofs.clear_first.Goals as goal
 
-pub slice_bounds-clear-end-2 : goal.slice_bounds-clear-end-2
-slice_bounds-clear-end-2 c = sym (length-take-le _ c.args.s.now c.requires)
-
 pub returns : goal.returns
 returns c =
     ap (λ u. u ++ drop c.args.n c.args.s.now) (c.clear.ensures ∙ ap (λ m. replicate m 0) (length-take-le _ c.args.s.now c.requires))

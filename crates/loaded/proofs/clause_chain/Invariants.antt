@@ -1,7 +1,5 @@
--- `loaded::clause_chain` meets its contract. The invariant: the chain from here on is good where the whole chain is. The measure is what is
--- left of the clauses.
+-- `loaded::clause_chain` meets its contract. The invariant: the chain from here on is good where the whole chain is.
 -- Assumes nothing.
-use borrow.Author.Rules.{rules}
 use Prim.Native.Nat.{ℕ, ◌-◌, ◌≤◌}
 use mathlib.Core.Path.{◌≡◌}
 use mathlib.Core.List.{List}
@@ -20,6 +18,3 @@ abbrev pub invariant-loop-c : goal.invariant-loop-c
 invariant-loop-c l =
     (l.c ≤ l.clauses) × (l.at ≤ l.rules)
     × (chain_from (first l.tables) (count l.tables) l.rules l.at l.c (l.clauses - l.c) ≡ chain_from (first l.tables) (count l.tables) l.rules 0 0 l.clauses)
-
-abbrev pub decreases-loop-c : goal.decreases-loop-c
-decreases-loop-c l = l.clauses - l.c

@@ -1,5 +1,4 @@
--- `loaded::coefficients` meets its contract. The invariant: what was found so far, and what is left to test, are the whole test. The
--- measure is what is left of the variables.
+-- `loaded::coefficients` meets its contract. The invariant: what was found so far, and what is left to test, are the whole test.
 -- Assumes nothing.
 use Prim.Native.Nat.{◌+◌, ◌-◌}
 use mathlib.Core.Path.{◌≡◌}
@@ -11,6 +10,3 @@ use Rattle.loaded.proofs.coefficients.Given as goal
 abbrev pub invariant-loop-x : goal.invariant-loop-x
 invariant-loop-x l =
     (l.all and every_from (coefficient_good (word_at l.tables)) l.x (l.variables + 1 - l.x)) ≡ every_from (coefficient_good (word_at l.tables)) 1 l.variables
-
-abbrev pub decreases-loop-x : goal.decreases-loop-x
-decreases-loop-x l = l.variables + 1 - l.x

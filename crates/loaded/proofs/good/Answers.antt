@@ -1,7 +1,6 @@
 -- `loaded::good` meets its contract: short tables are none that a loading leaves, and of full ones the test by words is the test.
 -- Assumes nothing.
 use mathlib.Core.Path.{sym, ◌∙◌}
-use borrow.Author.Tests.{not-true, not-false}
 use Rattle.format.specs.Good.{good_by}
 use Rattle.format.proofs.Bools.{and_first, and_stop}
 use Rattle.format.proofs.IsLoaded.{is_loaded_good, short_tables, short_terms}
@@ -18,10 +17,6 @@ unfolding good_by
 returns-then-not-base_good c =
     sym (and_stop _ _ (sym c.base_good.ensures ∙ c.if-not-base_good.true))
     ∙ sym (is_loaded_good _ _ (λ i. (c.shared_slice_known-1.given i).fits) (λ i. (c.shared_slice_known-2-1.given i).fits) c.if-tables-lt-TABLES.false c.if-terms-lt-TERMS.false)
-
-pub order_good-requires : goal.order_good-requires
-order_good-requires c =
-    record { base = sym c.base_good.ensures ∙ c.if-not-base_good.false; long = c.if-tables-lt-TABLES.false; body = c.if-terms-lt-TERMS.false }
 
 pub returns : goal.returns
 unfolding good_by

@@ -1,9 +1,8 @@
 -- The goals that the search leaves.
 use mathlib.Core.Bool.{not}
 use borrow.Author.Rules.{rules}
-use borrow.Author.Tests.{not-true, not-false}
 use Prim.Native.Nat.{ℕ, ◌+◌, ◌-◌, ◌≤◌}
-use mathlib.Core.Path.{◌≡◌, sym, ap, ap₂, ◌∙◌}
+use mathlib.Core.Path.{sym, ap, ap₂, ◌∙◌}
 use mathlib.Core.Bool.{Bool}
 use native.Mathlib.Omega.{arith}
 use Rattle.plpb.specs.Lists.{◌and◌}
@@ -13,14 +12,7 @@ use Rattle.format.specs.Good.{every_from, rule_good}
 use Rattle.format.proofs.Good.{every_step, every_fail}
 use Rattle.loaded.proofs.Turns.{chain_turn, chain_refused, chain_done, every_done, link_start, link_fits}
 use Rattle.loaded.proofs.rule_chain.Invariants.{first, count}
-use Rattle.loaded.proofs.rule_chain.Goals.{Else-not-link_good, Else-not-rule_good}
 use Rattle.loaded.proofs.rule_chain.Goals as goal
-
-pub loop-r-init : goal.loop-r-init
-loop-r-init c =
-    let n = c.args.rules in
-    let z : n - 0 ≡ n = omega arith in
-    (search rules, search rules, rw z)
 
 pub returns-then-not-link_good : goal.returns-then-not-link_good
 returns-then-not-link_good c =
@@ -31,26 +23,8 @@ returns-then-not-link_good c =
     c.loop-r-test.true (ap not c.if-not-link_good.true)))
     ∙ at.invariant.2
 
--- What the test of the entry tells.
-fits : (c : Else-not-link_good)
-    → c.loop-r.at + c.index-count.result
-    ≤ c.args.total
-fits c =
-    let t = c.args.tables.now in
-    link_fits (first t) (count t) _ _ c.loop-r.r c.index.ensures c.index-count.ensures c.link_good.ensures
-    c.loop-r.invariant.1 (ap not c.if-not-link_good.false)
-
--- What the test of the entry tells.
-fits_2 : (c : Else-not-rule_good)
-    → c.loop-r.at + c.index-count.result
-    ≤ c.args.total
-fits_2 c =
-    let t = c.args.tables.now in
-    link_fits (first t) (count t) _ _ c.loop-r.r c.index.ensures c.index-count.ensures c.link_good.ensures
-    c.loop-r.invariant.1 (ap not c.if-not-link_good.false)
-
 pub overflow_add-at : goal.overflow_add-at
-overflow_add-at c = omega (arith, fits c)
+overflow_add-at c = omega (arith, link_fits _ _ _ _ c.link_good.ensures c.loop-r.invariant.1 (ap not c.if-not-link_good.false))
 
 pub rule_good-requires : goal.rule_good-requires
 rule_good-requires c =
@@ -58,7 +32,7 @@ rule_good-requires c =
     let start =
     link_start (first t) (count t) _ _ c.loop-r.r c.index.ensures c.index-count.ensures c.link_good.ensures c.loop-r.invariant.1
     (ap not c.if-not-link_good.false) in
-    record { variables_value = c.word-variables.ensures; from_value = start; to_value = ap (λ (n : ℕ). c.loop-r.at + n) c.index-count.ensures; r_in_bounds = search rules; to_in_bounds = omega (arith, fits c) }
+    record { variables_value = c.word-variables.ensures; from_value = start; to_value = ap (λ (n : ℕ). c.loop-r.at + n) c.index-count.ensures; r_in_bounds = search rules; to_in_bounds = omega (arith, link_fits _ _ _ _ c.link_good.ensures c.loop-r.invariant.1 (ap not c.if-not-link_good.false)) }
 
 pub returns-then-not-rule_good : goal.returns-then-not-rule_good
 returns-then-not-rule_good c =
@@ -69,14 +43,14 @@ returns-then-not-rule_good c =
     ∙ at.invariant.2
 
 pub overflow_add-at-in-loop-r : goal.overflow_add-at-in-loop-r
-overflow_add-at-in-loop-r c = omega (arith, fits_2 c)
+overflow_add-at-in-loop-r c = omega (arith, link_fits _ _ _ _ c.link_good.ensures c.loop-r.invariant.1 (ap not c.if-not-link_good.false))
 
 pub loop-r-preserved : goal.loop-r-preserved
 loop-r-preserved c =
     let at = c.loop-r in
     let less = c.loop-r-test.true in (
       omega arith,
-      fits_2 c,
+      link_fits _ _ _ _ c.link_good.ensures c.loop-r.invariant.1 (ap not c.if-not-link_good.false),
       sym
           (ap₂ ◌and◌
           (chain_turn _ _ _ _ _ c.index.ensures c.index-count.ensures c.link_good.ensures _ less (ap not c.if-not-link_good.false))

@@ -1,7 +1,5 @@
--- `loaded::rule_chain` meets its contract. The invariant: the chain and the rules from here on are good where all are. The measure is what
--- is left of the rules.
+-- `loaded::rule_chain` meets its contract. The invariant: the chain and the rules from here on are good where all are.
 -- Assumes nothing.
-use borrow.Author.Rules.{rules}
 use Prim.Native.Nat.{ℕ, ◌-◌, ◌≤◌}
 use mathlib.Core.Path.{◌≡◌}
 use mathlib.Core.Bool.{Bool}
@@ -25,6 +23,3 @@ rules_from s t total at r k = chain_from (first s) (count s) total at r k and ev
 abbrev pub invariant-loop-r : goal.invariant-loop-r
 invariant-loop-r l =
     (l.r ≤ l.rules) × (l.at ≤ l.total) × (rules_from l.tables l.terms l.total l.at l.r (l.rules - l.r) ≡ rules_from l.tables l.terms l.total 0 0 l.rules)
-
-abbrev pub decreases-loop-r : goal.decreases-loop-r
-decreases-loop-r l = l.rules - l.r

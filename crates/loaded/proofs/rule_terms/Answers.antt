@@ -1,8 +1,6 @@
 -- The goals that the search leaves.
-use Prim.Native.Nat.{◌-◌}
 use mathlib.Core.Path.{refl, sym, ◌∙◌}
 use native.Mathlib.Omega.{arith}
-use Rattle.plpb.specs.Lists.{◌and◌}
 use Rattle.format.proofs.Bools.{and_first}
 use Rattle.format.specs.Good.{term_good}
 use Rattle.format.proofs.Bools.{both}

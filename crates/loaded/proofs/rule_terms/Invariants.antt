@@ -1,5 +1,5 @@
 -- `loaded::rule_terms` meets its contract. The invariant: what was found so far, and what is left to test above the last variable, are the
--- whole test. The measure is what is left of the terms.
+-- whole test.
 -- Assumes nothing.
 use Prim.Native.Nat.{◌-◌}
 use mathlib.Core.Path.{◌≡◌}
@@ -11,6 +11,3 @@ use Rattle.loaded.proofs.rule_terms.Given as goal
 abbrev pub invariant-loop-i : goal.invariant-loop-i
 invariant-loop-i l =
     (l.all and terms_from (word_at l.terms) l.variables l.above l.i (l.to - l.i)) ≡ terms_from (word_at l.terms) l.variables 0 l.from (l.to - l.from)
-
-abbrev pub decreases-loop-i : goal.decreases-loop-i
-decreases-loop-i l = l.to - l.i

@@ -13,7 +13,7 @@ pub returns-then-not-word : goal.returns-then-not-word
 returns-then-not-word c = order_begins _ _ c.word.ensures c.index-variables.ensures c.index-total.ensures (ap not (ne_eqb _ _ c.if-not-word.true))
 
 pub runs_good-requires : goal.runs_good-requires
-runs_good-requires c = (c.requires, omega (arith, c.index-variables.ensures, (sound c.requires).variables))
+runs_good-requires c = omega (arith, c.index-variables.ensures, (sound c.requires).variables)
 
 pub returns-then-not-runs_good : goal.returns-then-not-runs_good
 returns-then-not-runs_good c = order_runs _ _ c.word.ensures c.index-variables.ensures c.index-total.ensures (ap not (eq-eqb _ _ c.if-not-word.false)) c.runs_good.ensures (ap not c.if-not-runs_good.true)
@@ -30,26 +30,11 @@ overflow_add-variables-2 c = omega (arith, c.index-variables.ensures, (sound c.r
 pub overflow_add-variables-3 : goal.overflow_add-variables-3
 overflow_add-variables-3 c = omega (arith, c.index-variables.ensures, (sound c.requires).variables)
 
-pub zeros-requires : goal.zeros-requires
-zeros-requires c = omega (arith, c.requires.long)
-
 pub overflow_add-total : goal.overflow_add-total
 overflow_add-total c = omega (arith, c.index-total.ensures, (sound c.requires).terms)
-
-pub zeros-requires-2 : goal.zeros-requires-2
-zeros-requires-2 c = omega (arith, c.requires.long)
 
 pub returns : goal.returns
 returns c =
     let s = sound c.requires in
     order_told _ _ c.word.ensures c.index-variables.ensures c.index-total.ensures (ap not (eq-eqb _ _ c.if-not-word.false)) c.runs_good.ensures (ap not c.if-not-runs_good.false) c.index.ensures
     c.zeros.ensures c.zeros-2.ensures (omega (arith, c.index-variables.ensures, s.variables)) (omega (arith, c.index-total.ensures, s.terms))
-
-pub index-variables-requires : goal.index-variables-requires
-index-variables-requires c = omega (arith, c.requires.long)
-
-pub index-total-requires : goal.index-total-requires
-index-total-requires c = omega (arith, c.requires.long)
-
-pub word-requires : goal.word-requires
-word-requires c = omega (arith, c.requires.long)

@@ -1,24 +1,18 @@
 -- The goals that the search leaves.
-use native.Mathlib.Omega.{arith}
-use mathlib.Core.Path.{refl, sym, ◌∙◌}
+use mathlib.Core.Path.{sym, ◌∙◌}
+use Rattle.bodies.proofs.Found.{not_none, found_err}
 use Rattle.bodies.proofs.LockLaws.{entries_end, entries_go, entries_stop}
 use Rattle.bodies.proofs.locks.entries_fault.Goals as goal
 
-pub returns-then-fault-ne0 : goal.returns-then-fault-ne0
-returns-then-fault-ne0 c =
-    sym (entries_stop _ _ _ _ _ _ _ c.loop-left-test.true c.read_u16-variable.ensures c.entry_fault-fault.ensures c.if-fault-ne0.true) ∙ c.loop-left.invariant.1
+pub returns-in_err-entry_fault : goal.returns-in_err-entry_fault
+returns-in_err-entry_fault c =
+    found_err _ _ c.from_residual.ensures.1
+    ∙ sym (entries_stop _ _ _ _ _ _ _ _ c.loop-i-test.true c.read_u16-variable.ensures c.in_err-entry_fault.ensures (not_none _))
+    ∙ c.loop-i.invariant
 
-pub loop-left-preserved : goal.loop-left-preserved
-loop-left-preserved c = (
-  omega arith,
-  sym (entries_go _ _ _ _ _ _ _ c.loop-left-test.true c.read_u16-variable.ensures c.entry_fault-fault.ensures c.if-fault-ne0.false) ∙ c.loop-left.invariant.1,
-)
+pub loop-i-preserved : goal.loop-i-preserved
+loop-i-preserved c =
+    sym (entries_go _ _ _ _ _ _ _ c.loop-i-test.true c.read_u16-variable.ensures c.in_ok-entry_fault.ensures) ∙ c.loop-i.invariant
 
 pub returns : goal.returns
-returns c = sym (entries_end _ _ _ _ _ c.loop-left-test.false) ∙ c.loop-left.invariant.1
-
-pub loop-left-init : goal.loop-left-init
-loop-left-init c = (c.requires, refl)
-
-pub loop-left-smaller : goal.loop-left-smaller
-loop-left-smaller c = omega arith
+returns c = sym (entries_end _ _ _ _ _ _ c.loop-i-test.false) ∙ c.loop-i.invariant

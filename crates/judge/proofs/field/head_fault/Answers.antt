@@ -2,7 +2,6 @@
 -- Assumes nothing.
 use native.Mathlib.Omega.{arith}
 use mathlib.Core.Path.{◌∙◌}
-use borrow.Author.Tests.{not-true, not-false}
 use Rattle.format.specs.File.{length_at}
 use Rattle.judge.proofs.Judged.{told_tag, told_length, short_head, wrong_tag, wrong_length, short_body, whole_head}
 use Rattle.judge.proofs.field.head_fault.Goals as goal

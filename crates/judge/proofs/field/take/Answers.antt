@@ -1,24 +1,28 @@
 -- `judge::field::take` meets its contract: the faults of the head, then those of the body.
 -- Assumes nothing.
-use mathlib.Core.Path.{sym, ap, ◌∙◌}
-use Rattle.judge.specs.declared.field.Field.TheVariants.{Taken}
-use Rattle.judge.proofs.Judged.{headed, field_head, field_body, field_taken}
+use mathlib.Core.Path.{sym, ◌∙◌}
+use Rattle.faults.specs.Faults.{state_of}
+use Rattle.bodies.proofs.Found.{not_none, found_err}
+use Rattle.judge.proofs.Judged.{headed, fault_head, fault_body}
 use Rattle.judge.proofs.field.take.Goals as goal
 
-pub returns-then-head-ne0 : goal.returns-then-head-ne0
-returns-then-head-ne0 c = field_head _ _ _ c.head_fault-head.ensures c.if-head-ne0.true
+pub returns-in_err-head_fault-clause-fault : goal.returns-in_err-head_fault-clause-fault
+unfolding state_of
+returns-in_err-head_fault-clause-fault c =
+    let e = c.in_err-head_fault.ensures in
+    found_err _ _ c.from_residual.ensures.1 ∙ e ∙ fault_head _ (state_of c.args.st) (λ z. not_none _ (e ∙ z))
 
-pub body_fault-body-requires : goal.body_fault-body-requires
-body_fault-body-requires c = headed _ _ _ (sym c.head_fault-head.ensures ∙ c.if-head-ne0.false)
+pub body_fault-requires : goal.body_fault-requires
+body_fault-requires c = headed _ _ _ (sym c.in_ok-head_fault.ensures)
 
-pub returns-then-body-ne0 : goal.returns-then-body-ne0
-returns-then-body-ne0 c =
-    field_body _ _ _ (sym c.head_fault-head.ensures ∙ c.if-head-ne0.false) c.body_fault-body.ensures c.if-body-ne0.true
+pub returns-in_err-body_fault-clause-fault : goal.returns-in_err-body_fault-clause-fault
+unfolding state_of
+returns-in_err-body_fault-clause-fault c =
+    found_err _ _ c.from_residual-in_err-body_fault.ensures.1 ∙ c.in_err-body_fault.ensures ∙ fault_body _ (state_of c.args.st) c.in_ok-head_fault.ensures
 
 pub parts-requires : goal.parts-requires
-parts-requires c = headed _ _ _ (sym c.head_fault-head.ensures ∙ c.if-head-ne0.false)
+parts-requires c = headed _ _ _ (sym c.in_ok-head_fault.ensures)
 
-pub returns : goal.returns
-returns c =
-    ap Taken c.parts.ensures
-    ∙ field_taken _ _ (sym c.head_fault-head.ensures ∙ c.if-head-ne0.false) (sym c.body_fault-body.ensures ∙ c.if-body-ne0.false)
+pub returns-clause-fault : goal.returns-clause-fault
+unfolding state_of
+returns-clause-fault c = c.in_ok-body_fault.ensures ∙ fault_body _ (state_of c.args.st) c.in_ok-head_fault.ensures

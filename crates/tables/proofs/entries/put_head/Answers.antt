@@ -5,4 +5,4 @@ use Rattle.tables.proofs.entries.put_head.Goals as goal
 
 pub returns : goal.returns
 returns c =
-    c.put4.ensures ∙ rw (c.narrow.ensures, c.narrow-2.ensures, c.narrow-3.ensures)
+    c.put_entry.ensures ∙ rw (c.narrow.ensures, c.narrow-2.ensures, c.narrow-3.ensures)

@@ -1,12 +1,8 @@
 -- The goals that the search leaves.
-use Prim.Native.Nat.{◌-◌}
 use native.Mathlib.Omega.{arith}
 use Rattle.tables.specs.Places.{behind_field}
 use Rattle.tables.proofs.Found.{run_start, run_more, run_end, found_room, found_body}
 use Rattle.tables.proofs.fields.clause_run.Goals as goal
-
-pub overflow_add-rules : goal.overflow_add-rules
-overflow_add-rules c = omega (arith, found_room c.loop-at.invariant.reads.2, c.loop-at.invariant.few)
 
 pub loop-at-smaller : goal.loop-at-smaller
 unfolding behind_field
@@ -14,9 +10,6 @@ loop-at-smaller c = omega (arith, c.after-at.ensures, found_room c.loop-at.invar
 
 pub loop-at-preserved : goal.loop-at-preserved
 loop-at-preserved c = run_more c.loop-at.invariant c.loop-at-test.true c.after-at.ensures
-
-pub loop-at-init : goal.loop-at-init
-loop-at-init c = run_start _ _ c.requires
 
 pub bounds-file-at : goal.bounds-file-at
 bounds-file-at c = omega (arith, found_room c.loop-at.invariant.reads.2)

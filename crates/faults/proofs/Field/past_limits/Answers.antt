@@ -1,0 +1,28 @@
+-- `past_limits` meets its contract, tag by tag.
+-- Assumes nothing.
+use native.Mathlib.Omega.{arith}
+use Rattle.faults.specs.Faults.{state_of}
+use Rattle.faults.proofs.Faults.{limits_count, limits_clause, limits_rule, limits_none, count_size, rule_size, body_room}
+use Rattle.faults.proofs.Field.past_limits.Goals as goal
+
+pub read_u16-requires : goal.read_u16-requires
+read_u16-requires c = omega (arith, body_room _ _ c.args.self.headed, count_size _ _ c.args.self.headed c.if-tag-eq1.true)
+
+pub returns-then-tag-eq1 : goal.returns-then-tag-eq1
+unfolding state_of
+returns-then-tag-eq1 c = limits_count _ _ _ _ c.if-tag-eq1.true c.count_wrong.ensures c.read_u16.ensures
+
+pub returns-then-tag-eq3 : goal.returns-then-tag-eq3
+unfolding state_of
+returns-then-tag-eq3 c = limits_clause _ _ c.if-tag-eq3.true
+
+pub overflow_sub-read_size : goal.overflow_sub-read_size
+overflow_sub-read_size c = omega (arith, rule_size _ _ c.args.self.headed c.if-tag-eq4.true)
+
+pub returns-then-tag-eq4 : goal.returns-then-tag-eq4
+unfolding state_of
+returns-then-tag-eq4 c = limits_rule _ _ _ _ c.if-tag-eq4.true c.rules_full.ensures c.read_size.ensures
+
+pub returns : goal.returns
+unfolding state_of
+returns c = limits_none _ _ c.if-tag-eq1.false c.if-tag-eq3.false c.if-tag-eq4.false
