@@ -1,7 +1,9 @@
 -- What opening answers, test by test: the first one that fails decides.
 use Prim.Native.Nat.{ℕ, ◌≤◌, ◌<◌}
 use native.Mathlib.Omega.{arith}
-use mathlib.Core.Path.{◌≡◌, refl, sym}
+use mathlib.Core.Path.{◌≡◌, refl, sym, ap, ◌∙◌}
+use Rattle.std.specs.Prelude.{Result, Ok, Err}
+use Rattle.std.specs.Result.{IsErrAnd}
 use mathlib.Core.Bool.{true, false, not}
 use lib.Dec.{T, ltb, nltb→le}
 use lib.ListN.{length}
@@ -16,6 +18,23 @@ use Rattle.format.proofs.IsLoaded.{is_loaded_lawful}
 use Rattle.tallies.specs.Layout.{are_bits}
 use Rattle.tallies.specs.Calls.{Lent, plan, too_small, open_refusal}
 use Rattle.format.specs.Layout.{table_size, tally_size, term_size}
+use Rattle.calls.specs.Refusals.{number_of, refusal_of}
+use Rattle.calls.specs.declared.tests.Refusal.{Refusal}
+use Rattle.calls.specs.declared.tests.Refusal.TheVariants.{TooSmall, NotLoaded, NoVariable, NotBits, Stale, Locked}
+
+-- A refusal's number is none of an accepted call.
+pub some_number : (r : Refusal) → number_of r ≡ 0 → ⊥
+some_number TooSmall e = omega arith
+some_number NotLoaded e = omega arith
+some_number NoVariable e = omega arith
+some_number NotBits e = omega arith
+some_number Stale e = omega arith
+some_number Locked e = omega arith
+
+-- A refusal passed on keeps its number.
+pub passed_on : (r : Result (Unit {0}) Refusal) (q : Refusal) {k : ℕ} → IsErrAnd r (λ e. e ≡ q) → number_of q ≡ k → refusal_of r ≡ k
+passed_on (Ok u) q h n = absurd h
+passed_on (Err e) q h n = ap number_of h ∙ n
 
 module _ (l : Lent) where
   pub small_tables : length l.tables < table_size → true ≡ too_small l

@@ -3,10 +3,11 @@ ghost use Rattle.std.specs.Prelude.{◌≡◌};
 ghost use Rattle.counting.specs.Count.{count_words, marked_words};
 ghost use Rattle.tallies.specs.Calls.{call_refusal, counts_break, counts_make, lent};
 
-use crate::tests::call_refusal;
+use crate::tests::Lent;
 use counting::count::Marked;
 use exact::counts_core;
 
+// The refusal and the two counts: a struct of the C interface, so a number and no Result.
 #[repr(C)]
 #[derive(Clone, Copy)]
 pub struct Counted {
@@ -22,10 +23,15 @@ pub fn counts(tables: &[u8], terms: &[u8], assignment: &[u8], tallies: &[u8], x:
     ensures makes_value { marked_words result.makes
         ≡ count_words (counts_make (lent tables.now terms.now assignment.now tallies.now) x) }
 {
-    let refusal = call_refusal(tables, terms, assignment, tallies, x);
-    if refusal != 0 {
+    let lent = Lent {
+        tables,
+        terms,
+        assignment,
+        tallies,
+    };
+    if let Err(refusal) = lent.call_refusal(x) {
         return Counted {
-            refusal,
+            refusal: u32::from(refusal),
             breaks: Marked::ZERO,
             makes: Marked::ZERO,
         };
@@ -33,7 +39,7 @@ pub fn counts(tables: &[u8], terms: &[u8], assignment: &[u8], tallies: &[u8], x:
     let c = counts_core(tables, terms, assignment, x);
     Counted {
         refusal: 0,
-        breaks: c.breaks.marked(),
-        makes: c.makes.marked(),
+        breaks: Marked::from(c.breaks),
+        makes: Marked::from(c.makes),
     }
 }

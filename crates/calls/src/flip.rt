@@ -2,10 +2,10 @@
 ghost use Rattle.std.specs.Prelude.{◌≡◌};
 ghost use Rattle.tallies.specs.Calls.{flip_assignment, flip_refusal, flip_rules, flip_tallies, lent};
 
-use crate::tests::flip_refusal;
+use crate::tests::Lent;
 use flips::flip_core;
 
-// The refusal, and how many rule tallies were rewritten.
+// The refusal, and how many rule tallies were rewritten: a struct of the C interface, so a number and no Result.
 #[repr(C)]
 #[derive(Clone, Copy)]
 pub struct Flipped {
@@ -27,9 +27,17 @@ pub fn flip(
     ensures tallies_after { tallies.new
         ≡ flip_tallies (lent tables.now terms.now assignment.old tallies.old) x }
 {
-    let refusal = flip_refusal(tables, terms, assignment, tallies, x);
-    if refusal != 0 {
-        return Flipped { refusal, rules: 0 };
+    let lent = Lent {
+        tables,
+        terms,
+        assignment,
+        tallies,
+    };
+    if let Err(refusal) = lent.flip_refusal(x) {
+        return Flipped {
+            refusal: u32::from(refusal),
+            rules: 0,
+        };
     }
     let rules = flip_core(tables, terms, assignment, tallies, x);
     Flipped { refusal: 0, rules }

@@ -2,7 +2,7 @@
 ghost use Rattle.std.specs.Prelude.{◌≡◌};
 ghost use Rattle.tallies.specs.Calls.{open_refusal, open_tallies, lent};
 
-use crate::tests::open_refusal;
+use crate::tests::Lent;
 use recount::open::open_core;
 
 pub fn open(tables: &[u8], terms: &[u8], assignment: &[u8], tallies: &mut [u8]) -> u32
@@ -10,9 +10,14 @@ pub fn open(tables: &[u8], terms: &[u8], assignment: &[u8], tallies: &mut [u8]) 
     ensures tallies_after { tallies.new
         ≡ open_tallies (lent tables.now terms.now assignment.now tallies.old) }
 {
-    let refusal = open_refusal(tables, terms, assignment, tallies);
-    if refusal != 0 {
-        return refusal;
+    let lent = Lent {
+        tables,
+        terms,
+        assignment,
+        tallies,
+    };
+    if let Err(refusal) = lent.open_refusal() {
+        return u32::from(refusal);
     }
     open_core(tables, terms, assignment, tallies);
     0

@@ -1,26 +1,38 @@
 // What opening tests of what it is lent, in the order of document 01: 21, 22, 24; and flip and counts: 21, 22, 24, 25, 23; and then flip alone: 26.
 ghost use Rattle.std.specs.Prelude.{◌≡◌, ◌≤◌, length};
 ghost use Rattle.tallies.specs.Layout.{are_bits};
-ghost use Rattle.tallies.specs.Calls.{too_small, open_refusal, call_refusal, flip_refusal, lent};
+ghost use Rattle.tallies.specs.Calls.{too_small, open_refusal, call_refusal, flip_refusal};
+ghost use Rattle.calls.specs.Refusals.{number_of, refusal_of, lent_in};
 
 use fresh::fresh;
 use loaded::good;
 use words::{index, word};
 
-// Whether a buffer is smaller than the full limits need.
-fn too_small(tables: &[u8], terms: &[u8], assignment: &[u8], tallies: &[u8]) -> bool
-    ensures { result ≡ too_small (lent tables.now terms.now assignment.now tallies.now) }
-{
-    if tables.len() < format::TABLES {
-        return true;
+// What a call is refused for.
+#[derive(Clone, Copy)]
+pub enum Refusal {
+    TooSmall,
+    NotLoaded,
+    NoVariable,
+    NotBits,
+    Stale,
+    Locked,
+}
+
+// Its number in document 01.
+impl From<Refusal> for u32 {
+    ghost from_gives = { λ r n. n ≡ number_of r };
+
+    fn from(refusal: Refusal) -> u32 {
+        match refusal {
+            Refusal::TooSmall => 21,
+            Refusal::NotLoaded => 22,
+            Refusal::NoVariable => 23,
+            Refusal::NotBits => 24,
+            Refusal::Stale => 25,
+            Refusal::Locked => 26,
+        }
     }
-    if terms.len() < format::TERMS {
-        return true;
-    }
-    if assignment.len() < 512 {
-        return true;
-    }
-    tallies.len() < format::TALLIES
 }
 
 // Whether the first n bytes are 0 or 1.
@@ -28,60 +40,79 @@ fn bits(assignment: &[u8], n: usize) -> bool
     requires { n ≤ length assignment.now }
     ensures { result ≡ are_bits n assignment.now }
 {
-    let mut i = 0;
-    while i < n {
-        if 1 < assignment[i] {
+    for b in &assignment[..n] {
+        if 1 < *b {
             return false;
         }
-        i += 1;
     }
     true
 }
 
-pub fn open_refusal(tables: &[u8], terms: &[u8], assignment: &[u8], tallies: &[u8]) -> u32
-    ensures { result ≡ open_refusal (lent tables.now terms.now assignment.now tallies.now) }
-{
-    if too_small(tables, terms, assignment, tallies) {
-        return 21;
-    }
-    if !good(tables, terms) {
-        return 22;
-    }
-    if !bits(assignment, index(tables, 0)) {
-        return 24;
-    }
-    0
+// What the host program lends, to be tested.
+#[derive(Clone, Copy)]
+pub struct Lent<'a> {
+    pub tables: &'a [u8],
+    pub terms: &'a [u8],
+    pub assignment: &'a [u8],
+    pub tallies: &'a [u8],
 }
 
-pub fn call_refusal(tables: &[u8], terms: &[u8], assignment: &[u8], tallies: &[u8], x: u32) -> u32
-    ensures { result ≡ call_refusal (lent tables.now terms.now assignment.now tallies.now) x }
-{
-    let refusal = open_refusal(tables, terms, assignment, tallies);
-    if refusal != 0 {
-        return refusal;
+impl Lent<'_> {
+    // Whether a buffer is smaller than the full limits need.
+    fn too_small(&self) -> bool
+        ensures { result ≡ too_small (lent_in self.now) }
+    {
+        if self.tables.len() < format::TABLES {
+            return true;
+        }
+        if self.terms.len() < format::TERMS {
+            return true;
+        }
+        if self.assignment.len() < 512 {
+            return true;
+        }
+        self.tallies.len() < format::TALLIES
     }
-    if !fresh(tables, terms, assignment, tallies) {
-        return 25;
-    }
-    if x == 0 {
-        return 23;
-    }
-    if word(tables, 0) < x {
-        return 23;
-    }
-    0
-}
 
-// A locked variable is refused to flips alone, so the test stands apart from what counts tests too.
-pub fn flip_refusal(tables: &[u8], terms: &[u8], assignment: &[u8], tallies: &[u8], x: u32) -> u32
-    ensures { result ≡ flip_refusal (lent tables.now terms.now assignment.now tallies.now) x }
-{
-    let sooner = call_refusal(tables, terms, assignment, tallies, x);
-    if sooner != 0 {
-        return sooner;
+    pub fn open_refusal(&self) -> Result<(), Refusal>
+        ensures { refusal_of result ≡ open_refusal (lent_in self.now) }
+    {
+        if self.too_small() {
+            return Err(Refusal::TooSmall);
+        }
+        if !good(self.tables, self.terms) {
+            return Err(Refusal::NotLoaded);
+        }
+        if !bits(self.assignment, index(self.tables, 0)) {
+            return Err(Refusal::NotBits);
+        }
+        Ok(())
     }
-    if 0 < word(tables, format::LOCKS + x as usize) {
-        return 26;
+
+    pub fn call_refusal(&self, x: u32) -> Result<(), Refusal>
+        ensures { refusal_of result ≡ call_refusal (lent_in self.now) x }
+    {
+        self.open_refusal()?;
+        if !fresh(self.tables, self.terms, self.assignment, self.tallies) {
+            return Err(Refusal::Stale);
+        }
+        if x == 0 {
+            return Err(Refusal::NoVariable);
+        }
+        if word(self.tables, 0) < x {
+            return Err(Refusal::NoVariable);
+        }
+        Ok(())
     }
-    0
+
+    // A locked variable is refused to flips alone, so the test stands apart from what counts tests too.
+    pub fn flip_refusal(&self, x: u32) -> Result<(), Refusal>
+        ensures { refusal_of result ≡ flip_refusal (lent_in self.now) x }
+    {
+        self.call_refusal(x)?;
+        if 0 < word(self.tables, format::LOCKS + x as usize) {
+            return Err(Refusal::Locked);
+        }
+        Ok(())
+    }
 }

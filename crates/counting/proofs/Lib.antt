@@ -1,3 +1,4 @@
+pub mod Bounds
 pub mod Difference
 pub mod Joining
 pub mod Marks

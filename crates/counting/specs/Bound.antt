@@ -1,11 +1,9 @@
--- The bound of plpb that a Bound of the code stands for.
+-- The bound of plpb that a bound of the code stands for: None is an absent one.
 -- Assumes nothing.
-use Rattle.std.specs.Prelude.{ℕ}
+use Rattle.std.specs.Prelude.{ℕ, Option, None, Some}
 use Rattle.plpb.specs.Plan.{absent, present}
 use Rattle.plpb.specs.Plan.{Bound as BoundOf}
-use Rattle.counting.specs.declared.bound.Bound.{Bound}
-use Rattle.counting.specs.declared.bound.Bound.TheVariants.{Absent, Present}
 
-abbrev pub bound_of : Bound → BoundOf ℕ
-bound_of Absent = absent
-bound_of (Present k) = present k
+abbrev pub bound_of : Option ℕ → BoundOf ℕ
+bound_of None = absent
+bound_of (Some k) = present k

@@ -28,8 +28,7 @@ fn lower_half(m: u64, k: u64) -> Report
         };
     }
     let mut entry = m;
-    let mut i = 1;
-    while i < k {
+    for i in 1..k {
         entry = entry * (m - i) / (i + 1);
         if (Count::CAP.value as u64) < entry {
             return Report {
@@ -37,14 +36,13 @@ fn lower_half(m: u64, k: u64) -> Report
                 factors: (i + 1) as u32,
             };
         }
-        i += 1;
     }
     Report {
         count: Count {
             value: entry as u32,
             cut: false,
         },
-        factors: i as u32,
+        factors: k as u32,
     }
 }
 
@@ -126,10 +124,10 @@ fn exact_difference(gain: u64, m: u64, w: u64, k: u64) -> Count
 {
     let above = absorbed(gain, m + w, k);
     if m < k {
-        return Count::of(above);
+        return Count::from(above);
     }
     let before = binomial(m - 1, k - 1);
-    Count::of(above - absorbed(before.rank(), m, k))
+    Count::from(above - absorbed(before.rank(), m, k))
 }
 
 // m + w over k less m over k. Both may be past the cap where their difference is not, so neither is cut first:
@@ -152,7 +150,7 @@ pub fn difference(m: u64, w: u64, k: u64) -> Count
         return Count::ONE;
     }
     if k == 1 {
-        return Count::of(w);
+        return Count::from(w);
     }
     let gain = binomial(m + w - 1, k - 1);
     if gain.cut {

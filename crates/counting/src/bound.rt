@@ -8,41 +8,26 @@ ghost use Rattle.counting.specs.Bound.{bound_of};
 use crate::binomial::{binomial, difference, surely_past};
 use crate::count::Count;
 
-#[derive(Clone, Copy)]
-pub enum Bound {
-    Absent,
-    Present(u64),
-}
-
 // m over a bound's size: an absent bound gives no parts.
-pub fn over(m: u64, bound: Bound) -> Count
+pub fn over(m: u64, bound: Option<u64>) -> Count
     requires { m < 4294967296 }
     ensures { number result ≡ capped (overSize m (bound_of bound)) }
 {
-    match bound {
-        Bound::Absent => Count::ZERO,
-        Bound::Present(k) => binomial(m, k),
-    }
+    bound.map_or(Count::ZERO, |k| binomial(m, k))
 }
 
 // m + w over a bound's size less m over it.
-pub fn over_difference(m: u64, w: u64, bound: Bound) -> Count
+pub fn over_difference(m: u64, w: u64, bound: Option<u64>) -> Count
     requires { m + w < 4294967296 }
     ensures { number result ≡ capped (overSize (m + w) (bound_of bound) - overSize m (bound_of bound)) }
 {
-    match bound {
-        Bound::Absent => Count::ZERO,
-        Bound::Present(k) => difference(m, w, k),
-    }
+    bound.map_or(Count::ZERO, |k| difference(m, w, k))
 }
 
 // Whether that difference is past the cap for sure.
-pub fn over_surely_past(m: u64, w: u64, bound: Bound) -> bool
+pub fn over_surely_past(m: u64, w: u64, bound: Option<u64>) -> bool
     requires { m + w < 4294967296 }
     ensures { result ≡ true → cap < overSize (m + w) (bound_of bound) - overSize m (bound_of bound) }
 {
-    match bound {
-        Bound::Absent => false,
-        Bound::Present(k) => surely_past(m, w, k),
-    }
+    bound.is_some_and(|k| surely_past(m, w, k))
 }

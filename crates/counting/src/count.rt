@@ -3,13 +3,15 @@ ghost use Rattle.std.specs.Prelude.{◌≡◌, suc, ◌+◌, ◌*◌, ◌<◌};
 ghost use Rattle.plpb.specs.Count.{cap, given, capped};
 ghost use Rattle.counting.specs.Count.{number, count_words, marked_words};
 
+use std::ops::{Add, Mul};
+
 #[derive(Clone, Copy)]
 pub struct Count {
     pub value: u32,
     pub cut: bool,
 }
 
-// A count as it is given out to C: its value, and 1 where it was cut, else 0.
+// A count as it is given out to C: its value, and 1 where it was cut, else 0. The C interface has this layout.
 #[repr(C)]
 #[derive(Clone, Copy)]
 pub struct Marked {
@@ -44,19 +46,6 @@ impl Count {
         cut: true,
     };
 
-    // The count of a number that fits 64 bits.
-    pub fn of(n: u64) -> Count
-        ensures { number result ≡ capped n }
-    {
-        if n <= Count::CAP.value as u64 {
-            return Count {
-                value: n as u32,
-                cut: false,
-            };
-        }
-        Count::CUT
-    }
-
     // Where it stands among counts: a cut one above all others.
     pub fn rank(self) -> u64
         ensures { (result ≡ number self) × (result < 4294967297) }
@@ -71,23 +60,13 @@ impl Count {
     pub fn marked(self) -> Marked
         ensures { marked_words result ≡ count_words (given (number self)) }
     {
-        let n = self.rank();
-        if (Count::CAP.value as u64) < n {
-            return Marked {
-                value: Count::CAP.value,
-                cut: 1,
-            };
-        }
-        Marked {
-            value: n as u32,
-            cut: 0,
-        }
+        Marked::from(self)
     }
 
     pub fn plus(self, other: Count) -> Count
         ensures { number result ≡ capped (number self + number other) }
     {
-        Count::of(self.rank() + other.rank())
+        self + other
     }
 
     // A cut one times this one. Zero times a cut one is zero and uncut.
@@ -99,13 +78,61 @@ impl Count {
         }
         Count::CUT
     }
+}
 
-    pub fn times(self, other: Count) -> Count
-        ensures { number result ≡ capped (number self * number other) }
-    {
+// The count of a number that fits 64 bits.
+impl From<u64> for Count {
+    ghost from_gives = { λ n c. number c ≡ capped n };
+
+    fn from(n: u64) -> Count {
+        if n <= Count::CAP.value as u64 {
+            return Count {
+                value: n as u32,
+                cut: false,
+            };
+        }
+        Count::CUT
+    }
+}
+
+// A count as it is given out.
+impl From<Count> for Marked {
+    ghost from_gives = { λ c m. marked_words m ≡ count_words (given (number c)) };
+
+    fn from(count: Count) -> Marked {
+        let n = count.rank();
+        if (Count::CAP.value as u64) < n {
+            return Marked {
+                value: Count::CAP.value,
+                cut: 1,
+            };
+        }
+        Marked {
+            value: n as u32,
+            cut: 0,
+        }
+    }
+}
+
+impl Add for Count {
+    type Output = Count;
+
+    ghost add_gives = { λ a b c. number c ≡ capped (number a + number b) };
+
+    fn add(self, other: Count) -> Count {
+        Count::from(self.rank() + other.rank())
+    }
+}
+
+impl Mul for Count {
+    type Output = Count;
+
+    ghost mul_gives = { λ a b c. number c ≡ capped (number a * number b) };
+
+    fn mul(self, other: Count) -> Count {
         if self.cut {
             return other.times_cut();
         }
-        Count::of(self.value as u64 * other.rank())
+        Count::from(self.value as u64 * other.rank())
     }
 }

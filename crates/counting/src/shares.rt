@@ -10,7 +10,7 @@ ghost use Rattle.counting.specs.Bound.{bound_of};
 ghost use Rattle.counting.specs.Count.{number};
 ghost use Rattle.counting.specs.Shares.{shares_in, capped_shares, joined_shares};
 
-use crate::bound::{Bound, over, over_difference};
+use crate::bound::{over, over_difference};
 use crate::count::Count;
 
 #[derive(Clone, Copy)]
@@ -21,7 +21,7 @@ pub struct Shares {
 }
 
 // Case 1: the variable does not occur in the rule.
-pub fn literal_absent(n: u64, p: u64, a: Bound, b: Bound) -> Shares
+pub fn literal_absent(n: u64, p: u64, a: Option<u64>, b: Option<u64>) -> Shares
     requires { n + p < 4294967296 }
     ensures e { number result.e ≡ capped 0 }
     ensures f { number result.f ≡ capped 0 }
@@ -32,12 +32,12 @@ pub fn literal_absent(n: u64, p: u64, a: Bound, b: Bound) -> Shares
     // (11), case 1: f = 0
     let f = Count::ZERO;
     // (12), case 1: g = C(N, K − l + 1) + C(P, u + 1)
-    let g = over(n, a).plus(over(p, b));
+    let g = over(n, a) + over(p, b);
     Shares { e, f, g }
 }
 
 // Case 2: its literal is true.
-pub fn literal_true(w: u64, n: u64, p: u64, a: Bound, b: Bound) -> Shares
+pub fn literal_true(w: u64, n: u64, p: u64, a: Option<u64>, b: Option<u64>) -> Shares
     requires { (n + p < 4294967296) × (w ≤ p) }
     ensures e { number result.e ≡ capped (overSize (n + w) (bound_of a) - overSize n (bound_of a)) }
     ensures f { number result.f ≡ capped (overSize p (bound_of b) - overSize (p - w) (bound_of b)) }
@@ -48,12 +48,12 @@ pub fn literal_true(w: u64, n: u64, p: u64, a: Bound, b: Bound) -> Shares
     // (11), case 2: f = C(P, u + 1) − C(P − w, u + 1)
     let f = over_difference(p - w, w, b);
     // (12), case 2: g = C(N, K − l + 1) + C(P − w, u + 1)
-    let g = over(n, a).plus(over(p - w, b));
+    let g = over(n, a) + over(p - w, b);
     Shares { e, f, g }
 }
 
-// Otherwise: its literal is false.
-pub fn literal_false(w: u64, n: u64, p: u64, a: Bound, b: Bound) -> Shares
+// Otherwise: its literal is false. This is case 2 with the sides exchanged, but each case stands in full: a reader holds each line against its equation.
+pub fn literal_false(w: u64, n: u64, p: u64, a: Option<u64>, b: Option<u64>) -> Shares
     requires { (n + p < 4294967296) × (w ≤ n) }
     ensures e { number result.e ≡ capped (overSize (p + w) (bound_of b) - overSize p (bound_of b)) }
     ensures f { number result.f ≡ capped (overSize n (bound_of a) - overSize (n - w) (bound_of a)) }
@@ -64,7 +64,7 @@ pub fn literal_false(w: u64, n: u64, p: u64, a: Bound, b: Bound) -> Shares
     // (11), otherwise: f = C(N, K − l + 1) − C(N − w, K − l + 1)
     let f = over_difference(n - w, w, a);
     // (12), otherwise: g = C(P, u + 1) + C(N − w, K − l + 1)
-    let g = over(p, b).plus(over(n - w, a));
+    let g = over(p, b) + over(n - w, a);
     Shares { e, f, g }
 }
 
@@ -80,14 +80,14 @@ impl Shares {
     pub fn false_after(self) -> Count
         ensures { number result ≡ capped (number self.e + number self.g) }
     {
-        self.e.plus(self.g)
+        self.e + self.g
     }
 
     // f + g: the parts that are false before it.
     pub fn false_before(self) -> Count
         ensures { number result ≡ capped (number self.f + number self.g) }
     {
-        self.f.plus(self.g)
+        self.f + self.g
     }
 
     // Each part so far joined with each of one more rule. A joined part is spoiled when the first is and the second is false
@@ -96,9 +96,9 @@ impl Shares {
         ensures { shares_in result ≡ capped_shares (joined_shares (shares_in self) (shares_in rule)) }
     {
         Shares {
-            e: self.e.times(rule.false_after()).plus(self.g.times(rule.e)),
-            f: self.f.times(rule.false_before()).plus(self.g.times(rule.f)),
-            g: self.g.times(rule.g),
+            e: self.e * rule.false_after() + self.g * rule.e,
+            f: self.f * rule.false_before() + self.g * rule.f,
+            g: self.g * rule.g,
         }
     }
 }

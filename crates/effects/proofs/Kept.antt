@@ -1,27 +1,27 @@
 -- What the walk's columns say of a rule: P, K, the sizes, its state.
 -- Assumes nothing.
-use Prim.Native.Nat.{ℕ, suc, ◌+◌, ◌*◌, ◌-◌, ◌≤◌, ◌<◌}
+use Prim.Native.Nat.{ℕ, ◌+◌, ◌*◌, ◌-◌, ◌≤◌, ◌<◌}
 use native.Mathlib.Omega.{arith}
 use mathlib.Core.Path.{◌≡◌, refl, sym, ap, ap₂, ◌∙◌, subst}
 use mathlib.Core.Bool.{Bool, true, false, not, cond}
 use mathlib.Core.List.{List}
 use lib.Dec.{T, leb}
 use lib.IntN.{ℤ, nat_abs}
-use lib.ListN.{length, get_or}
+use lib.ListN.{length}
 use borrow.Author.Tests.{leb-true}
-use Rattle.plpb.specs.Plan.{Bound, absent, present, map_bound, Rule, Plan, Assignment, rising, numbers_rise}
+use Rattle.plpb.specs.Plan.{Bound, absent, present, map_bound, Rule, Plan, Assignment, rising}
 use Rattle.plpb.specs.Normal.{is_negative, K, P, N, rise, size_a, size_b}
 use Rattle.plpb.specs.Equations.{on, off, standing}
 use Rattle.plpb.specs.Tallies.{rules_of}
 use Rattle.plpb.proofs.Lists.{all_at}
 use Rattle.plpb.proofs.Normal.{P_at_most_K}
 use Rattle.words.specs.Words.{word_at}
-use Rattle.order.specs.Order.{no_rule, rule_at, numbers_within}
+use Rattle.order.specs.Order.{no_rule, rule_at}
 use Rattle.order.specs.Breaks.{spoils_part}
 use Rattle.order.proofs.Groups.{spoils_true, spoils_false}
 use Rattle.format.specs.Limits.{rule_lawful, bound_lawful, max_bound}
 use Rattle.format.specs.Tables.{plan_of_tables}
-use Rattle.format.specs.Layout.{rule_room, tally_size}
+use Rattle.format.specs.Layout.{rule_room}
 use Rattle.format.proofs.Bools.{true_T}
 use Rattle.format.proofs.Bools as bools
 use Rattle.format.proofs.Lawful.{LawfulRule, RoomyPlan, rule_parts, terms_short}
@@ -34,14 +34,13 @@ use Rattle.rules.specs.State.{StateOf}
 use Rattle.rules.proofs.Finding.{lost_in_P, gained_beside_P}
 use Rattle.rules.proofs.Sizes.{rule_lower, rule_upper}
 use Rattle.rules.proofs.Summing.{rise_at_most_K}
-use Rattle.tallies.specs.Layout.{tally_word}
 use Rattle.tallies.proofs.Exact.{K_small}
 use Rattle.tallies.proofs.Tallied.{rule_word, fresh_words}
 use Rattle.tallies.proofs.TallyBytes.{roomy_fits}
 use Rattle.recount.specs.Core.{Laid}
 use Rattle.recount.proofs.Laid.{parts}
-use Rattle.columns.specs.Layout.{total_at, lower_size_at, upper_size_at, need_at}
-use Rattle.columns.specs.Columns.{never, size_word, need}
+use Rattle.columns.specs.Layout.{total_at, need_at}
+use Rattle.columns.specs.Columns.{never, need}
 use Rattle.effects.specs.Kept.{lent_bits, Walkable, size_in, Countable, Told}
 use Rattle.effects.proofs.Words.{Below, size_back, need_reaches}
 

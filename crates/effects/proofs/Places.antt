@@ -1,48 +1,43 @@
 -- A place of a variable's run: its word tells the place, its side of the rule and whether its clause has several rules; the weight stands beside it.
 -- Assumes nothing.
-use Prim.Native.Nat.{ℕ, zero, suc, ◌+◌, ◌*◌, ◌-◌, ◌/◌, ◌%◌, ◌≤◌, ◌<◌}
+use Prim.Native.Nat.{ℕ, ◌+◌, ◌*◌, ◌-◌, ◌/◌, ◌%◌, ◌≤◌, ◌<◌}
 use native.Mathlib.Omega.{arith}
-use mathlib.Core.Path.{◌≡◌, refl, sym, ap, ap₂, ◌∙◌, subst}
+use mathlib.Core.Path.{◌≡◌, sym, ap, ap₂, ◌∙◌, subst}
 use mathlib.Core.Bool.{Bool, true, false, not, cond}
 use mathlib.Core.List.{List, [], map}
-use lib.Dec.{T, leb, eqb}
-use lib.ListN.{length, get_or, take, drop, length-map, length-take, get_or-map}
-use lib.Seq.{get_or-take, get_or-drop, length-take-le}
-use borrow.Author.Tests.{leb-true, eq-eqb, ne_eqb}
-use Rattle.plpb.specs.Lists.{all}
-use Rattle.plpb.specs.Plan.{Term, Rule, Plan, Assignment, value, rising, numbers_rise}
+use lib.Dec.{T, leb}
+use lib.ListN.{length, get_or, drop, length-map, get_or-map}
+use lib.Seq.{get_or-take, get_or-drop}
+use Rattle.plpb.specs.Plan.{Term, Plan, Assignment, value, rising}
 use Rattle.plpb.specs.Normal.{is_negative, literal, literal_true, size}
 use Rattle.plpb.specs.Equations.{on, off, standing}
 use Rattle.plpb.specs.Tallies.{rules_of}
 use Rattle.plpb.proofs.Lists.{all_at}
 use Rattle.words.specs.Words.{word_at}
-use Rattle.order.specs.Order.{Place, occurrences, order, run_end, cut, no_rule, no_term, rule_at, term_at, is_place, names_at, has_several, place_word, word_place, term_count, numbers_within}
+use Rattle.order.specs.Order.{Place, occurrences, order, run_end, cut, no_term, rule_at, term_at, is_place, names_at, has_several, place_word, word_place}
 use Rattle.order.specs.Breaks.{spoils_part}
 use Rattle.order.proofs.Runs.{Named, named_of, named_below, occurrences_named, order_places}
 use Rattle.order.proofs.Tested.{run_cut, order_length, end_next}
 use Rattle.order.proofs.Along.{standing_at_lem}
 use Rattle.order.proofs.Words.{Small}
 use Rattle.format.specs.Tables.{plan_of_tables}
-use Rattle.format.specs.Layout.{end_at, entry_at, table_size}
+use Rattle.format.specs.Layout.{entry_at}
 use Rattle.format.proofs.Bools as bools
 use Rattle.format.proofs.Lawful.{term_within, RoomyPlan, weight_small, weight_some}
-use Rattle.format.proofs.Naming.{numbers_within_lem, place_small}
+use Rattle.format.proofs.Naming.{place_small}
 use Rattle.format.proofs.Spells.{spells_at}
-use Rattle.format.proofs.Arranged.{Arranged}
 use Rattle.format.proofs.ReadBack.{holds_arranged}
 use Rattle.format.proofs.GoodOrder.{word_back}
 use Rattle.rules.specs.declared.place.Stands.{Stands}
 use Rattle.rules.specs.declared.state.State.{State}
 use Rattle.rules.specs.Places.{standing_in}
 use Rattle.rules.specs.State.{StateOf}
-use Rattle.tallies.specs.Layout.{bits_of, are_bits}
-use Rattle.recount.specs.Core.{Laid}
-use Rattle.recount.proofs.Laid.{parts, tables_long, rises}
-use Rattle.columns.specs.Layout.{need_at, weight_at, kept_size, column_size}
+use Rattle.recount.proofs.Laid.{parts}
+use Rattle.columns.specs.Layout.{need_at, weight_at}
 use Rattle.columns.specs.Columns.{never, no_place}
-use Rattle.effects.specs.Kept.{lent_bits, Walkable, Going, place_at, place_rule, Visited, Countable, Told, stands_on}
+use Rattle.effects.specs.Kept.{lent_bits, Walkable, place_at, place_rule, Visited, Countable, Told, stands_on}
 use Rattle.effects.proofs.Words.{several_word, side_word, side_rule, side_stands}
-use Rattle.effects.proofs.Runs.{byte_value, going_rises, going_within, going_byte, run_inside, run_few}
+use Rattle.effects.proofs.Runs.{byte_value, going_within, going_byte, run_inside, run_few}
 use Rattle.effects.proofs.Kept.{rule_few, rule_rising, rule_within, rule_countable, told_state, need_spoils}
 
 -- ---- one place

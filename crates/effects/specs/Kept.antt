@@ -1,7 +1,7 @@
 -- What the walk stands on, and a place of a variable's run in it.
 -- Assumes nothing.
-use Rattle.std.specs.Prelude.{ℕ, ◌-◌, ◌%◌, ◌≤◌, ◌<◌, ◌≡◌, cond, List, T, eqb, length, get_or, take}
-use Rattle.plpb.specs.Plan.{Bound, absent, present, Rule, Plan, Assignment}
+use Rattle.std.specs.Prelude.{ℕ, ◌-◌, ◌%◌, ◌≤◌, ◌<◌, ◌≡◌, cond, List, T, eqb, get_or, take}
+use Rattle.plpb.specs.Plan.{Bound, absent, present, Rule, Assignment}
 use Rattle.plpb.specs.Equations.{Standing, on, off}
 use Rattle.plpb.specs.Tallies.{fresh_count}
 use Rattle.counting.specs.Bound.{bound_of}
@@ -12,7 +12,7 @@ use Rattle.rules.specs.declared.place.Stands.{Stands}
 use Rattle.rules.specs.declared.state.State.{State}
 use Rattle.tallies.specs.Layout.{tally_size, bits_of, are_bits, tally_bytes}
 use Rattle.recount.specs.Core.{Ready}
-use Rattle.columns.specs.Layout.{total_at, lower_size_at, upper_size_at, kept_size}
+use Rattle.columns.specs.Layout.{total_at, lower_size_at, upper_size_at}
 use Rattle.columns.specs.Columns.{never, Sized, Needed, Weighed, no_place}
 
 -- The assignment that is lent: a byte for each variable of the plan that two tables hold.

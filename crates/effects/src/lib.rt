@@ -15,21 +15,20 @@ ghost use Rattle.rules.specs.State.{StateOf};
 ghost use Rattle.columns.specs.Layout.{kept_size};
 ghost use Rattle.effects.specs.Kept.{lent_bits, place_at, place_rule, Visited, size_in, Countable, Told, stands_on};
 
-use columns::{LOWER_SIZES, NEEDS, TOTALS, UPPER_SIZES, WEIGHTS};
-use counting::bound::Bound;
+use columns::{LOWER_SIZES, NEEDS, NEVER, TOTALS, UPPER_SIZES, WEIGHTS};
 use format::ORDER;
 use rules::place::Stands;
 use rules::state::State;
 use words::{index, word};
 
-// The size that a word tells: 2^32 - 1 is none.
-fn size_in(w: u32) -> Bound
+// The size that a word tells: NEVER, 2^32 - 1, is none.
+fn size_in(w: u32) -> Option<u64>
     ensures { bound_of result ≡ size_in w }
 {
-    if w == 4294967295 {
-        return Bound::Absent;
+    if w == NEVER {
+        return None;
     }
-    Bound::Present(w as u64)
+    Some(w as u64)
 }
 
 // The state of rule r by its words: K, A, B and P.
@@ -62,14 +61,8 @@ fn side_at(
         (literal (term_at (plan_of_tables tables.now terms.now) (place_at tables.now terms.now k)))) 1 0 }
 {
     let o = index(tables, ORDER + k);
-    let v = widened(assignment[x - 1]);
+    let v = usize::from(assignment[x - 1]);
     2 * (o % 4096 / 2) + (o % 2 + v) % 2
-}
-
-fn widened(b: u8) -> usize
-    ensures { result ≡ b }
-{
-    b as usize
 }
 
 // Whether the flip spoils a part of the rule: its side needs no more than the term weighs.
@@ -135,8 +128,7 @@ pub fn holds_at(
         ≡ rule_holds (lent_bits tables.now terms.now assignment.now)
         (place_rule tables.now terms.now k) }
 {
-    let s = state_at(tables, terms, assignment, tallies, marks, x, k);
-    s.holds()
+    state_at(tables, terms, assignment, tallies, marks, x, k).holds()
 }
 
 // .. and whether some part of it is false after the flip, so that it does not hold then.
@@ -154,7 +146,6 @@ pub fn fails_at(
         ≡ false_after (lent_bits tables.now terms.now assignment.now) x
         (place_rule tables.now terms.now k) }
 {
-    let s = state_at(tables, terms, assignment, tallies, marks, x, k);
-    let after = s.flipped();
+    let after = state_at(tables, terms, assignment, tallies, marks, x, k).flipped();
     !after.holds()
 }

@@ -16,7 +16,9 @@ ghost use Rattle.exact.specs.Counted.{CountsAre};
 use counting::count::Count;
 use counting::shares::Shares;
 use recount::clause::{clause_names, rules_of};
+use recount::lent::Lent;
 use rules::state::read_state_from;
+use std::ops::Add;
 use words::index;
 
 #[derive(Clone, Copy)]
@@ -30,78 +32,92 @@ impl Counts {
         breaks: Count::ZERO,
         makes: Count::ZERO,
     };
+}
 
-    fn plus(self, other: Counts) -> Counts
-        ensures { CountsAre (capped (number self.breaks + number other.breaks)) (capped (number self.makes + number other.makes)) result }
-    {
+impl Add for Counts {
+    type Output = Counts;
+
+    ghost add_gives = { λ a b c. CountsAre (capped (number a.breaks + number b.breaks)) (capped (number a.makes + number b.makes)) c };
+
+    fn add(self, other: Counts) -> Counts {
         Counts {
-            breaks: self.breaks.plus(other.breaks),
-            makes: self.makes.plus(other.makes),
+            breaks: self.breaks + other.breaks,
+            makes: self.makes + other.makes,
         }
     }
 }
 
-// The shares of the rules so far joined with those of one more.
-fn join_rule(shares: Shares, tables: &[u8], terms: &[u8], bits: &[u8], r: usize, x: u32) -> Shares
-    requires { Ready tables.now terms.now bits.now × (r < word_at tables.now 2) }
-    ensures { shares_in result
-        ≡ capped_shares
-        (joined_shares (shares_in shares)
-        (capped_shares (shares_of (bits_in bits.now) x (rule_of (word_at tables.now) (word_at terms.now) r)))) }
-{
-    let s = read_state_from(tables, terms, bits, format::RULES + 5 * r, x);
-    shares.joined(s.shares())
+// What is lent, and the variable that is asked about.
+#[derive(Drop)]
+struct Asked<'a> {
+    lent: Lent<'a>,
+    x: u32,
 }
 
-// The shares of a clause.
-fn clause_shares(tables: &[u8], terms: &[u8], bits: &[u8], c: usize, x: u32) -> Shares
-    requires { Ready tables.now terms.now bits.now × (c < word_at tables.now 1) }
-    ensures { shares_in result
-        ≡ capped_shares
-        (joined_along (shares_of (bits_in bits.now) x) start_shares
-        (clause_of (word_at tables.now) (word_at terms.now) c)) }
-{
-    let rules = rules_of(tables, c);
-    let end = rules.end;
-    let mut shares = Shares::START;
-    let mut r = rules.first;
-    while r < end {
-        shares = join_rule(shares, tables, terms, bits, r, x);
-        r += 1;
+impl Asked<'_> {
+    // The shares of the rules so far joined with those of one more.
+    fn join_rule(&self, shares: Shares, r: usize) -> Shares
+        requires { r < word_at self.now.lent.tables.now 2 }
+        ensures { shares_in result
+            ≡ capped_shares
+            (joined_shares (shares_in shares)
+            (capped_shares (shares_of (bits_in self.now.lent.bits.now) self.now.x (rule_of (word_at self.now.lent.tables.now) (word_at self.now.lent.terms.now) r)))) }
+    {
+        let s = read_state_from(
+            self.lent.tables,
+            self.lent.terms,
+            self.lent.bits,
+            format::RULES + 5 * r,
+            self.x,
+        );
+        shares.joined(s.shares())
     }
-    shares
-}
 
-// What a flip spoils and mends of a clause: nothing where the clause does not name the variable, so no binomial is worked out there.
-fn clause_counts(tables: &[u8], terms: &[u8], bits: &[u8], c: usize, x: u32) -> Counts
-    requires { Ready tables.now terms.now bits.now × (c < word_at tables.now 1) }
-    ensures { CountsAre
-        (capped (clause_break (bits_in bits.now) x (clause_of (word_at tables.now) (word_at terms.now) c)))
-        (capped (clause_make (bits_in bits.now) x (clause_of (word_at tables.now) (word_at terms.now) c))) result }
-{
-    if !clause_names(tables, terms, c, x) {
-        return Counts::NONE;
+    // The shares of a clause.
+    fn clause_shares(&self, c: usize) -> Shares
+        requires { c < word_at self.now.lent.tables.now 1 }
+        ensures { shares_in result
+            ≡ capped_shares
+            (joined_along (shares_of (bits_in self.now.lent.bits.now) self.now.x) start_shares
+            (clause_of (word_at self.now.lent.tables.now) (word_at self.now.lent.terms.now) c)) }
+    {
+        let rules = rules_of(self.lent.tables, c);
+        let mut shares = Shares::START;
+        for r in rules.first..rules.end {
+            shares = self.join_rule(shares, r);
+        }
+        shares
     }
-    let s = clause_shares(tables, terms, bits, c, x);
-    let breaks = s.e;
-    let makes = s.f;
-    Counts { breaks, makes }
-}
 
-// The sum over the clauses.
-fn counts_of(tables: &[u8], terms: &[u8], bits: &[u8], x: u32) -> Counts
-    requires { Ready tables.now terms.now bits.now }
-    ensures { CountsAre (capped (break_sum (plan_of_tables tables.now terms.now) (bits_in bits.now) x))
-        (capped (make_sum (plan_of_tables tables.now terms.now) (bits_in bits.now) x)) result }
-{
-    let clauses = index(tables, 1);
-    let mut sum = Counts::NONE;
-    let mut c = 0;
-    while c < clauses {
-        sum = sum.plus(clause_counts(tables, terms, bits, c, x));
-        c += 1;
+    // What a flip spoils and mends of a clause: nothing where the clause does not name the variable, so no binomial is worked out there.
+    fn clause_counts(&self, c: usize) -> Counts
+        requires { c < word_at self.now.lent.tables.now 1 }
+        ensures { CountsAre
+            (capped (clause_break (bits_in self.now.lent.bits.now) self.now.x (clause_of (word_at self.now.lent.tables.now) (word_at self.now.lent.terms.now) c)))
+            (capped (clause_make (bits_in self.now.lent.bits.now) self.now.x (clause_of (word_at self.now.lent.tables.now) (word_at self.now.lent.terms.now) c))) result }
+    {
+        if !clause_names(self.lent.tables, self.lent.terms, c, self.x) {
+            return Counts::NONE;
+        }
+        let s = self.clause_shares(c);
+        Counts {
+            breaks: s.e,
+            makes: s.f,
+        }
     }
-    sum
+
+    // The sum over the clauses.
+    fn counts(&self) -> Counts
+        ensures { CountsAre (capped (break_sum (plan_of_tables self.now.lent.tables.now self.now.lent.terms.now) (bits_in self.now.lent.bits.now) self.now.x))
+            (capped (make_sum (plan_of_tables self.now.lent.tables.now self.now.lent.terms.now) (bits_in self.now.lent.bits.now) self.now.x)) result }
+    {
+        let clauses = index(self.lent.tables, 1);
+        let mut sum = Counts::NONE;
+        for c in 0..clauses {
+            sum = sum + self.clause_counts(c);
+        }
+        sum
+    }
 }
 
 // Of a variable from 1 to n.
@@ -114,5 +130,11 @@ pub fn counts_core(tables: &[u8], terms: &[u8], assignment: &[u8], x: u32) -> Co
         (bits_of (plan_of_tables tables.now terms.now).variables assignment.now) x) result }
 {
     let n = index(tables, 0);
-    counts_of(tables, terms, &assignment[..n], x)
+    let lent = Lent {
+        tables,
+        terms,
+        bits: &assignment[..n],
+    };
+    let asked = Asked { lent, x };
+    asked.counts()
 }

@@ -1,9 +1,10 @@
 -- Laws of the test of tallies: it goes through the words as a recount does and writes none, so that where it ends all are right; and where it
 -- stops one is not.
 -- Assumes nothing.
-use Prim.Native.Nat.{ℕ, zero, ◌+◌, ◌-◌, ◌≤◌, ◌<◌}
+use Prim.Native.Nat.{ℕ, ◌+◌, ◌-◌, ◌≤◌, ◌<◌}
 use native.Mathlib.Omega.{arith}
 use mathlib.Core.Path.{◌≡◌, refl, sym, ap, ◌∙◌}
+use Rattle.std.specs.Prelude.{Option, Some, None}
 use mathlib.Core.Bool.{Bool, true, false, cond}
 use mathlib.Core.List.{List}
 use lib.Dec.{eqb}
@@ -26,8 +27,6 @@ use Rattle.rules.proofs.Tables.{rule_at_lem}
 use Rattle.tallies.specs.Layout.{tally_size, bits_of, tally_bytes, tally_word}
 use Rattle.recount.specs.Core.{Laid, Ready, ClauseCounted, Unused}
 use Rattle.fresh.specs.Found.{FoundAt}
-use Rattle.fresh.specs.declared.Found.{Found}
-use Rattle.fresh.specs.declared.Found.TheVariants.{Other, Same}
 use Rattle.tallies.proofs.TallyBytes.{roomy_fits, same_self, same_bytes_lem, take_fresh}
 use Rattle.tallies.proofs.Tallied.{fresh_words, unused_rule, unused_clause}
 use Rattle.recount.proofs.Laid.{rules_word, clauses_word, rules_few, clauses_few, rules_inside}
@@ -55,24 +54,24 @@ module _ (tables terms bits tallies : List ℕ) (l : Laid tables terms) (r x : �
   wanted : tally_word (plan_of_tables tables terms) (bits_in bits) r ≡ s.p
   wanted = word_of_rule tables terms l (bits_in bits) r h ∙ sym here.trues
 
-  pub found_same : (b : Bool) (v : ℕ) → w ≡ s.p → b ≡ holds_in s → v ≡ cond b 1 0 → FoundAt tables terms bits tallies r (Same v)
-  found_same b v q m n = (sym e ∙ q ∙ sym wanted, n ∙ ap (λ t. cond t 1 0) (m ∙ holds_rule here))
+  pub found_same : (b : Bool) → w ≡ s.p → b ≡ holds_in s → FoundAt tables terms bits tallies r (Some b)
+  found_same b q m = (sym e ∙ q ∙ sym wanted, m ∙ holds_rule here)
 
-  pub found_other : (w ≡ s.p → ⊥) → FoundAt tables terms bits tallies r Other
+  pub found_other : (w ≡ s.p → ⊥) → FoundAt tables terms bits tallies r None
   found_other q = λ z. q (e ∙ z ∙ wanted)
 
 -- ---- a clause
 
 module _ (tables terms bits s : List ℕ) (c end holding r : ℕ) (d : RulesDone tables terms bits c s end holding r s) where
-  pub check_step : (v : ℕ) (k : Found) → r < end → FoundAt tables terms bits s r k → k ≡ Same v → RulesDone tables terms bits c s end (holding + v) (r + 1) s
-  check_step v k h f e =
-      let g : FoundAt tables terms bits s r (Same v) = rw e at f in
+  pub check_step : (b : Bool) (v : ℕ) (k : Option Bool) → r < end → FoundAt tables terms bits s r k → k ≡ Some b → v ≡ cond b 1 0 → RulesDone tables terms bits c s end (holding + v) (r + 1) s
+  check_step b v k h f e n =
+      let g : FoundAt tables terms bits s r (Some b) = rw e at f in
       rules_step tables terms bits c s end holding r s d (rule_holds (bits_in bits) (rule_of (word_at tables) (word_at terms) r)) v s h
-      (record { holds = refl; here = g.0; kept = kept_none _ s }) g.1
+      (record { holds = refl; here = g.0; kept = kept_none _ s }) (n ∙ ap (λ t. cond t 1 0) g.1)
 
-  pub check_stop : (k : Found) → r < end → FoundAt tables terms bits s r k → k ≡ Other → ClauseCounted tables terms bits c s s → ⊥
+  pub check_stop : (k : Option Bool) → r < end → FoundAt tables terms bits s r k → k ≡ None → ClauseCounted tables terms bits c s s → ⊥
   check_stop k h f e n =
-      let g : FoundAt tables terms bits s r Other = rw e at f in
+      let g : FoundAt tables terms bits s r None = rw e at f in
       g (n.weights r d.low (omega (arith, d.ends)))
 
   -- The clause's count tells the rest.

@@ -1,17 +1,17 @@
 -- A clause mends nothing where one of its rules holds, and nothing where none that names the variable mends a part.
 -- Assumes nothing.
-use Prim.Native.Nat.{ℕ, zero, suc, ◌+◌, ◌*◌, ◌-◌, ◌≤◌, ◌<◌}
+use Prim.Native.Nat.{ℕ, ◌+◌, ◌*◌, ◌-◌, ◌≤◌, ◌<◌}
 use native.Mathlib.Nat.{zero-mul, mul-zero}
 use native.Mathlib.Omega.{arith}
 use mathlib.Core.Path.{◌≡◌, refl, sym, ap, ap₂, ◌∙◌}
 use mathlib.Core.Bool.{Bool, true, false, cond}
 use mathlib.Core.List.{List, [], ◌∷◌}
-use lib.Dec.{T, ltb, eqb}
+use lib.Dec.{T}
 use lib.ListN.{length, get_or}
 use borrow.Author.Tests.{ltb-false, eqb-true}
-use Rattle.plpb.specs.Lists.{◌and◌, ◌or◌, count, any, all}
-use Rattle.plpb.specs.Plan.{Rule, Clause, Plan, Assignment, rule_holds, rising, numbers_rise}
-use Rattle.plpb.specs.Expansion.{parts, is_true, mends, leaves}
+use Rattle.plpb.specs.Lists.{◌or◌, count, any, all}
+use Rattle.plpb.specs.Plan.{Rule, Clause, Assignment, rule_holds, rising, numbers_rise}
+use Rattle.plpb.specs.Expansion.{parts, is_true}
 use Rattle.plpb.specs.Equations.{shares_of, product, clause_make}
 use Rattle.plpb.proofs.Lists.{and_left, and_right, count_cons, count_nil, all_by_count, all_at, false_T}
 use Rattle.plpb.proofs.Theorem1.{is_false, mended_and_left}

@@ -16,7 +16,7 @@ ghost use Rattle.effects.specs.Kept.{lent_bits, place_rule, Visited};
 ghost use Rattle.groups.specs.Stretch.{Stretch};
 ghost use Rattle.mending.specs.Mends.{mends_part};
 
-use counting::bound::{Bound, over_difference};
+use counting::bound::over_difference;
 use counting::count::Count;
 use effects::state_at;
 use format::HOLDING;
@@ -31,41 +31,35 @@ pub fn mended(s: State) -> Count
 {
     let n = s.n as u64;
     let p = s.p as u64;
-    let a = s.a;
-    let b = s.b;
-    let stands = s.stands;
-    match stands {
+    match s.stands {
         Stands::Out => Count::ZERO,
-        Stands::On(w) => over_difference(p - w as u64, w as u64, b),
-        Stands::Off(w) => over_difference(n - w as u64, w as u64, a),
+        Stands::On(w) => over_difference(p - w as u64, w as u64, s.b),
+        Stands::Off(w) => over_difference(n - w as u64, w as u64, s.a),
     }
 }
 
 // Whether m + w choose as many as the bound's size, and m fewer ways.
-fn reached(m: u64, w: u64, bound: Bound) -> bool
+fn reached(m: u64, w: u64, bound: Option<u64>) -> bool
     requires { m + w < 4294967296 }
     ensures { result ≡ reaches m w (bound_of bound) }
 {
     match bound {
-        Bound::Absent => false,
-        Bound::Present(k) => (0 < k) & ((0 < w) & (k <= m + w)),
+        None => false,
+        Some(k) => (0 < k) & ((0 < w) & (k <= m + w)),
     }
 }
 
-// Whether f is above 0, told without a binomial.
+// Whether f is above 0, told without a binomial. It has the arms of f itself, since one function for both would take a closure and say no more.
 fn mends(s: State) -> bool
     requires { Balanced s }
     ensures { result ≡ ltb 0 (shares_from s).f }
 {
     let n = s.n as u64;
     let p = s.p as u64;
-    let a = s.a;
-    let b = s.b;
-    let stands = s.stands;
-    match stands {
+    match s.stands {
         Stands::Out => false,
-        Stands::On(w) => reached(p - w as u64, w as u64, b),
-        Stands::Off(w) => reached(n - w as u64, w as u64, a),
+        Stands::On(w) => reached(p - w as u64, w as u64, s.b),
+        Stands::Off(w) => reached(n - w as u64, w as u64, s.a),
     }
 }
 
@@ -104,12 +98,10 @@ fn any_mends(
         ≡ any (mends_part (lent_bits tables.now terms.now assignment.now) x)
         (rules_along (plan_of_tables tables.now terms.now) k j) }
 {
-    let mut i = k;
-    while i < j {
+    for i in k..j {
         if mends_at(tables, terms, assignment, tallies, marks, x, i) {
             return true;
         }
-        i += 1;
     }
     false
 }

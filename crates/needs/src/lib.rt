@@ -16,7 +16,7 @@ ghost use Rattle.needs.specs.Needs.{need_word, NeedsPut, Weighable};
 use columns::{LOWER_SIZES, NEEDS, NEVER, TOTALS, UPPER_SIZES};
 use words::{index, word, write_word};
 
-// A rule by what is kept of it: N and P, and the words of A and B.
+// A rule by what is kept of it: N and P, and the words of A and B. It is no State: a size in a word is compared without asking whether it is there.
 #[derive(Clone, Copy)]
 pub struct KeptRule {
     pub n: u32,
@@ -55,15 +55,13 @@ impl KeptRule {
             KeptRule {
                 n: self.n + w,
                 p: self.p - w,
-                a: self.a,
-                b: self.b,
+                ..self
             }
         } else {
             KeptRule {
                 n: self.n - w,
                 p: self.p + w,
-                a: self.a,
-                b: self.b,
+                ..self
             }
         }
     }
@@ -79,7 +77,7 @@ fn need(size: u32, m: u32) -> u32
     if size == NEVER {
         return NEVER;
     }
-    if size < m { 0 } else { size - m }
+    size.saturating_sub(m)
 }
 
 // The needs of rule r, which stands so.
@@ -100,9 +98,7 @@ pub fn fill_needs(tables: &[u8], terms: &[u8], tallies: &mut [u8])
         × Only (need_at 0) kept_word_count tallies.old tallies.new }
 {
     let rules = index(tables, 2);
-    let mut r = 0;
-    while r < rules {
+    for r in 0..rules {
         put_needs(tallies, r, read_rule(tallies, r));
-        r += 1;
     }
 }

@@ -2,7 +2,10 @@
 -- Assumes nothing.
 use Prim.Native.Nat.{ℕ, suc, ◌+◌, ◌<◌, ◌≤◌}
 use native.Mathlib.Omega.{arith}
-use mathlib.Core.Bool.{true, false}
+use mathlib.Core.Bool.{Bool, true, false}
+use Rattle.std.specs.Prelude.{Option}
+use Rattle.std.specs.Bool.{then_some}
+use Rattle.counting.specs.Bound.{bound_of}
 use mathlib.Core.Path.{◌≡◌, refl, ap, ◌∙◌}
 use borrow.Author.Tests.{lt-ltb, le-ltb, le-leb, lt-leb, eq-eqb, ne_eqb}
 use mathlib.Core.List.{[], ◌∷◌}
@@ -15,7 +18,7 @@ use Rattle.counting.specs.Shares.{capped_shares}
 use Rattle.counting.specs.declared.count.Marked.{Marked}
 use Rattle.counting.proofs.Marks.{words_uncut}
 use Rattle.plpb.specs.Equations.{Standing, out, on, off, Shares, shares}
-use Rattle.probe.specs.Answers.{is_word, number_in, share_words, standing_for, is_within, shares_answer}
+use Rattle.probe.specs.Answers.{is_word, number_in, share_words, standing_for, is_within, shares_answer, bound_if}
 
 abbrev none : Shares
 none = record { e = 0; f = 0; g = 0 }
@@ -81,6 +84,11 @@ in_uncut m h = rw (eq-eqb m.cut 0 h)
 pub in_cut : (m : Marked) → (m.cut ≡ 0 → ⊥) → suc cap ≡ number_in m
 unfolding number_in
 in_cut m h = rw (ne_eqb m.cut 0 h)
+
+-- A bound from whether it is said to be there.
+pub present_or : {o : Option ℕ} (b : Bool) (k : ℕ) → o ≡ then_some b k → bound_of o ≡ bound_if b k
+present_or true k e = rw e refl
+present_or false k e = rw e refl
 
 -- What is given out of a count, of what it is the count of; and of three.
 pub given_by : {n : ℕ} (k : ℕ) → n ≡ capped k → count_words (given n) ≡ count_words (given k)

@@ -12,7 +12,6 @@ ghost use Rattle.probe.specs.Answers.{binomial_answer, factors_answer, differenc
 ghost use Rattle.probe.specs.Answers.{share_words, bound_if, standing_for, shares_answer};
 
 use counting::binomial::{binomial, difference, reported};
-use counting::bound::Bound;
 use counting::count::{Count, Marked};
 use counting::shares::{Shares, literal_absent, literal_false, literal_true};
 use counting::tightening::third;
@@ -41,7 +40,7 @@ pub extern "C" fn probe_binomial(m: u64, k: u64) -> Marked
     if 4294967295 < m {
         return Marked::ZERO;
     }
-    binomial(m, k).marked()
+    Marked::from(binomial(m, k))
 }
 
 // How many factors m over k costs.
@@ -65,30 +64,22 @@ pub extern "C" fn probe_difference(m: u32, w: u32, k: u64) -> Marked
     if 4294967295 < low + more {
         return Marked::ZERO;
     }
-    difference(low, more, k).marked()
+    Marked::from(difference(low, more, k))
 }
 
-fn bound(present: bool, size: u64) -> Bound
-    ensures { bound_of result ≡ bound_if present size }
-{
-    if present {
-        Bound::Present(size)
-    } else {
-        Bound::Absent
+impl From<Shares> for Three {
+    ghost from_gives = { λ s t. three_words t ≡ share_words (shares_in s) };
+
+    fn from(s: Shares) -> Three {
+        Three {
+            e: Marked::from(s.e),
+            f: Marked::from(s.f),
+            g: Marked::from(s.g),
+        }
     }
 }
 
-fn flat(s: Shares) -> Three
-    ensures { three_words result ≡ share_words (shares_in s) }
-{
-    Three {
-        e: s.e.marked(),
-        f: s.f.marked(),
-        g: s.g.marked(),
-    }
-}
-
-// A count from what stands for one.
+// A count from what stands for one. It is no From of the counts, since none but the probe is handed one back.
 fn lifted_count(m: Marked) -> Count
     ensures { number result ≡ number_in m }
 {
@@ -101,34 +92,36 @@ fn lifted_count(m: Marked) -> Count
     Count::CUT
 }
 
-fn lifted(s: Three) -> Shares
-    ensures { shares_in result ≡ three_in s }
-{
-    Shares {
-        e: lifted_count(s.e),
-        f: lifted_count(s.f),
-        g: lifted_count(s.g),
+impl From<Three> for Shares {
+    ghost from_gives = { λ t s. shares_in s ≡ three_in t };
+
+    fn from(t: Three) -> Shares {
+        Shares {
+            e: lifted_count(t.e),
+            f: lifted_count(t.f),
+            g: lifted_count(t.g),
+        }
     }
 }
 
-// A literal that weighs more than the sum it counts in is answered by 0 too.
-fn shares(case: u32, w: u64, n: u64, p: u64, a: Bound, b: Bound) -> Three
+// A literal that weighs more than the sum it counts in is answered by 0 too. The cases are numbers in the C interface.
+fn shares(case: u32, w: u64, n: u64, p: u64, a: Option<u64>, b: Option<u64>) -> Three
     requires { n + p < 4294967296 }
     ensures { three_words result ≡ share_words (shares_answer (standing_for case w) n p (bound_of a) (bound_of b)) }
 {
     if case == 0 {
-        return flat(literal_absent(n, p, a, b));
+        return Three::from(literal_absent(n, p, a, b));
     }
     if case == 1 {
         if p < w {
             return Three::NONE;
         }
-        return flat(literal_true(w, n, p, a, b));
+        return Three::from(literal_true(w, n, p, a, b));
     }
     if n < w {
         return Three::NONE;
     }
-    flat(literal_false(w, n, p, a, b))
+    Three::from(literal_false(w, n, p, a, b))
 }
 
 // e, f and g of a rule for a variable that it does not name (case 0), or whose literal is true (1) or false (any other).
@@ -155,8 +148,8 @@ pub extern "C" fn probe_shares(
         w as u64,
         falses,
         trues,
-        bound(lower, a),
-        bound(upper, b),
+        lower.then_some(a),
+        upper.then_some(b),
     )
 }
 
@@ -165,7 +158,7 @@ pub extern "C" fn probe_shares(
 pub extern "C" fn probe_joined(clause: Three, rule: Three) -> Three
     ensures { three_words result ≡ share_words (joined_shares (three_in clause) (three_in rule)) }
 {
-    flat(lifted(clause).joined(lifted(rule)))
+    Three::from(Shares::from(clause).joined(Shares::from(rule)))
 }
 
 // A third, rounded down.

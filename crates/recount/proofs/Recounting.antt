@@ -28,7 +28,7 @@ use Rattle.rules.specs.declared.state.State.{State}
 use Rattle.rules.proofs.States.{holds_rule}
 use Rattle.rules.proofs.Tables.{rule_at_lem}
 use Rattle.tallies.specs.Layout.{tally_size, tally_bytes, tally_word}
-use Rattle.recount.specs.Core.{Laid, Wrote, Kept, Right, RuleCounted, ClauseCounted, Countable, Unused}
+use Rattle.recount.specs.Core.{Laid, Wrote, Kept, Right, RuleCounted, ClauseCounted, Unused}
 use Rattle.recount.proofs.Along.{along_step, along_end}
 use Rattle.tallies.proofs.TallyBytes.{roomy_fits}
 use Rattle.tallies.proofs.Tallied.{rule_word, clause_word, total_word, unused_rule, unused_clause, words_fresh}
@@ -134,9 +134,6 @@ module _ (tables terms bits : List ℕ) (c : ℕ) where
           holding = w.here ∙ right;
           kept = kept_more _ s₀ s t d.kept k;
         }
-
-pub still_countable : (tables terms bits s t : List ℕ) → Countable tables terms bits s → Kept (tally_word (plan_of_tables tables terms) (bits_in bits)) s t → Countable tables terms bits t
-still_countable tables terms bits s t n k = record { ready = n.ready; room = rw k.size n.room }
 
 -- ---- the clauses
 

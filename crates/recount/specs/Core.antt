@@ -1,6 +1,7 @@
 -- What opening, flip and counts need of the tables and the assignment, and what they leave of the tallies, word by word.
 -- Assumes nothing.
 use Rattle.std.specs.Prelude.{ℕ, ◌+◌, ◌*◌, ◌≤◌, ◌<◌, ◌≡◌, ◌≢◌, Bool, List, T, length, take, drop}
+use Rattle.std.specs.Coded.{×_prop, Coded-set, coded_list, coded_ℕ}
 use Rattle.plpb.specs.Plan.{Plan, rule_holds}
 use Rattle.plpb.specs.Tallies.{rules_of, fresh_count}
 use Rattle.words.specs.Words.{word_at}
@@ -14,6 +15,11 @@ use Rattle.format.specs.Layout.{clause_count_at, clause_first_at, clause_room, h
 pub record Laid (tables terms : List ℕ) : Type 0 where
   pub room : T (roomy (plan_of_tables tables terms))
   pub holds : Holds (plan_of_tables tables terms) tables terms
+
+-- There is one proof at most that they hold it, so a struct may keep it.
+pub Holds-prop : (p : Plan) (tables terms : List ℕ) → IsProp (Holds p tables terms)
+unfolding Holds
+Holds-prop p tables terms = ×_prop (Coded-set (coded_list coded_ℕ) _ _) (Coded-set (coded_list coded_ℕ) _ _)
 
 -- .. and the assignment has a byte for each of its variables.
 pub record Ready (tables terms assignment : List ℕ) : Type 0 where

@@ -43,12 +43,10 @@ pub fn clause_names(tables: &[u8], terms: &[u8], c: usize, x: u32) -> bool
 {
     let rules = rules_of(tables, c);
     let end = rules.end;
-    let mut r = rules.first;
-    while r < end {
+    for r in rules.first..end {
         if rule_names(tables, terms, r, x) {
             return true;
         }
-        r += 1;
     }
     false
 }

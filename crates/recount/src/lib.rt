@@ -2,5 +2,6 @@
 #![tactic(auto)]
 
 pub mod clause;
+pub mod lent;
 pub mod open;
 pub mod recount;

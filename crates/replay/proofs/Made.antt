@@ -1,11 +1,12 @@
 -- A call made is the definition's, and its answer is written where the list's answers go on. Assumes nothing.
 use Prim.Native.Nat.{ℕ, zero, suc, ◌+◌, ◌-◌, ◌*◌, ◌/◌, ◌≤◌, ◌<◌}
+use native.Mathlib.Nat.{sub-zero}
 use native.Mathlib.Omega.{arith}
 use mathlib.Core.Path.{◌≡◌, refl, sym, ap, ap₂, ◌∙◌}
 use mathlib.Core.Bool.{Bool, cond}
-use mathlib.Core.List.{List, [], ◌∷◌, ◌++◌, append-nil, append_assoc}
+use mathlib.Core.List.{List, [], ◌∷◌, ◌++◌, append-nil}
 use lib.Dec.{eqb-suc-zero}
-use lib.ListN.{length, get_or, length-append, take-append-drop}
+use lib.ListN.{length, get_or, take-append-drop}
 use borrow.Author.Tests.{eq-eqb, ne_eqb}
 use Rattle.plpb.specs.Book.{Call, flip_call, counts_call, Answer, refused, accepted, counted}
 use Rattle.plpb.specs.Count.{given}
@@ -88,11 +89,17 @@ unfolding left_by
 left_by_lem l (flip_call x) a t p q = ap₂ (lent l.tables l.terms) p q
 left_by_lem l (counts_call x) a t p q = ap₂ (lent l.tables l.terms) p q
 
-calls_more : (left at : ℕ) (s : List ℕ) → 0 < left
-    → calls_from left s at ≡ call_of (get_or s at 0) (num_at 4 s (at + 1)) ∷ calls_from (left - 1) s (at + 5)
+-- The calls of a list of which k are made.
+abbrev pub calls_left : (n : ℕ) (s : List ℕ) (k : ℕ) → List Call
+calls_left n s k = calls_from (n - k) s (5 * k)
+
+calls_more : (n : ℕ) (s : List ℕ) (k : ℕ) → k < n
+    → calls_left n s k ≡ call_of (get_or s (5 * k) 0) (num_at 4 s (5 * k + 1)) ∷ calls_left n s (k + 1)
 unfolding calls_from
-calls_more zero at s h = absurd (omega arith)
-calls_more (suc k) at s h = let e : suc k - 1 ≡ k = omega arith in rw e
+calls_more n s k h =
+    let more : n - k ≡ suc (n - (k + 1)) = omega arith in
+    let next : 5 * (k + 1) ≡ 5 * k + 5 = omega arith in
+    rw (more, next)
 
 write_more : (l : Lent) (c : Call) (cs : List Call) (to : ℕ) (out : List ℕ) → to + answer_size ≤ length out
     → put (to + answer_size) (answer_bytes (answers (left_by l c) cs)) (put to (word_bytes (answer_words (answer l c))) out) ≡ put to (answer_bytes (answers l (c ∷ cs))) out
@@ -103,35 +110,49 @@ write_more l c cs to out h =
     let n : length bs ≡ answer_size = answer_size_lem (answer l c) in
     ap (λ k. put (to + k) rest (put to bs out)) (sym n) ∙ put_put to bs rest out (rw n h)
 
--- One turn: a call, and its answer written.
-module _ (l : Lent) (s : List ℕ) (left at x : ℕ) (a t : List ℕ) (some : 0 < left) (named : x ≡ num_at 4 s (at + 1))
-    (p : a ≡ (left_by l (call_of (get_or s at 0) x)).assignment) (q : t ≡ (left_by l (call_of (get_or s at 0) x)).tallies) where
-  pub after_turn : after (lent l.tables l.terms a t) (calls_from (left - 1) s (at + 5)) ≡ after l (calls_from left s at)
+-- One turn: call k, and its answer written.
+module _ (l : Lent) (n : ℕ) (s : List ℕ) (k x : ℕ) (a t : List ℕ) (some : k < n) (named : x ≡ num_at 4 s (5 * k + 1))
+    (p : a ≡ (left_by l (call_of (get_or s (5 * k) 0) x)).assignment) (q : t ≡ (left_by l (call_of (get_or s (5 * k) 0) x)).tallies) where
+  pub after_turn : after (lent l.tables l.terms a t) (calls_left n s (k + 1)) ≡ after l (calls_left n s k)
   unfolding after
   after_turn =
-      rw (calls_more left at s some, sym named)
-      (ap (λ m. after m (calls_from (left - 1) s (at + 5))) (left_by_lem l (call_of (get_or s at 0) x) a t p q))
+      rw (calls_more n s k some, sym named)
+      (ap (λ m. after m (calls_left n s (k + 1))) (left_by_lem l (call_of (get_or s (5 * k) 0) x) a t p q))
 
-  pub answers_turn : (to : ℕ) (ws out now : List ℕ) → to + answer_size ≤ length out → ws ≡ answer_words (answer l (call_of (get_or s at 0) x)) → now ≡ put to (word_bytes ws) out
-      → put (to + answer_size) (answer_bytes (answers (lent l.tables l.terms a t) (calls_from (left - 1) s (at + 5)))) now
-      ≡ put to (answer_bytes (answers l (calls_from left s at))) out
-  answers_turn to ws out now h w e =
-      let c = call_of (get_or s at 0) x in
-      let cs = calls_from (left - 1) s (at + 5) in
-      ap₂ (λ (m : Lent) (o : List ℕ). put (to + answer_size) (answer_bytes (answers m cs)) o) (left_by_lem l c a t p q) (e ∙ ap (λ ws'. put to (word_bytes ws') out) w)
-      ∙ write_more l c cs to out h
-      ∙ ap (λ y. put to (answer_bytes (answers l (call_of (get_or s at 0) y ∷ cs))) out) named
-      ∙ ap (λ ds. put to (answer_bytes (answers l ds)) out) (sym (calls_more left at s some))
+  pub answers_turn : (ws out now : List ℕ) → answer_size * n ≤ length out → ws ≡ answer_words (answer l (call_of (get_or s (5 * k) 0) x)) → now ≡ put (answer_size * k) (word_bytes ws) out
+      → put (answer_size * (k + 1)) (answer_bytes (answers (lent l.tables l.terms a t) (calls_left n s (k + 1)))) now
+      ≡ put (answer_size * k) (answer_bytes (answers l (calls_left n s k))) out
+  answers_turn ws out now h w e =
+      let to = answer_size * k in
+      let next : answer_size * (k + 1) ≡ to + answer_size = omega arith in
+      let c = call_of (get_or s (5 * k) 0) x in
+      let cs = calls_left n s (k + 1) in
+      ap (λ o. put o (answer_bytes (answers (lent l.tables l.terms a t) cs)) now) next
+      ∙ ap₂ (λ (m : Lent) (o : List ℕ). put (to + answer_size) (answer_bytes (answers m cs)) o) (left_by_lem l c a t p q) (e ∙ ap (λ ws'. put to (word_bytes ws') out) w)
+      ∙ write_more l c cs to out (omega arith)
+      ∙ ap (λ y. put to (answer_bytes (answers l (call_of (get_or s (5 * k) 0) y ∷ cs))) out) named
+      ∙ ap (λ ds. put to (answer_bytes (answers l ds)) out) (sym (calls_more n s k some))
 
 -- Before the first call and after the last.
-pub answers_first : (l : Lent) (s out : List ℕ) → put 0 (answer_bytes (answers l (calls_from (length s / 5) s 0))) out ≡ front (answer_bytes (answers l (calls_of s))) out
-unfolding put calls_of
-answers_first l s out = refl
+calls_first : (s : List ℕ) → calls_left (length s / 5) s 0 ≡ calls_of s
+unfolding calls_of
+calls_first s = ap (λ n. calls_from n s 0) (sub-zero (length s / 5))
 
-pub answers_last : (l : Lent) (s : List ℕ) (left at to : ℕ) (out : List ℕ) → left ≡ 0 → put to (answer_bytes (answers l (calls_from left s at))) out ≡ out
-unfolding put calls_from answers answer_bytes
-answers_last l s left at to out z = rw (z, front_none) (take-append-drop to out)
+pub answers_first : (l : Lent) (s out : List ℕ) → put 0 (answer_bytes (answers l (calls_left (length s / 5) s 0))) out ≡ front (answer_bytes (answers l (calls_of s))) out
+unfolding put
+answers_first l s out = ap (λ cs. front (answer_bytes (answers l cs)) out) (calls_first s)
 
-pub after_last : (l : Lent) (s : List ℕ) (left at : ℕ) → left ≡ 0 → after l (calls_from left s at) ≡ l
-unfolding calls_from after
-after_last l s left at z = rw z
+pub after_first : (l : Lent) (s : List ℕ) → after l (calls_left (length s / 5) s 0) ≡ after l (calls_of s)
+after_first l s = ap (after l) (calls_first s)
+
+calls_end : (n : ℕ) (s : List ℕ) (k : ℕ) → n ≤ k → calls_left n s k ≡ []
+unfolding calls_from
+calls_end n s k h = let none : n - k ≡ 0 = omega arith in rw none
+
+pub answers_last : (l : Lent) (n : ℕ) (s : List ℕ) (k : ℕ) (out : List ℕ) → n ≤ k → put (answer_size * k) (answer_bytes (answers l (calls_left n s k))) out ≡ out
+unfolding put answers answer_bytes
+answers_last l n s k out h = rw (calls_end n s k h, front_none) (take-append-drop (answer_size * k) out)
+
+pub after_last : (l : Lent) (n : ℕ) (s : List ℕ) (k : ℕ) → n ≤ k → after l (calls_left n s k) ≡ l
+unfolding after
+after_last l n s k h = rw (calls_end n s k h)

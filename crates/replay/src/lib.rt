@@ -19,7 +19,7 @@ use words::{read_u32, write_u32};
 // How many bytes an answer has.
 const ANSWER: usize = 24;
 
-// What a call answers; what calls of its kind do not give is 0.
+// What a call answers; what calls of its kind do not give is 0. It stands for six words of the C interface, so it has each of them.
 #[derive(Clone, Copy)]
 struct Answered {
     refusal: u32,
@@ -28,7 +28,7 @@ struct Answered {
     makes: Marked,
 }
 
-// Makes one call: a flip where its kind is 0, else counts.
+// Makes one call: a flip where its kind is 0, else counts. The kind is a byte of the caller's list, as the C interface has it.
 fn make_call(
     tables: &[u8],
     terms: &[u8],
@@ -54,13 +54,11 @@ fn make_call(
         };
     }
     let c = counts(tables, terms, assignment, tallies, x);
-    let breaks = c.breaks;
-    let makes = c.makes;
     Answered {
         refusal: c.refusal,
         rules: 0,
-        breaks,
-        makes,
+        breaks: c.breaks,
+        makes: c.makes,
     }
 }
 
@@ -84,7 +82,7 @@ fn write_answer(out: &mut [u8], to: usize, answer: Answered)
     write_count(out, to + 16, answer.makes);
 }
 
-// Makes the calls of a list, each on what the one before it left.
+// Makes the calls of a list, each on what the one before it left. The buffers come one by one, as the C interface lends them.
 fn make_calls(
     tables: &[u8],
     terms: &[u8],
@@ -106,21 +104,16 @@ fn make_calls(
         ≡ (after (lent tables.now terms.now assignment.old tallies.old) (calls_of list.now)
         ).tallies }
 {
-    let mut left = list.len() / 5;
-    let mut at = 0;
-    let mut to = 0;
-    while 0 < left {
-        let kind = list[at];
-        let x = read_u32(list, at + 1);
+    let count = list.len() / 5;
+    for k in 0..count {
+        let kind = list[5 * k];
+        let x = read_u32(list, 5 * k + 1);
         let a = make_call(tables, terms, assignment, tallies, kind, x);
-        write_answer(out, to, a);
-        left -= 1;
-        at += 5;
-        to += ANSWER;
+        write_answer(out, ANSWER * k, a);
     }
 }
 
-// Opens, and then makes the calls of `list`, 5 bytes each; `out` has room for the bytes of an answer to each.
+// Opens, and then makes the calls of `list`, 5 bytes each; `out` has room for the bytes of an answer to each. The refusals are the C interface's numbers.
 pub fn replay(
     tables: &[u8],
     terms: &[u8],

@@ -1,14 +1,15 @@
 -- Laws of where a variable occurs among the terms of a rule, found from the last term to the first, and of how it stands there.
 -- Assumes nothing.
-use Prim.Native.Nat.{ℕ, zero, suc, ◌+◌, ◌*◌, ◌-◌, ◌≤◌, ◌<◌, zero-le}
+use Prim.Native.Nat.{ℕ, suc, ◌+◌, ◌*◌, ◌-◌, ◌≤◌, ◌<◌, zero-le}
 use native.Mathlib.Nat.{add-zero, sub-zero}
-use native.Mathlib.Numerals.{add-one}
 use native.Mathlib.Omega.{arith}
-use mathlib.Core.Path.{◌≡◌, refl, ap, ap₂, ◌∙◌}
+use mathlib.Core.Path.{◌≡◌, refl, sym, ap, ap₂, ◌∙◌}
+use Rattle.std.specs.Prelude.{Option, Some, None}
 use mathlib.Core.Bool.{Bool, true, false, cond}
 use mathlib.Core.List.{List, [], ◌∷◌}
 use lib.Dec.{T, eqb, ltb→lt}
-use borrow.Author.Tests.{ne_eqb}
+use borrow.Author.Tests.{eq-eqb, ne_eqb}
+use Rattle.std.specs.Option.{IfSome}
 use Rattle.plpb.specs.Lists.{◌or◌, all, any, row, sum_by}
 use Rattle.plpb.specs.Plan.{Term, Assignment, value, rising_above, rising, named_in}
 use Rattle.plpb.specs.Normal.{literal, literal_true, size, K, P}
@@ -17,11 +18,9 @@ use Rattle.plpb.proofs.Lists.{and_left, and_right}
 use Rattle.plpb.proofs.Normal.{P_at_most_K}
 use Rattle.format.specs.Limits.{terms_lawful}
 use Rattle.format.specs.Tables.{term_of}
-use Rattle.rules.specs.declared.place.Place.{Place}
-use Rattle.rules.specs.declared.place.Place.TheVariants.{Nowhere, At}
 use Rattle.rules.specs.declared.term.Literal.{Literal}
-use Rattle.rules.specs.Terms.{LiteralOf, terms_at, Readable}
-use Rattle.rules.specs.Places.{place_of, standing_of, Among, PlaceReadable, Found}
+use Rattle.rules.specs.Terms.{LiteralOf, terms_at, TermReadable, Readable}
+use Rattle.rules.specs.Places.{standing_of, Found}
 use Rattle.rules.proofs.Terms.{term_legal, term_readable, terms_next}
 use Rattle.rules.proofs.Summing.{literal_same}
 
@@ -36,51 +35,58 @@ module _ (x : ℕ) (t : Term) (ts : List Term) where
   unfolding standing standing_of
   stands_first a b e = rw e refl
 
-among_more : (i k m : ℕ) → Among (suc i) k (place_of m) → Among i (suc k) (place_of m)
-among_more i k zero h = tt
-among_more i k (suc j) h = (omega (arith, h.0), omega (arith, h.1))
+among_more : (i k : ℕ) (r : Option ℕ) → IfSome r (λ j. (suc i ≤ j) × (j < suc i + k)) → IfSome r (λ j. (i ≤ j) × (j < i + suc k))
+among_more i k None h = tt
+among_more i k (Some j) h = (omega (arith, h.0), omega (arith, h.1))
 
 module _ (g : ℕ → ℕ) (x : ℕ) where
-  found_nothing : (i : ℕ) → Found g i 0 x Nowhere
+  found_nothing : (i : ℕ) → Found g i 0 x None
   unfolding terms_at row named_in any standing
   found_nothing i = record { among = tt; named = refl; stands = λ a. refl }
 
-  found_more : (i k m : ℕ) (b : Bool) → eqb (g (2 * i)) x ≡ b → Found g (suc i) k x (place_of m) → Found g i (suc k) x (place_of (cond b (suc i) m))
+  found_more : (i k : ℕ) (r : Option ℕ) (b : Bool) → eqb (g (2 * i)) x ≡ b → Found g (suc i) k x r → Found g i (suc k) x (cond b (Some i) r)
   unfolding term_of ◌or◌
-  found_more i k m true e h =
+  found_more i k r true e h =
       record {
         among = (omega arith, omega arith);
         named = ap (named_in x) (terms_next g i k) ∙ named_first x (term_of g i) (terms_at g (suc i) k) true e;
         stands = λ a. ap (standing a x) (terms_next g i k) ∙ stands_first x (term_of g i) (terms_at g (suc i) k) a true e;
       }
-  found_more i k m false e h =
+  found_more i k r false e h =
       record {
-        among = among_more i k m h.among;
+        among = among_more i k r h.among;
         named = ap (named_in x) (terms_next g i k) ∙ named_first x (term_of g i) (terms_at g (suc i) k) false e ∙ h.named;
         stands = λ a. ap (standing a x) (terms_next g i k) ∙ stands_first x (term_of g i) (terms_at g (suc i) k) a false e ∙ h.stands a;
       }
 
-  pub found_start : (first count : ℕ) → Found g (first + count) (count - count) x Nowhere
+  pub found_start : (first count : ℕ) → Found g (first + count) (count - count) x None
   found_start first count =
       let none : count - count ≡ 0 = omega arith in
       rw none (found_nothing (first + count))
 
-  pub found_step : (first count left m w n : ℕ) → 0 < left → left ≤ count → Found g (first + left) (count - left) x (place_of m) → w ≡ g (2 * (first + (left - 1))) → n ≡ cond (eqb w x) (first + (left - 1) + 1) m → Found g (first + (left - 1)) (count - (left - 1)) x (place_of n)
-  found_step first count left m w n low high h e d =
-      let i = first + (left - 1) in
-      let more : count - (left - 1) ≡ suc (count - left) = omega arith in
-      let next : first + left ≡ suc i = omega arith in
-      rw (more, d, e, add-one i) (found_more i (count - left) m (eqb (g (2 * i)) x) refl (rw next at h))
+  module _ (first count left : ℕ) (r : Option ℕ) (low : 0 < left) (high : left ≤ count) (h : Found g (first + left) (count - left) x r) where
+    found_step : (b : Bool) → eqb (g (2 * (first + (left - 1)))) x ≡ b → Found g (first + (left - 1)) (count - (left - 1)) x (cond b (Some (first + (left - 1))) r)
+    found_step b e =
+        let i = first + (left - 1) in
+        let more : count - (left - 1) ≡ suc (count - left) = omega arith in
+        let next : first + left ≡ suc i = omega arith in
+        rw more (found_more i (count - left) r b e (rw next at h))
 
-  pub found_end : (first count left m : ℕ) (r : Place) → left ≤ 0 → r ≡ place_of m → Found g (first + left) (count - left) x (place_of m) → Found g first count x r
-  found_end first count left m r low e h =
+    pub found_here : (w : ℕ) → w ≡ g (2 * (first + (left - 1))) → w ≡ x → Found g (first + (left - 1)) (count - (left - 1)) x (Some (first + (left - 1)))
+    found_here w d e = found_step true (eq-eqb _ x (sym d ∙ e))
+
+    pub found_other : (w : ℕ) → w ≡ g (2 * (first + (left - 1))) → (w ≡ x → ⊥) → Found g (first + (left - 1)) (count - (left - 1)) x r
+    found_other w d n = found_step false (ne_eqb _ x (λ e. n (d ∙ e)))
+
+  pub found_end : (first count left : ℕ) (r : Option ℕ) → left ≤ 0 → Found g (first + left) (count - left) x r → Found g first count x r
+  found_end first count left r low h =
       let none : left ≡ 0 = omega arith in
-      rw e (rw (none, add-zero first, sub-zero count) at h)
+      rw (none, add-zero first, sub-zero count) at h
 
 -- The term found can be read where all can.
-pub found_readable : {terms assignment : List ℕ} {first count : ℕ} (r : Place) → Among first count r → Readable terms assignment first count → PlaceReadable terms assignment r
-found_readable Nowhere h l = tt
-found_readable {terms} {assignment} {first} {count} (At i) h l =
+pub found_readable : {terms assignment : List ℕ} {first count : ℕ} (r : Option ℕ) → IfSome r (λ i. (first ≤ i) × (i < first + count)) → Readable terms assignment first count → IfSome r (λ i. TermReadable terms assignment i)
+found_readable None h l = tt
+found_readable {terms} {assignment} {first} {count} (Some i) h l =
     let e : first + (i - first) ≡ i = omega (arith, h.0) in
     rw e at (term_readable terms assignment first count l (i - first) (omega (arith, h.0, h.1)))
 

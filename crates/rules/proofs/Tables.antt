@@ -7,7 +7,7 @@ use mathlib.Core.List.{List}
 use lib.Dec.{T}
 use lib.ListN.{length, take}
 use Rattle.plpb.specs.Plan.{Rule, Assignment, value, rising}
-use Rattle.plpb.specs.Normal.{rise, K, P, N}
+use Rattle.plpb.specs.Normal.{K, P, N}
 use Rattle.words.specs.Words.{word_at}
 use Rattle.format.specs.Limits.{max_variables, terms_lawful, rule_lawful}
 use Rattle.format.specs.Tables.{rule_of}

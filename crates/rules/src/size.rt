@@ -5,7 +5,6 @@ ghost use Rattle.format.specs.File.{bound_of as bound_in};
 ghost use Rattle.rules.specs.Rules.{reach as reachOf, lower_size, upper_size};
 
 use crate::term::is_negative;
-use counting::bound::Bound;
 use words::magnitude;
 
 // base + 1 + m or base + 1 − m, the latter no less than 0.
@@ -24,21 +23,21 @@ fn reach(base: u32, up: bool, m: u32) -> u64
 }
 
 // A = K − l + 1 with the raised l: the positive weights and 1 less l. Mode 2 has no lower bound.
-pub fn lower_size(mode: u32, lower: i32, positive: u32) -> Bound
+pub fn lower_size(mode: u32, lower: i32, positive: u32) -> Option<u64>
     ensures { bound_of result ≡ lower_size positive (bound_in 2 mode lower) }
 {
     if mode == 2 {
-        return Bound::Absent;
+        return None;
     }
-    Bound::Present(reach(positive, is_negative(lower), magnitude(lower)))
+    Some(reach(positive, is_negative(lower), magnitude(lower)))
 }
 
 // B = u + 1 with the raised u: what the bounds rise by and 1 and u. Mode 1 has no upper bound.
-pub fn upper_size(mode: u32, upper: i32, rise: u32) -> Bound
+pub fn upper_size(mode: u32, upper: i32, rise: u32) -> Option<u64>
     ensures { bound_of result ≡ upper_size rise (bound_in 1 mode upper) }
 {
     if mode == 1 {
-        return Bound::Absent;
+        return None;
     }
-    Bound::Present(reach(rise, !is_negative(upper), magnitude(upper)))
+    Some(reach(rise, !is_negative(upper), magnitude(upper)))
 }

@@ -11,10 +11,9 @@ ghost use Rattle.rules.specs.Rules.{rule_at, RuleInside, RuleReadable};
 ghost use Rattle.rules.specs.State.{Balanced, StateOf, Made, Seen, holds_in, shares_from, Turned};
 
 use crate::entry::{Entry, read_entry};
-use crate::place::{Place, Stands, find, stands_at};
+use crate::place::{Stands, find, stands_at};
 use crate::size::{lower_size, upper_size};
 use crate::sums::{Sums, scan};
-use counting::bound::Bound;
 use counting::shares::{Shares, literal_absent, literal_false, literal_true};
 
 // N, P, how the variable stands, and the sizes A and B.
@@ -23,18 +22,15 @@ pub struct State {
     pub n: u32,
     pub p: u32,
     pub stands: Stands,
-    pub a: Bound,
-    pub b: Bound,
+    pub a: Option<u64>,
+    pub b: Option<u64>,
 }
 
 // An absent bound has no size to reach.
-fn below(n: u32, size: Bound) -> bool
+fn below(n: u32, size: Option<u64>) -> bool
     ensures { result ≡ below_size n (bound_of size) }
 {
-    match size {
-        Bound::Absent => true,
-        Bound::Present(k) => (n as u64) < k,
-    }
+    size.is_none_or(|k| (n as u64) < k)
 }
 
 impl State {
@@ -56,24 +52,14 @@ impl State {
     pub fn seen(self, stands: Stands) -> State
         ensures { Seen stands self result }
     {
-        let a = self.a;
-        let b = self.b;
-        State {
-            n: self.n,
-            p: self.p,
-            stands,
-            a,
-            b,
-        }
+        State { stands, ..self }
     }
 
     // N below A says that the lower bound is met, P below B that the upper one is.
     pub fn holds(self) -> bool
         ensures { result ≡ holds_in self }
     {
-        let a = self.a;
-        let b = self.b;
-        below(self.n, a) && below(self.p, b)
+        below(self.n, self.a) && below(self.p, self.b)
     }
 
     // e, f and g by the paper's three cases: (10), (11) and (12).
@@ -83,13 +69,10 @@ impl State {
     {
         let n = self.n as u64;
         let p = self.p as u64;
-        let a = self.a;
-        let b = self.b;
-        let stands = self.stands;
-        match stands {
-            Stands::Out => literal_absent(n, p, a, b),
-            Stands::On(w) => literal_true(w as u64, n, p, a, b),
-            Stands::Off(w) => literal_false(w as u64, n, p, a, b),
+        match self.stands {
+            Stands::Out => literal_absent(n, p, self.a, self.b),
+            Stands::On(w) => literal_true(w as u64, n, p, self.a, self.b),
+            Stands::Off(w) => literal_false(w as u64, n, p, self.a, self.b),
         }
     }
 
@@ -98,24 +81,19 @@ impl State {
         requires { Balanced self }
         ensures { Turned self result }
     {
-        let a = self.a;
-        let b = self.b;
-        let stands = self.stands;
-        match stands {
+        match self.stands {
             Stands::Out => self,
             Stands::On(w) => State {
                 n: self.n + w,
                 p: self.p - w,
                 stands: Stands::Off(w),
-                a,
-                b,
+                ..self
             },
             Stands::Off(w) => State {
                 n: self.n - w,
                 p: self.p + w,
                 stands: Stands::On(w),
-                a,
-                b,
+                ..self
             },
         }
     }
@@ -127,11 +105,7 @@ pub fn names(tables: &[u8], terms: &[u8], at: usize, x: u32) -> bool
     ensures { result ≡ named_in x (rule_at (word_at tables.now) (word_at terms.now) at).terms }
 {
     let e = read_entry(tables, at);
-    let place = find(terms, e.first, e.count, x);
-    match place {
-        Place::Nowhere => false,
-        Place::At(_) => true,
-    }
+    find(terms, e.first, e.count, x).is_some()
 }
 
 // The state of that rule, seen from no variable.

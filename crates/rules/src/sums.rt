@@ -57,10 +57,8 @@ pub fn scan(terms: &[u8], assignment: &[u8], first: usize, count: usize) -> Sums
     ensures { Summed (bits_in assignment.now) (terms_at (word_at terms.now) first count) result }
 {
     let mut sums = Sums::NONE;
-    let mut left = count;
-    while 0 < left {
-        left -= 1;
-        sums = add_term(sums, terms, assignment, first + left);
+    for k in (0..count).rev() {
+        sums = add_term(sums, terms, assignment, first + k);
     }
     sums
 }

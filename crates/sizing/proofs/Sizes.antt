@@ -8,7 +8,6 @@ use mathlib.Core.List.{List}
 use lib.Dec.{T, leb→le}
 use lib.IntN.{ℤ, nat_abs}
 use lib.ListN.{length, get_or}
-use Rattle.plpb.specs.Lists.{◌and◌}
 use Rattle.plpb.specs.Plan.{Bound, absent, present, map_bound, Rule, rising}
 use Rattle.plpb.specs.Normal.{is_negative, rise, K, size_a, size_b}
 use Rattle.plpb.specs.Tallies.{rules_of}

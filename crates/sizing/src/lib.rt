@@ -14,19 +14,18 @@ ghost use Rattle.columns.specs.Frames.{Only};
 ghost use Rattle.sizing.specs.Sizing.{Small, SizesPut, RuleSized};
 
 use columns::{LOWER_SIZES, NEVER, TOTALS, UPPER_SIZES};
-use counting::bound::Bound;
 use format::RULES;
 use rules::state::read_state;
 use words::{index, write_word};
 
 // A or B in a word.
-fn size_word(size: Bound) -> u32
+fn size_word(size: Option<u64>) -> u32
     requires { Small (bound_of size) }
     ensures { result ≡ size_word (bound_of size) }
 {
     match size {
-        Bound::Absent => NEVER,
-        Bound::Present(k) => k as u32,
+        None => NEVER,
+        Some(k) => k as u32,
     }
 }
 
@@ -46,9 +45,7 @@ fn size_rule(tables: &[u8], terms: &[u8], assignment: &[u8], tallies: &mut [u8],
     ensures { RuleSized tables.now terms.now r tallies.old tallies.new }
 {
     let s = read_state(tables, terms, assignment, RULES + 5 * r);
-    let a = s.a;
-    let b = s.b;
-    put_sizes(tallies, r, s.n + s.p, size_word(a), size_word(b));
+    put_sizes(tallies, r, s.n + s.p, size_word(s.a), size_word(s.b));
 }
 
 // Those of all rules.
@@ -58,9 +55,7 @@ pub fn size_rules(tables: &[u8], terms: &[u8], tallies: &mut [u8])
         × Only (total_at 0) (need_at 0) tallies.old tallies.new }
 {
     let rules = index(tables, 2);
-    let mut r = 0;
-    while r < rules {
+    for r in 0..rules {
         size_rule(tables, terms, terms, tallies, r);
-        r += 1;
     }
 }

@@ -5,4 +5,4 @@ use Rattle.rules.proofs.States.{holds_rule}
 use Rattle.effects.proofs.holds_at.Goals as goal
 
 pub returns : goal.returns
-returns c = c.holds.ensures ∙ holds_rule c.state_at-s.ensures
+returns c = c.holds.ensures ∙ holds_rule c.state_at.ensures

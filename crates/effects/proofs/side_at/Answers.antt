@@ -7,7 +7,7 @@ use Rattle.effects.proofs.Places.{place_few, place_side}
 use Rattle.effects.proofs.side_at.Goals as goal
 
 pub returns : goal.returns
-returns c = place_side c.requires c.index-o.ensures c.widened-v.ensures
+returns c = place_side c.requires c.index-o.ensures c.from-v.ensures
 
 pub overflow_add-k : goal.overflow_add-k
 overflow_add-k c = omega (arith, place_few c.requires)
@@ -15,17 +15,8 @@ overflow_add-k c = omega (arith, place_few c.requires)
 pub index-o-requires : goal.index-o-requires
 index-o-requires c = omega (arith, place_few c.requires, going_tables c.requires.going)
 
-pub overflow_sub-x : goal.overflow_sub-x
-overflow_sub-x c = omega (arith, c.requires.going.low)
-
 pub bounds-assignment-x : goal.bounds-assignment-x
 bounds-assignment-x c = omega (arith, c.requires.going.low, going_byte c.requires.going)
 
-pub overflow_mul-result : goal.overflow_mul-result
-overflow_mul-result c = omega (arith, c.index-o.ensures)
-
 pub overflow_add-result : goal.overflow_add-result
-overflow_add-result c = omega (arith, c.widened-v.ensures, c.shared_slice_known-6-1.given (c.args.x - 1))
-
-pub overflow_add-result-2 : goal.overflow_add-result-2
-overflow_add-result-2 c = omega arith
+overflow_add-result c = omega (arith, c.from-v.ensures, c.shared_slice_known-6-1.given (c.args.x - 1))

@@ -6,10 +6,10 @@ use Rattle.columns.specs.Columns.{never}
 use Rattle.effects.specs.Kept.{size_in}
 use Rattle.effects.proofs.size_in.Goals as goal
 
-pub returns-then-w-eq4294967295 : goal.returns-then-w-eq4294967295
+pub returns-then-w-eq-NEVER : goal.returns-then-w-eq-NEVER
 unfolding size_in
-returns-then-w-eq4294967295 c = rw (eq-eqb c.args.w never c.if-w-eq4294967295.true) refl
+returns-then-w-eq-NEVER c = rw (eq-eqb c.args.w never c.if-w-eq-NEVER.true) refl
 
 pub returns : goal.returns
 unfolding size_in
-returns c = rw (ne_eqb c.args.w never c.if-w-eq4294967295.false) refl
+returns c = rw (ne_eqb c.args.w never c.if-w-eq-NEVER.false) refl

@@ -1,6 +1,5 @@
 -- `fresh` meets its contract: unused entries are 0, and then the clauses tell the rest.
 -- Assumes nothing.
-use borrow.Author.Tests.{not-true, not-false}
 use native.Mathlib.Omega.{arith}
 use Rattle.recount.proofs.Laid.{tables_long, clauses_few}
 use Rattle.recount.proofs.Cores.{first_length, first_ready}
@@ -28,18 +27,21 @@ pub returns-then-not-zeros-2 : goal.returns-then-not-zeros-2
 returns-then-not-zeros-2 c =
     clause_used _ _ _ _ c.requires.0 _ c.index-n.ensures _ c.index-clauses.ensures (c.zeros-2.ensures.not_so c.if-not-zeros-2.true)
 
-pub slice_bounds-clauses_fresh-end : goal.slice_bounds-clauses_fresh-end
-slice_bounds-clauses_fresh-end c =
+pub slice_bounds-lent-end : goal.slice_bounds-lent-end
+slice_bounds-lent-end c =
     first_length _ _ _ c.requires.0 _ c.index-n.ensures
 
+pub invariant_of-lent : goal.invariant_of-lent
+invariant_of-lent c = record { ready = first_ready _ _ _ c.requires.0 _ c.index-n.ensures }
+
+pub invariant_of-tallied : goal.invariant_of-tallied
+invariant_of-tallied c = record { room = c.requires.1; bytes = λ i. (c.type_inv.tallies i).fits }
+
 pub clauses_fresh-requires : goal.clauses_fresh-requires
-clauses_fresh-requires c = (
-  first_ready _ _ _ c.requires.0 _ c.index-n.ensures,
-  c.requires.1,
-  both_unused _ _ _ _ c.requires.0 _ c.index-n.ensures _ _ c.index-rules.ensures c.index-clauses.ensures
-      (c.zeros.ensures.so c.if-not-zeros.false)
-      (c.zeros-2.ensures.so c.if-not-zeros-2.false),
-)
+clauses_fresh-requires c =
+    both_unused _ _ _ _ c.requires.0 _ c.index-n.ensures _ _ c.index-rules.ensures c.index-clauses.ensures
+    (c.zeros.ensures.so c.if-not-zeros.false)
+    (c.zeros-2.ensures.so c.if-not-zeros-2.false)
 
 pub returns : goal.returns
 returns c =

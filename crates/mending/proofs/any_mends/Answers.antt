@@ -1,10 +1,9 @@
 -- The goals that the search leaves.
-use Prim.Native.Nat.{◌-◌}
 use native.Mathlib.Omega.{arith}
 use mathlib.Core.Path.{refl, sym, ◌∙◌}
 use Rattle.effects.specs.Kept.{lent_bits}
 use Rattle.mending.specs.Mends.{mends_part}
-use Rattle.groups.proofs.Stretch.{stretch_few, stretch_visited, any_here, any_behind, any_end}
+use Rattle.groups.proofs.Stretch.{stretch_visited, any_here, any_behind, any_end}
 use Rattle.mending.proofs.any_mends.Goals as goal
 
 pub returns-then-mends_at : goal.returns-then-mends_at
@@ -24,9 +23,3 @@ loop-i-init c = (omega arith, refl)
 
 pub mends_at-requires : goal.mends_at-requires
 mends_at-requires c = stretch_visited c.requires c.loop-i.invariant.0 c.loop-i-test.true
-
-pub overflow_add-i : goal.overflow_add-i
-overflow_add-i c = omega (arith, c.loop-i-test.true, stretch_few c.requires)
-
-pub loop-i-smaller : goal.loop-i-smaller
-loop-i-smaller c = omega (arith, c.loop-i-test.true)

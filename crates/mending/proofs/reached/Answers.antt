@@ -5,10 +5,10 @@ use Rattle.plpb.specs.Lists.{◌and◌}
 use Rattle.order.proofs.Groups.{reaches}
 use Rattle.mending.proofs.reached.Goals as goal
 
-pub returns-in-Absent : goal.returns-in-Absent
+pub returns-in-None : goal.returns-in-None
 unfolding reaches
-returns-in-Absent c = rw c.in-Absent.is refl
+returns-in-None c = rw c.in-None.is refl
 
-pub returns-in-Present : goal.returns-in-Present
+pub returns-in-Some : goal.returns-in-Some
 unfolding reaches ◌and◌
-returns-in-Present c = rw c.in-Present.is refl
+returns-in-Some c = rw c.in-Some.is refl

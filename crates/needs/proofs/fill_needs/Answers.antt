@@ -1,7 +1,6 @@
 -- The goals that the search leaves.
-use borrow.Author.Rules.{rules}
 use native.Mathlib.Omega.{arith}
-use Prim.Native.Nat.{ℕ, ◌-◌, ◌<◌}
+use Prim.Native.Nat.{ℕ, ◌<◌}
 use mathlib.Core.Path.{◌≡◌}
 use mathlib.Core.List.{List}
 use lib.ListN.{length}
@@ -51,12 +50,6 @@ returns c =
 
 pub index-rules-requires : goal.index-rules-requires
 index-rules-requires c = omega (arith, tables_long _ _ c.requires.0)
-
-pub overflow_add-r : goal.overflow_add-r
-overflow_add-r c = omega (arith, c.loop-r-test.true)
-
-pub loop-r-smaller : goal.loop-r-smaller
-loop-r-smaller c = omega (arith, c.loop-r-test.true)
 
 pub shape_of-tallies : goal.shape_of-tallies
 shape_of-tallies c = c.loop-r.invariant.1.only.size

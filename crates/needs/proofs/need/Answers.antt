@@ -1,18 +1,11 @@
 -- `need` meets its contract, by cases on the size.
 -- Assumes nothing.
-use native.Mathlib.Omega.{arith}
-use Prim.Native.Nat.{◌-◌}
-use mathlib.Core.Path.{◌≡◌, ◌∙◌}
+use mathlib.Core.Path.{◌∙◌}
 use Rattle.needs.proofs.Words.{need_none, need_never, need_some}
 use Rattle.needs.proofs.need.Goals as goal
 
-pub returns-then-size-m : goal.returns-then-size-m
-returns-then-size-m c =
-    let none : 0 ≡ c.args.size - c.args.m = omega (arith, c.if-size-m.true) in
-    none ∙ need_some _ _ c.if-size-eq0.false c.if-size-eq-NEVER.false
-
-pub returns-else-size-m : goal.returns-else-size-m
-returns-else-size-m c = need_some _ _ c.if-size-eq0.false c.if-size-eq-NEVER.false
+pub returns : goal.returns
+returns c = c.saturating_sub.ensures ∙ need_some _ _ c.if-size-eq0.false c.if-size-eq-NEVER.false
 
 pub returns-then-size-eq0 : goal.returns-then-size-eq0
 returns-then-size-eq0 c = need_none _ _ c.if-size-eq0.true

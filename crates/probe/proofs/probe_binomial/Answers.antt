@@ -14,4 +14,4 @@ returns-then-m-gt4294967295 c = rw (no_word _ c.if-m-gt4294967295.true) (words_u
 pub returns : goal.returns
 unfolding binomial_answer
 returns c =
-    rw (is_word_lem c.args.m (omega (arith, c.if-m-gt4294967295.false))) (c.marked.ensures ∙ given_by _ c.binomial.ensures)
+    rw (is_word_lem c.args.m (omega (arith, c.if-m-gt4294967295.false))) (c.from.ensures ∙ given_by _ c.binomial.ensures)

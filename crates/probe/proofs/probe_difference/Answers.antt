@@ -16,4 +16,4 @@ pub returns : goal.returns
 unfolding difference_answer
 returns c =
     let at = c.args in
-    rw (is_word_lem (at.m + at.w) (omega (arith, c.if-low-more-gt4294967295.false))) (c.marked.ensures ∙ given_by _ c.difference.ensures)
+    rw (is_word_lem (at.m + at.w) (omega (arith, c.if-low-more-gt4294967295.false))) (c.from.ensures ∙ given_by _ c.difference.ensures)

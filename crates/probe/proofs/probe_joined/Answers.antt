@@ -5,4 +5,4 @@ use Rattle.probe.proofs.Answering.{shared}
 use Rattle.probe.proofs.probe_joined.Goals as goal
 
 pub returns : goal.returns
-returns c = rw (← c.lifted.ensures, ← c.lifted-2.ensures) (c.flat.ensures ∙ shared _ c.joined.ensures)
+returns c = rw (← c.from.ensures, ← c.from-2.ensures) (c.from-3.ensures ∙ shared _ c.joined.ensures)

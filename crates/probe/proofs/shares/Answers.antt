@@ -8,7 +8,7 @@ use Rattle.probe.proofs.shares.Goals as goal
 
 pub returns-then-case-eq0 : goal.returns-then-case-eq0
 returns-then-case-eq0 c =
-    c.flat.ensures
+    c.from.ensures
     ∙ shared _ (case_absent _ _ _ _ (c.literal_absent.ensures.e, (c.literal_absent.ensures.f, c.literal_absent.ensures.g)))
     ∙ ap share_words (answer_out _ _ _ _ _ _ c.requires c.if-case-eq0.true)
 
@@ -17,7 +17,7 @@ returns-then-p-w c = none_words ∙ ap share_words (none_on _ _ _ _ _ _ c.requir
 
 pub returns-then-case-eq1 : goal.returns-then-case-eq1
 returns-then-case-eq1 c =
-    c.flat-then-case-eq1.ensures
+    c.from-then-case-eq1.ensures
     ∙ shared _ (case_true _ _ _ _ _ (c.literal_true.ensures.e, (c.literal_true.ensures.f, c.literal_true.ensures.g)))
     ∙ ap share_words (answer_on _ _ _ _ _ _ c.requires c.if-case-eq1.true c.if-p-w.false)
 
@@ -26,6 +26,6 @@ returns-then-n-w c = none_words ∙ ap share_words (none_off _ _ _ _ _ _ c.requi
 
 pub returns : goal.returns
 returns c =
-    c.flat-2.ensures
+    c.from-2.ensures
     ∙ shared _ (case_false _ _ _ _ _ (c.literal_false.ensures.e, (c.literal_false.ensures.f, c.literal_false.ensures.g)))
     ∙ ap share_words (answer_off _ _ _ _ _ _ c.requires c.if-case-eq0.false c.if-case-eq1.false c.if-n-w.false)

@@ -3,7 +3,6 @@ use Prim.Native.Nat.{◌+◌}
 use native.Mathlib.Omega.{arith}
 use mathlib.Core.List.{[], ◌∷◌}
 use mathlib.Core.Path.{ap, ap₂, ◌∙◌}
-use borrow.Author.Rules.{rules}
 use Rattle.words.specs.Words.{word_bytes}
 use Rattle.words.specs.Writes.{put}
 use Rattle.counting.specs.Count.{marked_words}

@@ -1,5 +1,5 @@
 -- The goals that the search leaves.
-use Prim.Native.Nat.{◌-◌, ◌<◌}
+use Prim.Native.Nat.{◌<◌}
 use native.Mathlib.Omega.{arith}
 use Rattle.format.specs.Layout.{rule_room}
 use Rattle.recount.proofs.Laid.{rules_few, tables_long}
@@ -26,12 +26,6 @@ returns c =
 
 pub index-rules-requires : goal.index-rules-requires
 index-rules-requires c = omega (arith, tables_long _ _ c.requires.0)
-
-pub overflow_add-r : goal.overflow_add-r
-overflow_add-r c = omega (arith, c.loop-r-test.true)
-
-pub loop-r-smaller : goal.loop-r-smaller
-loop-r-smaller c = omega (arith, c.loop-r-test.true)
 
 pub shape_of-tallies : goal.shape_of-tallies
 shape_of-tallies c = c.loop-r.invariant.1.only.size

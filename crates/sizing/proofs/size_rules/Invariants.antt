@@ -1,11 +1,8 @@
--- `size_rules` meets its contract. The invariant: the rules before r have their words. The measure is what is left.
+-- `size_rules` meets its contract. The invariant: the rules before r have their words.
 -- Assumes nothing.
-use Prim.Native.Nat.{◌-◌, ◌≤◌}
+use Prim.Native.Nat.{◌≤◌}
 use Rattle.sizing.proofs.Sizing.{Before}
 use Rattle.sizing.proofs.size_rules.Given as goal
 
 abbrev pub invariant-loop-r : goal.invariant-loop-r
 invariant-loop-r l = (l.r ≤ l.rules) × Before l.tables l.terms l.initial.tallies l.r l.tallies
-
-abbrev pub decreases-loop-r : goal.decreases-loop-r
-decreases-loop-r l = l.rules - l.r

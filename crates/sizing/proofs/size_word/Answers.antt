@@ -8,13 +8,13 @@ use Rattle.sizing.proofs.size_word.Goals as goal
 
 pub overflow_cast-result : goal.overflow_cast-result
 overflow_cast-result c =
-    let small : c.in-Present.k < never = rw c.in-Present.is at c.requires in
+    let small : c.in-Some.k < never = rw c.in-Some.is at c.requires in
     omega (arith, small)
 
-pub returns-in-Absent : goal.returns-in-Absent
+pub returns-in-None : goal.returns-in-None
 unfolding size_word
-returns-in-Absent c = rw c.in-Absent.is refl
+returns-in-None c = rw c.in-None.is refl
 
-pub returns-in-Present : goal.returns-in-Present
+pub returns-in-Some : goal.returns-in-Some
 unfolding size_word
-returns-in-Present c = rw c.in-Present.is refl
+returns-in-Some c = rw c.in-Some.is refl

@@ -1,20 +1,21 @@
 -- `calls::flip::flip` meets its contract: it is refused as its tests say, or all that the core needs has been tested. Assumes nothing.
 use mathlib.Core.Path.{sym, ◌∙◌}
+use Rattle.calls.proofs.Opening.{some_number}
 use Rattle.calls.proofs.Accepting.{flip_tested, flip_refused, flip_accepted}
 use Rattle.calls.proofs.flip.flip.Goals as goal
 
-pub returns-then-refusal-ne0 : goal.returns-then-refusal-ne0
-returns-then-refusal-ne0 c =
-    let e = c.flip_refusal-refusal.ensures in
-    let k = flip_refused _ _ _ e c.if-refusal-ne0.true in
-    record { refusal_value = e; rules_value = k.0; assignment_after = k.1; tallies_after = k.2 }
+pub returns-in-Err : goal.returns-in-Err
+returns-in-Err c =
+    let e = c.in-Err.ensures in
+    let k = flip_refused _ _ _ e (some_number c.in-Err.refusal) in
+    record { refusal_value = c.from.ensures ∙ e; rules_value = k.0; assignment_after = k.1; tallies_after = k.2 }
 
 pub flip_core-rules-requires : goal.flip_core-rules-requires
-flip_core-rules-requires c = flip_tested _ _ (sym c.flip_refusal-refusal.ensures ∙ c.if-refusal-ne0.false)
+flip_core-rules-requires c = flip_tested _ _ (sym c.in_default.ensures)
 
 pub returns : goal.returns
 returns c =
-    let z = sym c.flip_refusal-refusal.ensures ∙ c.if-refusal-ne0.false in
+    let z = sym c.in_default.ensures in
     let k = flip_accepted _ _ z in
     let f = c.flip_core-rules.ensures in
     record { refusal_value = sym z; rules_value = f.0 ∙ k.0; assignment_after = f.1 ∙ k.1; tallies_after = f.2 ∙ k.2 }

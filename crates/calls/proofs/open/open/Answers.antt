@@ -2,18 +2,17 @@
 use mathlib.Core.Path.{sym, ◌∙◌}
 use Rattle.tallies.proofs.Refusals.{opens, tallies_room}
 use Rattle.recount.proofs.Callers.{opens_ready}
+use Rattle.calls.proofs.Opening.{some_number}
 use Rattle.calls.proofs.Accepting.{open_refused, open_accepted}
 use Rattle.calls.proofs.open.open.Goals as goal
 
-pub returns-then-refusal-ne0 : goal.returns-then-refusal-ne0
-returns-then-refusal-ne0 c = record { value = c.open_refusal-refusal.ensures; tallies_after = open_refused _ _ c.open_refusal-refusal.ensures c.if-refusal-ne0.true }
-
 pub open_core-requires : goal.open_core-requires
 open_core-requires c =
-    let o = opens _ (sym c.open_refusal-refusal.ensures ∙ c.if-refusal-ne0.false) in
+    let o = opens _ (sym c.in_default.ensures) in
     (opens_ready _ o, tallies_room _ o)
 
-pub returns : goal.returns
-returns c =
-    let z = sym c.open_refusal-refusal.ensures ∙ c.if-refusal-ne0.false in
-    record { value = sym z; tallies_after = c.open_core.ensures ∙ open_accepted _ z }
+pub returns-in-Err-clause-tallies_after : goal.returns-in-Err-clause-tallies_after
+returns-in-Err-clause-tallies_after c = open_refused _ _ c.in-Err.ensures (some_number c.in-Err.refusal)
+
+pub returns-clause-tallies_after : goal.returns-clause-tallies_after
+returns-clause-tallies_after c = c.open_core.ensures ∙ open_accepted _ (sym c.in_default.ensures)

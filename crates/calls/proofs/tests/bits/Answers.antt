@@ -1,20 +1,16 @@
 -- The goals that the search leaves.
-use Prim.Native.Nat.{◌-◌}
 use mathlib.Core.Path.{sym, ◌∙◌}
-use native.Mathlib.Omega.{arith}
 use Rattle.calls.proofs.BitsLeft.{bits_start, bits_step, bits_fail, bits_end}
 use Rattle.calls.proofs.tests.bits.Goals as goal
 
-pub loop-i-init : goal.loop-i-init
-loop-i-init c = (omega arith, bits_start _ _ c.requires)
+pub loop-b-init : goal.loop-b-init
+loop-b-init c = bits_start _ _
 
-pub returns-then-assignment-i-gt1 : goal.returns-then-assignment-i-gt1
-returns-then-assignment-i-gt1 c =
-    sym (bits_fail _ _ c.requires c.loop-i.i (omega arith) (omega arith)) ∙ c.loop-i.invariant.1
+pub returns-then-b-gt1 : goal.returns-then-b-gt1
+returns-then-b-gt1 c = sym (bits_fail _ _ c.loop-b-test.true c.if-b-gt1.true) ∙ c.loop-b.invariant
 
-pub loop-i-preserved : goal.loop-i-preserved
-loop-i-preserved c =
-    (omega arith, sym (bits_step _ _ c.requires c.loop-i.i (omega arith) (omega arith)) ∙ c.loop-i.invariant.1)
+pub loop-b-preserved : goal.loop-b-preserved
+loop-b-preserved c = sym (bits_step _ _ c.loop-b-test.true c.if-b-gt1.false) ∙ c.loop-b.invariant
 
 pub returns : goal.returns
-returns c = sym (bits_end _ _ c.requires c.loop-i.i (omega arith)) ∙ c.loop-i.invariant.1
+returns c = sym (bits_end _ _ c.loop-b-test.false) ∙ c.loop-b.invariant

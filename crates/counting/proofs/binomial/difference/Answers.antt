@@ -20,7 +20,7 @@ pub returns-then-m-w-2 : goal.returns-then-m-w-2
 returns-then-m-w-2 c = all_taken _ _ _ (omega (arith, c.if-w-eq0.false)) c.if-m-w-2.true
 
 pub returns-then-k-eq1 : goal.returns-then-k-eq1
-returns-then-k-eq1 c = c.of.ensures ∙ one_taken _ _ _ c.if-k-eq1.true
+returns-then-k-eq1 c = c.from.ensures ∙ one_taken _ _ _ c.if-k-eq1.true
 
 pub returns-then-gain : goal.returns-then-gain
 returns-then-gain c =

@@ -8,7 +8,7 @@ use Rattle.counting.proofs.Difference.{smaller_row, alone, ordered}
 use Rattle.counting.proofs.binomial.exact_difference.Goals as goal
 
 pub returns-then-m-k : goal.returns-then-m-k
-returns-then-m-k c = c.of.ensures ∙ alone _ _ _ _ c.if-m-k.true c.absorbed-above.ensures
+returns-then-m-k c = c.from.ensures ∙ alone _ _ _ _ c.if-m-k.true c.absorbed-above.ensures
 
 pub absorbed-requires : goal.absorbed-requires
 absorbed-requires c =
@@ -21,5 +21,5 @@ overflow_sub-above c = ordered _ _ _ _ _ c.absorbed-above.ensures c.absorbed.ens
 
 pub returns : goal.returns
 returns c =
-    c.of-2.ensures
+    c.from-2.ensures
     ∙ ap₂ (λ a b. capped (a - b)) c.absorbed-above.ensures c.absorbed.ensures

@@ -36,12 +36,12 @@ first m k i entry h mid e s l =
     let step : entry * (m - i) / (i + 1) ≡ binom m (i + 1) = next m i entry e in
     first_past m k mid i h (omega arith) (omega arith)
 
-all_tried : (m k i entry : ℕ) → i ≤ k → k ≤ i → k + k ≤ m → entry ≡ binom m i → entry ≤ 4294967295 → i ≡ passes_at m 0 k
+all_tried : (m k i entry : ℕ) → i ≤ k → k ≤ i → k + k ≤ m → entry ≡ binom m i → entry ≤ 4294967295 → k ≡ passes_at m 0 k
 unfolding cap
 all_tried m k i entry h l mid e s =
     let same : i ≡ k = omega arith in
     let exact : entry ≡ binom m k = e ∙ ap (binom m) same in
-    same ∙ none_past m k mid (omega arith)
+    none_past m k mid (omega arith)
 
 whole : (m k i entry : ℕ) → i ≤ k → k ≤ i → entry ≡ binom m i → entry ≤ 4294967295 → entry ≡ capped (binom m k)
 unfolding cap
@@ -71,24 +71,3 @@ loop-i-preserved c = (omega arith, next _ _ _ c.loop-i.invariant.1, c.if-entry.f
 pub returns : goal.returns
 returns c =
     let i = c.loop-i.invariant in record { count_value = whole _ _ _ _ i.0 c.loop-i-test.false i.1 i.2; factors_value = all_tried _ _ _ _ i.0 c.loop-i-test.false (omega arith) i.1 i.2 }
-
-pub overflow_add-entry : goal.overflow_add-entry
-overflow_add-entry c = omega arith
-
-pub overflow_add-result : goal.overflow_add-result
-overflow_add-result c = omega arith
-
-pub overflow_cast-result : goal.overflow_cast-result
-overflow_cast-result c = omega arith
-
-pub overflow_add-i : goal.overflow_add-i
-overflow_add-i c = omega arith
-
-pub loop-i-smaller : goal.loop-i-smaller
-loop-i-smaller c = omega arith
-
-pub overflow_cast-result-2 : goal.overflow_cast-result-2
-overflow_cast-result-2 c = omega arith
-
-pub overflow_cast-result-3 : goal.overflow_cast-result-3
-overflow_cast-result-3 c = omega arith

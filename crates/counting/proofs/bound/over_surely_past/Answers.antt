@@ -1,13 +1,18 @@
 -- `over_surely_past` meets its contract, by cases on the bound.
 -- Assumes nothing.
-use mathlib.Core.Path.{sym}
+use borrow.Author.Rules.{rules}
+use Prim.Native.Nat.{◌+◌, ◌-◌, ◌<◌}
+use mathlib.Core.Bool.{true}
+use mathlib.Core.Path.{◌≡◌, sym, ◌∙◌}
+use Rattle.plpb.specs.Count.{cap}
 use Rattle.plpb.specs.Equations.{over}
 use Rattle.plpb.proofs.Lists.{false_T}
+use Rattle.counting.specs.Bound.{bound_of}
+use Rattle.counting.proofs.Bounds.{by_bound}
 use Rattle.counting.proofs.bound.over_surely_past.Goals as goal
 
-pub returns-in-Present : goal.returns-in-Present
+pub returns : goal.returns
 unfolding over
-returns-in-Present c = rw c.in-Present.is c.surely_past.ensures
-
-pub returns-in-Absent : goal.returns-in-Absent
-returns-in-Absent c = λ e. absurd (false_T (sym e) tt)
+returns c =
+    by_bound (λ b. c.is_some_and.result ≡ true → cap < over (c.args.m + c.args.w) (bound_of b) - over c.args.m (bound_of b)) _ c.is_some_and.ensures
+    (λ e t. absurd (false_T (sym t ∙ e) tt)) (λ k h. search rules)

@@ -5,4 +5,4 @@ use Rattle.plpb.proofs.Capped.{capped_zero, sum_of}
 use Rattle.counting.proofs.shares.literal_absent.Goals as goal
 
 pub returns : goal.returns
-returns c = record { e = sym capped_zero; f = sym capped_zero; g = c.plus-g.ensures ∙ sum_of _ _ c.over.ensures c.over-2.ensures }
+returns c = record { e = sym capped_zero; f = sym capped_zero; g = c.add-g.ensures ∙ sum_of _ _ c.over.ensures c.over-2.ensures }

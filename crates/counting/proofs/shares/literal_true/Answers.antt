@@ -6,4 +6,4 @@ use Rattle.counting.proofs.Joining.{from_smaller}
 use Rattle.counting.proofs.shares.literal_true.Goals as goal
 
 pub returns : goal.returns
-returns c = record { e = c.over_difference-e.ensures; f = from_smaller _ _ _ c.requires.1 c.over_difference-f.ensures; g = c.plus-g.ensures ∙ sum_of _ _ c.over.ensures c.over-2.ensures }
+returns c = record { e = c.over_difference-e.ensures; f = from_smaller _ _ _ c.requires.1 c.over_difference-f.ensures; g = c.add-g.ensures ∙ sum_of _ _ c.over.ensures c.over-2.ensures }

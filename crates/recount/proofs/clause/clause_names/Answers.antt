@@ -1,5 +1,4 @@
 -- The goals that the search leaves.
-use Prim.Native.Nat.{◌-◌}
 use native.Mathlib.Omega.{arith}
 use mathlib.Core.Path.{sym, ◌∙◌, ap}
 use Rattle.plpb.specs.Lists.{any}
@@ -37,9 +36,3 @@ loop-r-preserved c =
 
 pub returns : goal.returns
 returns c = sym (any_end _ _ c.loop-r.r _ c.loop-r-test.false) ∙ c.loop-r.invariant.1
-
-pub overflow_add-r : goal.overflow_add-r
-overflow_add-r c = omega arith
-
-pub loop-r-smaller : goal.loop-r-smaller
-loop-r-smaller c = omega arith

@@ -1,4 +1,4 @@
--- `clause_names` meets its contract. The invariant: one of the rules left names the variable exactly where one of the clause does. The measure is what is left.
+-- `clause_names` meets its contract. The invariant: one of the rules left names the variable exactly where one of the clause does.
 -- Assumes nothing.
 use Prim.Native.Nat.{◌-◌, ◌≤◌}
 use mathlib.Core.Path.{◌≡◌}
@@ -13,6 +13,3 @@ abbrev pub invariant-loop-r : goal.invariant-loop-r
 invariant-loop-r l =
     (l.r ≤ l.end)
     × (any (λ (q : Rule). named_in l.x q.terms) (map (rule_of (word_at l.tables) (word_at l.terms)) (row l.r (l.end - l.r))) ≡ names (clause_of (word_at l.tables) (word_at l.terms) l.c) l.x)
-
-abbrev pub decreases-loop-r : goal.decreases-loop-r
-decreases-loop-r l = l.end - l.r

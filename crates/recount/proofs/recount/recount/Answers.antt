@@ -1,57 +1,9 @@
--- The goals that the search leaves.
-use Prim.Native.Nat.{◌-◌}
-use native.Mathlib.Omega.{arith}
-use mathlib.Core.Path.{◌∙◌}
-use Rattle.recount.proofs.Laid.{tables_long, clauses_few}
-use Rattle.recount.proofs.Recounting.{clauses_start, clauses_step, clauses_end, still_countable}
+-- `recount` meets its contract: what it is lent is ready.
+-- Assumes nothing.
 use Rattle.recount.proofs.recount.recount.Goals as goal
 
-pub index-clauses-requires : goal.index-clauses-requires
-index-clauses-requires c =
-    omega (arith, tables_long _ _ c.requires.0.ready.laid)
+pub invariant_of-lent : goal.invariant_of-lent
+invariant_of-lent c = record { ready = c.requires.0.ready }
 
-pub loop-c-init : goal.loop-c-init
-loop-c-init c = clauses_start _ _ _ c.requires.0.ready.laid _
-
-pub recount_clause-requires : goal.recount_clause-requires
-recount_clause-requires c =
-    (still_countable _ _ _ _ _ c.requires.0 c.loop-c.invariant.kept, omega (arith, c.loop-c-test.true, c.index-clauses.ensures))
-
-pub overflow_add-c : goal.overflow_add-c
-overflow_add-c c =
-    omega (arith, c.loop-c.invariant.high, clauses_few _ _ c.requires.0.ready.laid)
-
-pub word-requires : goal.word-requires
-word-requires c =
-    omega
-    (arith, c.loop-c.invariant.high, clauses_few _ _ c.requires.0.ready.laid, c.requires.0.room, c.loop-c.invariant.kept.size, c.recount_clause.ensures.kept.size)
-
-pub overflow_add-unsatisfied : goal.overflow_add-unsatisfied
-overflow_add-unsatisfied c =
-    omega (arith, c.loop-c.invariant.few, c.loop-c.invariant.high, clauses_few _ _ c.requires.0.ready.laid, c.bit-unsatisfied.ensures.1)
-
-pub overflow_add-c-in-loop-c : goal.overflow_add-c-in-loop-c
-overflow_add-c-in-loop-c c =
-    omega (arith, c.loop-c.invariant.high, clauses_few _ _ c.requires.0.ready.laid)
-
-pub loop-c-smaller : goal.loop-c-smaller
-loop-c-smaller c = omega (arith, c.loop-c-test.true)
-
-pub loop-c-preserved : goal.loop-c-preserved
-loop-c-preserved c =
-    clauses_step _ _ _ c.requires.0.ready.laid _ _ _ _ c.loop-c.invariant _ _ _
-    (omega (arith, c.loop-c-test.true, c.index-clauses.ensures))
-    c.recount_clause.ensures c.word.ensures c.bit-unsatisfied.ensures.0
-
-pub put-requires : goal.put-requires
-put-requires c =
-    (omega arith, omega (arith, c.requires.0.room, c.loop-c.invariant.kept.size))
-
-pub shape_of-tallies : goal.shape_of-tallies
-shape_of-tallies c = c.put.ensures.size ∙ c.loop-c.invariant.kept.size
-
-pub returns : goal.returns
-returns c =
-    clauses_end _ _ _ c.requires.0.ready.laid _ _ _ _ c.loop-c.invariant _ (λ i. omega (arith, c.slice_known-2-1.given i)) c.requires.0.room c.requires.1
-    (omega (arith, c.loop-c-test.false, c.index-clauses.ensures))
-    c.put.ensures
+pub recount-requires : goal.recount-requires
+recount-requires c = (c.requires.0.room, c.requires.1)

@@ -4,10 +4,10 @@ use Rattle.rules.proofs.Finding.{stands_on, stands_off}
 use Rattle.rules.proofs.place.stands_at.Goals as goal
 
 pub read_literal-l-requires : goal.read_literal-l-requires
-read_literal-l-requires c = rw c.in-At.is at c.requires
+read_literal-l-requires c = rw c.in-Some.is at c.requires
 
 pub returns-then-l : goal.returns-then-l
-returns-then-l c = rw c.in-At.is (stands_on c.read_literal-l.ensures c.if-l.true)
+returns-then-l c = rw c.in-Some.is (stands_on c.read_literal-l.ensures c.if-l.true)
 
 pub returns-else-l : goal.returns-else-l
-returns-else-l c = rw c.in-At.is (stands_off c.read_literal-l.ensures c.if-l.false)
+returns-else-l c = rw c.in-Some.is (stands_off c.read_literal-l.ensures c.if-l.false)

@@ -1,13 +1,13 @@
 -- `below` meets its contract, by cases on the bound.
 -- Assumes nothing.
-use mathlib.Core.Path.{refl}
+use borrow.Author.Rules.{rules}
+use mathlib.Core.Path.{◌≡◌}
 use Rattle.plpb.specs.Normal.{below_size}
+use Rattle.counting.specs.Bound.{bound_of}
+use Rattle.counting.proofs.Bounds.{by_bound}
 use Rattle.rules.proofs.state.below.Goals as goal
 
-pub returns-in-Absent : goal.returns-in-Absent
+pub returns : goal.returns
 unfolding below_size
-returns-in-Absent c = rw c.in-Absent.is refl
-
-pub returns-in-Present : goal.returns-in-Present
-unfolding below_size
-returns-in-Present c = rw c.in-Present.is refl
+returns c =
+    by_bound (λ b. c.is_none_or.result ≡ below_size c.args.n (bound_of b)) _ c.is_none_or.ensures (λ t. search rules) (λ k h. search rules)

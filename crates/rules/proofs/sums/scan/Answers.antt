@@ -5,31 +5,20 @@ use Rattle.rules.proofs.Terms.{term_readable}
 use Rattle.rules.proofs.Summing.{summed_start, summed_step, summed_end, next_fits}
 use Rattle.rules.proofs.sums.scan.Goals as goal
 
-pub overflow_add-first : goal.overflow_add-first
-overflow_add-first c = record { fits = omega (arith, c.requires.inside) }
-
 pub add_term-sums-requires : goal.add_term-sums-requires
 add_term-sums-requires c =
-    let now = c.loop-left in (
-      term_readable _ _ _ _ c.requires (now.left - 1) (omega (arith, c.loop-left-test.true, now.invariant.0)),
-      next_fits _ _ _ _ c.requires _ now.left now.sums c.loop-left-test.true now.invariant.0 now.invariant.1,
+    let now = c.loop-k in (
+      term_readable _ _ _ _ c.requires (now.k - 1) (omega (arith, c.loop-k-test.true, now.auto.k)),
+      next_fits _ _ _ _ c.requires _ now.k now.sums c.loop-k-test.true now.auto.k now.invariant,
     )
 
-pub loop-left-preserved : goal.loop-left-preserved
-loop-left-preserved c =
-    let now = c.loop-left in (
-      omega (arith, now.invariant.0),
-      summed_step _ _ _ _ now.left now.sums _ c.loop-left-test.true now.invariant.0 now.invariant.1 c.add_term-sums.ensures,
-    )
+pub loop-k-preserved : goal.loop-k-preserved
+loop-k-preserved c =
+    let now = c.loop-k in
+    summed_step _ _ _ _ now.k now.sums _ c.loop-k-test.true now.auto.k now.invariant c.add_term-sums.ensures
 
 pub returns : goal.returns
-returns c = summed_end _ _ _ _ _ _ c.loop-left-test.false c.loop-left.invariant.1
+returns c = summed_end _ _ _ _ _ _ c.loop-k-test.false c.loop-k.invariant
 
-pub loop-left-init : goal.loop-left-init
-loop-left-init c = (omega arith, summed_start _ _ _ _)
-
-pub overflow_sub-left : goal.overflow_sub-left
-overflow_sub-left c = omega arith
-
-pub loop-left-smaller : goal.loop-left-smaller
-loop-left-smaller c = omega arith
+pub loop-k-init : goal.loop-k-init
+loop-k-init c = summed_start _ _ _ _

@@ -10,12 +10,12 @@ returns c =
     same_shares
     (joined_one _ _ _ _ _ _ _ _
     c.false_after.ensures
-    c.times.ensures
-    c.times-2.ensures
-    c.plus.ensures)
+    c.mul.ensures
+    c.mul-2.ensures
+    c.add.ensures)
     (joined_one _ _ _ _ _ _ _ _
     c.false_before.ensures
-    c.times-3.ensures
-    c.times-4.ensures
-    c.plus-2.ensures)
-    c.times-5.ensures
+    c.mul-3.ensures
+    c.mul-4.ensures
+    c.add-2.ensures)
+    c.mul-5.ensures

@@ -1,0 +1,45 @@
+-- `calls::tests::Lent::call_refusal` meets its contract: each test answers what the definition asks next. Assumes nothing.
+use native.Mathlib.Omega.{arith}
+use mathlib.Core.Path.{sym, ◌∙◌}
+use borrow.Author.Tests.{not-true, not-false}
+use Rattle.tallies.specs.Calls.{fresh_bytes, plan}
+use Rattle.tallies.proofs.Refusals.{opens, tallies_room}
+use Rattle.recount.proofs.Callers.{opens_ready}
+use Rattle.calls.proofs.Opening.{passed_on, some_number}
+use Rattle.calls.proofs.Accepting.{loaded_tables, call_first, call_25, call_zero, call_high, call_none}
+use Rattle.calls.proofs.tests.Lent.call_refusal.Goals as goal
+
+pub returns-in_err-open_refusal : goal.returns-in_err-open_refusal
+returns-in_err-open_refusal c =
+    let q = c.in_err-open_refusal.field-0.0 in
+    passed_on _ q c.from_residual.ensures.1 (call_first _ _ _ c.in_err-open_refusal.ensures (some_number q))
+
+pub fresh-requires : goal.fresh-requires
+fresh-requires c = let o = opens _ (sym c.in_ok-open_refusal.ensures) in (opens_ready _ o, tallies_room _ o)
+
+pub returns-then-not-fresh : goal.returns-then-not-fresh
+unfolding fresh_bytes plan
+returns-then-not-fresh c =
+    call_25 _ _ (sym c.in_ok-open_refusal.ensures) (sym c.fresh.ensures ∙ not-true _ c.if-not-fresh.true-raw)
+
+pub returns-then-x-eq0 : goal.returns-then-x-eq0
+unfolding fresh_bytes plan
+returns-then-x-eq0 c =
+    call_zero _ _ (sym c.in_ok-open_refusal.ensures) (sym c.fresh.ensures ∙ not-false _ c.if-not-fresh.false-raw)
+    c.if-x-eq0.true
+
+pub word-requires : goal.word-requires
+word-requires c =
+    omega (arith, loaded_tables _ (opens _ (sym c.in_ok-open_refusal.ensures)))
+
+pub returns-then-word-x : goal.returns-then-word-x
+unfolding fresh_bytes plan
+returns-then-word-x c =
+    call_high _ _ (sym c.in_ok-open_refusal.ensures) (sym c.fresh.ensures ∙ not-false _ c.if-not-fresh.false-raw)
+    c.if-x-eq0.false (omega (arith, c.word.ensures))
+
+pub returns : goal.returns
+unfolding fresh_bytes plan
+returns c =
+    call_none _ _ (sym c.in_ok-open_refusal.ensures) (sym c.fresh.ensures ∙ not-false _ c.if-not-fresh.false-raw)
+    c.if-x-eq0.false (omega (arith, c.word.ensures))

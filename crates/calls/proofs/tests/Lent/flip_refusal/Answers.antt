@@ -1,0 +1,30 @@
+-- `calls::tests::Lent::flip_refusal` meets its contract: the word of the variable among the locks answers what the definition asks next. Assumes nothing.
+use native.Mathlib.Omega.{arith}
+use mathlib.Core.Path.{sym}
+use Rattle.tallies.proofs.Refusals.{takes}
+use Rattle.calls.proofs.Opening.{passed_on, some_number}
+use Rattle.calls.proofs.Accepting.{loaded_tables, few_variables, flip_first, flip_locked, flip_free}
+use Rattle.calls.proofs.tests.Lent.flip_refusal.Goals as goal
+
+pub returns-in_err-call_refusal : goal.returns-in_err-call_refusal
+returns-in_err-call_refusal c =
+    let q = c.in_err-call_refusal.field-0.0 in
+    passed_on _ q c.from_residual.ensures.1 (flip_first _ _ _ c.in_err-call_refusal.ensures (some_number q))
+
+pub overflow_add-x : goal.overflow_add-x
+overflow_add-x c =
+    let z = sym c.in_ok-call_refusal.ensures in
+    omega (arith, few_variables _ _ z)
+
+pub word-requires : goal.word-requires
+word-requires c =
+    let z = sym c.in_ok-call_refusal.ensures in
+    omega (arith, loaded_tables _ (takes _ _ z).opening, few_variables _ _ z)
+
+pub returns-then-word-gt0 : goal.returns-then-word-gt0
+returns-then-word-gt0 c =
+    flip_locked _ _ (sym c.in_ok-call_refusal.ensures) (omega (arith, c.word.ensures))
+
+pub returns : goal.returns
+returns c =
+    flip_free _ _ (sym c.in_ok-call_refusal.ensures) (omega (arith, c.word.ensures))
