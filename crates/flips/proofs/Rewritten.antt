@@ -9,7 +9,7 @@ use lib.Dec.{T, eqb}
 use lib.IntN.{ℤ}
 use lib.ListN.{length, length-append}
 use borrow.Author.Tests.{eq-eqb, ne_eqb}
-use Rattle.plpb.specs.Lists.{◌and◌, ◌or◌, any, all, count, concat}
+use Rattle.plpb.specs.Lists.{◌and◌, ◌or◌, any, all, count}
 use Rattle.plpb.specs.Plan.{absent, present, Term, Rule, Clause, Plan, Assignment, flip, is_variable, named_in}
 use Rattle.plpb.specs.Normal.{literal, literal_true, size, P}
 use Rattle.plpb.specs.Equations.{on, off, standing, lost, gained}

@@ -20,14 +20,14 @@ ghost use Rattle.flips.specs.Passing.{Countable, ClausePassed, Passable, Passed,
 
 use format::{ENDS, HOLDING, ORDER, RULES, UNSATISFIED};
 use places::{clause_in, rule_in};
-use recount::recount::{bit, put};
+use recount::recount::put;
 use rules::state::{State, read_state};
 use words::{index, narrow, word};
 
 fn opposite(b: u8) -> u8
     ensures { result ≡ 1 - b }
 {
-    if b == 0 { 1 } else { 0 }
+    u8::from(b == 0)
 }
 
 // Turns a variable's byte over.
@@ -44,7 +44,7 @@ fn exchanged(gone: bool, come: bool, n: u32) -> u32
     requires { (cond gone 1 0 ≤ n) × (n < 4_294_967_295) }
     ensures { result ≡ exchangedOf gone come n }
 {
-    n + bit(come) - bit(gone)
+    n + u32::from(come) - u32::from(gone)
 }
 
 // Whether a rule in this state held when its true literals weighed p.
@@ -105,10 +105,8 @@ fn follow(tables: &[u8], terms: &[u8], bits: &[u8], tallies: &mut [u8], x: usize
 {
     let from = index(tables, ENDS + (x - 1));
     let to = index(tables, ENDS + x);
-    let mut k = from;
-    while k < to {
+    for k in from..to {
         pass(tables, terms, bits, tallies, word(tables, ORDER + k));
-        k += 1;
     }
     narrow(to - from)
 }

@@ -2,37 +2,32 @@
 -- Assumes nothing.
 use Prim.Native.Nat.{ℕ, zero, suc, ◌+◌, ◌-◌, ◌≤◌, ◌<◌}
 use native.Mathlib.Omega.{arith}
-use mathlib.Core.Path.{◌≡◌, refl, sym, ap, ap₂, ◌∙◌, subst}
+use mathlib.Core.Path.{◌≡◌, refl, sym, ap, ◌∙◌}
 use mathlib.Core.Bool.{Bool, true, false, not, cond}
 use mathlib.Core.List.{List, [], ◌∷◌}
-use lib.Dec.{T, ltb, leb, eqb}
-use lib.ListN.{length, get_or, drop}
-use borrow.Author.Tests.{eq-eqb, ne_eqb, lt-ltb, le-ltb, ltb-true, ltb-false, lt-leb}
-use Rattle.plpb.specs.Lists.{◌or◌, keep, any, sum_by}
-use Rattle.plpb.specs.Plan.{Rule, Clause, Plan, Assignment, named_in, names, numbers_rise}
-use Rattle.plpb.specs.Equations.{shares_of, clause_break, break_sum}
+use lib.Dec.{ltb, eqb}
+use lib.ListN.{length, get_or}
+use borrow.Author.Tests.{ltb-false}
+use Rattle.std.specs.Prelude.{Some, None}
+use Rattle.plpb.specs.Lists.{◌or◌, keep, any}
+use Rattle.plpb.specs.Plan.{Rule, Clause, Plan, Assignment, named_in}
+use Rattle.plpb.specs.Equations.{clause_break}
 use Rattle.plpb.specs.Count.{capped, capped_break}
-use Rattle.plpb.specs.Expansion.{break_count}
 use Rattle.plpb.proofs.Lists.{true_or, or_true}
-use Rattle.plpb.proofs.Capped.{capped_zero, capped_none, capped_one, same_sum}
-use Rattle.plpb.proofs.Equations.{break_formula}
+use Rattle.plpb.proofs.Capped.{capped_zero}
 use Rattle.words.specs.Words.{word_at}
 use Rattle.words.specs.Writes.{Wrote}
-use Rattle.order.specs.Order.{Place, order, run_end, rule_at, has_several, first_rule}
+use Rattle.order.specs.Order.{order, has_several, first_rule}
 use Rattle.order.specs.Breaks.{spoils_part}
 use Rattle.order.specs.Grouped.{naming}
-use Rattle.order.specs.Blocks.{rules_along, Group}
-use Rattle.order.proofs.Runs.{Named, named_inside, named_rule}
-use Rattle.order.proofs.Blocks.{Along, along_start, along_end, along_group, along_next}
-use Rattle.order.proofs.Groups.{single_break, no_break}
+use Rattle.order.specs.Blocks.{Group}
+use Rattle.order.proofs.Runs.{named_inside, named_rule}
+use Rattle.order.proofs.Groups.{single_break}
 use Rattle.order.proofs.Thresholds.{plan_breaks}
 use Rattle.format.specs.Tables.{plan_of_tables}
-use Rattle.format.specs.Layout.{end_at, entry_at}
-use Rattle.columns.specs.Columns.{no_place}
-use Rattle.effects.specs.Kept.{lent_bits, Going, place_at, place_rule, Visited}
-use Rattle.effects.proofs.Runs.{going_rises, going_within, going_bits, run_inside, run_first}
-use Rattle.effects.proofs.Places.{place_several, place_named}
-use Rattle.groups.specs.Stretch.{Stretch, group_end, Begins}
+use Rattle.effects.specs.Kept.{lent_bits, place_at, place_rule, Visited}
+use Rattle.effects.proofs.Runs.{going_rises, going_bits}
+use Rattle.effects.proofs.Places.{place_named}
 use Rattle.groups.proofs.Stretch.{along_length}
 
 -- ---- a clause of one rule
@@ -61,9 +56,6 @@ module _ {tables terms assignment tallies marks : List ℕ} {x k : ℕ} (v : Vis
 
   abbrev clause : Clause
   clause = get_or (plan_of_tables tables terms).clauses (place_at tables terms k).clause []
-
-  pub single_word : {o : ℕ} → o ≡ word_at tables (entry_at k) → o < 2_147_483_648 → has_several (get_or (plan_of_tables tables terms).clauses (place_at tables terms k).clause []) ≡ false
-  single_word e h = sym (place_several v) ∙ ap (leb 2_147_483_648) (sym e) ∙ lt-leb 2_147_483_648 _ h
 
   pub single_clause : has_several (get_or (plan_of_tables tables terms).clauses (place_at tables terms k).clause []) ≡ false → get_or (plan_of_tables tables terms).clauses (place_at tables terms k).clause [] ≡ place_rule tables terms k ∷ []
   unfolding has_several
@@ -97,31 +89,25 @@ single_group {p} {x} {c} {k} {j} g l h =
 
 -- ---- one of two
 
-pub pick_first : {b : Bool} (k e : ℕ) → b ≡ true → k ≡ cond b k e
+pub pick_first : {A : Type 0} {b : Bool} (k e : A) → b ≡ true → k ≡ cond b k e
 pick_first k e h = rw h refl
 
-pub pick_second : {b : Bool} (k : ℕ) {j e : ℕ} → b ≡ false → j ≡ e → j ≡ cond b k e
+pub pick_second : {A : Type 0} {b : Bool} (k : A) {j e : A} → b ≡ false → j ≡ e → j ≡ cond b k e
 pick_second k h f = rw h f
 
-pub picked_first : (b : Bool) (k e : ℕ) {r : ℕ} → r ≡ cond b k e → k < e → r ≡ k → b ≡ true
-picked_first true k e h l f = refl
-picked_first false k e h l f = absurd (omega (arith, h, f))
+-- Which of the two an option tells.
+pub going_on : (b : Bool) {e j : ℕ} → Some j ≡ cond b None (Some e) → (b ≡ false) × (j ≡ e)
+going_on true h = absurd (grind arith)
+going_on false h = (refl, grind arith)
 
-pub picked_second : (b : Bool) (k e : ℕ) {r : ℕ} → r ≡ cond b k e → (r ≡ k → ⊥) → (b ≡ false) × (r ≡ e)
-picked_second true k e h f = absurd (f h)
-picked_second false k e h f = (refl, h)
+pub stopping : (b : Bool) (e : ℕ) → None ≡ cond b None (Some e) → b ≡ true
+stopping true e h = refl
+stopping false e h = absurd (grind arith)
 
 pub unbroken : (n : ℕ) → ltb 0 n ≡ false → 0 ≡ capped n
 unbroken n h = let z : n ≡ 0 = omega (arith, ltb-false 0 n h) in rw (z, capped_zero) refl
 
 -- ---- the hint
-
-pub hint_visited : {tables terms assignment tallies marks : List ℕ} {x k first end : ℕ} → Going tables terms assignment tallies marks x → first ≡ word_at tables (end_at (x - 1)) → end ≡ run_end (plan_of_tables tables terms) x → first ≤ k → k < end → Visited tables terms assignment tallies marks x k
-hint_visited g e f h l = record { going = g; first = omega (arith, e, run_first g); last = omega (arith, f) }
-
--- Nothing written is a word written as it was.
-pub wrote_self : (i : ℕ) (s : List ℕ) → Wrote i (word_at s i) s s
-wrote_self i s = record { here = refl; others = λ j h. refl; size = refl; before = λ n h. refl; beyond = λ n h l. refl }
 
 pub wrote_there : {i v : ℕ} {s t : List ℕ} → Wrote i v s t → Wrote i (word_at t i) s t
 wrote_there w = record { here = refl; others = w.others; size = w.size; before = w.before; beyond = w.beyond }

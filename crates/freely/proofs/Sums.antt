@@ -1,38 +1,28 @@
 -- A sum over the clauses, made along a variable's run.
 -- Assumes nothing.
-use Prim.Native.Nat.{ℕ, zero, suc, ◌+◌, ◌-◌, ◌≤◌, ◌<◌}
+use Prim.Native.Nat.{ℕ, ◌+◌, ◌-◌, ◌≤◌, ◌<◌}
 use native.Mathlib.Omega.{arith}
-use mathlib.Core.Path.{◌≡◌, refl, sym, ap, ap₂, ◌∙◌, subst}
-use mathlib.Core.Bool.{Bool, true, false, not, cond}
-use mathlib.Core.List.{List, [], ◌∷◌}
-use lib.Dec.{T, ltb, leb, eqb}
-use lib.ListN.{length, get_or, drop}
-use borrow.Author.Tests.{eq-eqb, ne_eqb, lt-ltb, le-ltb, ltb-true, ltb-false, lt-leb}
-use Rattle.plpb.specs.Lists.{◌or◌, keep, any, sum_by}
-use Rattle.plpb.specs.Plan.{Rule, Clause, Plan, Assignment, named_in, names, numbers_rise}
-use Rattle.plpb.specs.Equations.{shares_of, clause_break, clause_make, break_sum, make_sum}
+use mathlib.Core.Path.{◌≡◌, refl, sym, ap, ◌∙◌}
+use mathlib.Core.Bool.{true, false}
+use mathlib.Core.List.{List, []}
+use lib.Dec.{T, ltb, eqb}
+use lib.ListN.{get_or, drop}
+use borrow.Author.Tests.{ne_eqb, ltb-true}
+use Rattle.plpb.specs.Lists.{sum_by}
+use Rattle.plpb.specs.Plan.{Clause, Plan, Assignment, names, numbers_rise}
+use Rattle.plpb.specs.Equations.{clause_break, clause_make, break_sum, make_sum}
 use Rattle.plpb.specs.Count.{capped, capped_break, capped_make}
-use Rattle.plpb.specs.Expansion.{break_count, make_count}
-use Rattle.plpb.proofs.Lists.{true_or, or_true}
-use Rattle.plpb.proofs.Capped.{capped_zero, capped_none, capped_one, same_sum}
+use Rattle.plpb.proofs.Capped.{capped_none}
 use Rattle.plpb.proofs.Equations.{break_formula, make_formula}
-use Rattle.words.specs.Words.{word_at}
-use Rattle.order.specs.Order.{Place, order, run_end, rule_at, has_several, first_rule}
-use Rattle.order.specs.Breaks.{spoils_part}
-use Rattle.order.specs.Grouped.{naming}
-use Rattle.order.specs.Blocks.{rules_along, Group}
-use Rattle.order.proofs.Runs.{Named, named_inside, named_rule}
+use Rattle.order.specs.Order.{run_end}
+use Rattle.order.specs.Blocks.{Group}
 use Rattle.order.proofs.Blocks.{Along, along_start, along_end, along_group, along_next}
 use Rattle.order.proofs.Groups.{no_break}
-use Rattle.order.proofs.Thresholds.{plan_breaks}
 use Rattle.format.specs.Tables.{plan_of_tables}
-use Rattle.format.specs.Layout.{end_at, entry_at}
 use Rattle.columns.specs.Columns.{no_place}
-use Rattle.effects.specs.Kept.{lent_bits, Going, place_at, place_rule, Visited}
-use Rattle.effects.proofs.Runs.{going_rises, going_within, going_bits, run_inside, run_first}
-use Rattle.effects.proofs.Places.{place_several, place_named}
-use Rattle.groups.specs.Stretch.{Stretch, group_end, Begins}
-use Rattle.groups.proofs.Stretch.{along_length}
+use Rattle.effects.specs.Kept.{lent_bits, Going, place_at}
+use Rattle.effects.proofs.Runs.{going_rises, going_within, going_bits}
+use Rattle.groups.specs.Stretch.{group_end}
 
 -- What stands at place k of the run, where a group begins: a sum so far, which with what the clauses behind count comes to the whole.
 pub record Summing (p : Plan) (x : ℕ) (count : Clause → ℕ) (whole k sum : ℕ) : Type 0 where
@@ -67,11 +57,8 @@ module _ {tables terms assignment tallies marks : List ℕ} {x : ℕ} (g : Going
 
     module _ (here : k < run_end (plan_of_tables tables terms) x) where
       -- A group begins there,
-      pub sum_begins : Begins tables terms assignment tallies marks x k
-      sum_begins = record {
-        visited = record { going = g; first = s.along.first; last = here };
-        group = along_group plan x s.rise (going_within g) g.low g.high zero s.along here no_place refl;
-      }
+      pub sum_begins : Group (plan_of_tables tables terms) x (place_at tables terms k).clause k (group_end (plan_of_tables tables terms) x k)
+      sum_begins = along_group plan x s.rise (going_within g) g.low g.high zero s.along here no_place refl
 
       -- and behind it the sum has what its clause counts.
       pub sum_next : {j share next : ℕ} → j ≡ group_end (plan_of_tables tables terms) x k → share ≡ capped (count (get_or (plan_of_tables tables terms).clauses (place_at tables terms k).clause [])) → next ≡ capped (sum + share) → Summing (plan_of_tables tables terms) x count whole j next

@@ -2,128 +2,69 @@
 // what stands there is tested as any other place.
 #![tactic(auto)]
 
-ghost use Rattle.std.specs.Prelude.{◌≡◌, true, false, cond, not, [], ◌≤◌, ◌<◌, ltb, eqb, get_or};
+ghost use Rattle.std.specs.Prelude.{◌≡◌, true, false, cond, not, None, Some, ◌<◌, ltb, eqb, is_some, IfSome};
 ghost use Rattle.plpb.specs.Equations.{clause_break};
 ghost use Rattle.plpb.specs.Count.{capped_break};
 ghost use Rattle.words.specs.Words.{word_at};
 ghost use Rattle.words.specs.Writes.{Wrote};
-ghost use Rattle.order.specs.Order.{run_end};
 ghost use Rattle.format.specs.Tables.{plan_of_tables};
 ghost use Rattle.columns.specs.Layout.{hint_at};
-ghost use Rattle.effects.specs.Kept.{lent_bits, place_at, Going, Visited};
-ghost use Rattle.groups.specs.Stretch.{group_end, Begins};
+ghost use Rattle.effects.specs.Kept.{lent_bits, Going};
+ghost use Rattle.groups.specs.Run.{plan, bits, clause, end_of_group, Begins};
 
 use columns::HINTS;
-use effects::spoils_at;
-use format::{ENDS, ORDER};
-use groups::{group_breaks, group_end};
-use places::clause_in;
-use words::{index, narrow, word, write_word};
+use groups::Run;
+use words::{index, narrow, write_word};
 
-const SEVERAL: u32 = 2147483648; // the words of places in clauses of more than one rule begin here
-
-// One group: where it ends, or where it begins if its clause breaks. A clause of one rule has one place, and one compare tells of it.
-fn passed(
-    tables: &[u8],
-    terms: &[u8],
-    assignment: &[u8],
-    tallies: &[u8],
-    marks: &[u8],
-    x: usize,
-    k: usize,
-    end: usize,
-) -> usize
-    requires { Begins tables.now terms.now assignment.now tallies.now marks.now x k
-        × (end ≡ run_end (plan_of_tables tables.now terms.now) x) }
+// Where the group that begins at place k ends, unless its clause breaks. A clause of one rule has one place, and one compare tells of it.
+fn passed(run: &Run<'_>, k: usize) -> Option<usize>
+    requires { Begins run.now k }
     ensures { result
-        ≡ cond
-        (ltb 0
-        (clause_break (lent_bits tables.now terms.now assignment.now) x
-        (get_or (plan_of_tables tables.now terms.now).clauses (place_at tables.now terms.now k).clause []))) k
-        (group_end (plan_of_tables tables.now terms.now) x k) }
+        ≡ cond (ltb 0 (clause_break (bits run.now) run.now.x (clause run.now k))) None (Some (end_of_group run.now k)) }
 {
-    let o = word(tables, ORDER + k);
-    if o < SEVERAL {
-        if spoils_at(tables, terms, assignment, tallies, marks, x, k) {
-            return k;
+    if !run.has_several(k) {
+        if run.spoils_at(k) {
+            return None;
         }
-        return k + 1;
+        return Some(k + 1);
     }
-    let j = group_end(tables, terms, assignment, tallies, marks, x, k, end);
-    if group_breaks(
-        tables,
-        terms,
-        assignment,
-        tallies,
-        marks,
-        x,
-        clause_in(o),
-        k,
-        j,
-    ) {
-        return k;
+    let j = run.group_end(k);
+    if run.group_breaks(run.clause_at(k), k, j) {
+        return None;
     }
-    j
+    Some(j)
 }
 
-// The first place of the run whose group breaks its clause, or the run's end.
-fn next_break(
-    tables: &[u8],
-    terms: &[u8],
-    assignment: &[u8],
-    tallies: &[u8],
-    marks: &[u8],
-    x: usize,
-    end: usize,
-) -> usize
-    requires { Going tables.now terms.now assignment.now tallies.now marks.now x
-        × (end ≡ run_end (plan_of_tables tables.now terms.now) x) }
-    ensures { (result ≤ end)
-        × (ltb result end
-        ≡ not
-        (eqb
-        (capped_break (plan_of_tables tables.now terms.now)
-        (lent_bits tables.now terms.now assignment.now) x) 0)) }
+// The first place of the run whose group breaks its clause.
+fn next_break(run: &Run<'_>) -> Option<usize>
+    ensures inside { IfSome result (λ k. k < run.now.end) }
+    ensures found { is_some result ≡ not (eqb (capped_break (plan run.now) (bits run.now) run.now.x) 0) }
 {
-    let mut k = index(tables, ENDS + (x - 1));
-    while k < end {
-        let j = passed(tables, terms, assignment, tallies, marks, x, k, end);
-        if j == k {
-            return k;
-        }
+    let mut k = run.first;
+    while k < run.end {
+        let Some(j) = passed(run, k) else {
+            return Some(k);
+        };
         k = j;
     }
-    k
+    None
 }
 
 // Whether the place that the hint names is one of the run, of a clause of one rule, which the flip breaks.
-fn hint_breaks(
-    tables: &[u8],
-    terms: &[u8],
-    assignment: &[u8],
-    tallies: &[u8],
-    marks: &[u8],
-    x: usize,
-    end: usize,
-) -> bool
-    requires { Going tables.now terms.now assignment.now tallies.now marks.now x
-        × (end ≡ run_end (plan_of_tables tables.now terms.now) x) }
-    ensures { result ≡ true
-        → eqb
-        (capped_break (plan_of_tables tables.now terms.now)
-        (lent_bits tables.now terms.now assignment.now) x) 0 ≡ false }
+fn hint_breaks(run: &Run<'_>) -> bool
+    ensures { result ≡ true → eqb (capped_break (plan run.now) (bits run.now) run.now.x) 0 ≡ false }
 {
-    let k = index(marks, HINTS + x);
-    if k < index(tables, ENDS + (x - 1)) {
+    let k = index(run.marks, HINTS + run.x);
+    if k < run.first {
         return false;
     }
-    if end <= k {
+    if run.end <= k {
         return false;
     }
-    if SEVERAL <= word(tables, ORDER + k) {
+    if run.has_several(k) {
         return false;
     }
-    spoils_at(tables, terms, assignment, tallies, marks, x, k)
+    run.spoils_at(k)
 }
 
 // Whether the flip of x breaks nothing. Of the marks only the variable's hint may change.
@@ -142,14 +83,13 @@ pub fn is_free(
         (lent_bits tables.now terms.now assignment.now) x) 0)
         × Wrote (hint_at x) (word_at marks.new (hint_at x)) marks.old marks.new }
 {
-    let end = index(tables, ENDS + x);
-    if hint_breaks(tables, terms, assignment, tallies, marks, x, end) {
+    let run = Run::of(tables, terms, assignment, tallies, marks, x);
+    if hint_breaks(&run) {
         return false;
     }
-    let k = next_break(tables, terms, assignment, tallies, marks, x, end);
-    if end <= k {
+    let Some(k) = next_break(&run) else {
         return true;
-    }
+    };
     write_word(marks, HINTS + x, narrow(k));
     false
 }

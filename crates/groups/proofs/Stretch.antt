@@ -1,23 +1,22 @@
 -- A stretch of a run place by place, and what a group says of its clause.
 -- Assumes nothing.
 use Prim.Native.Nat.{ℕ, zero, suc, ◌+◌, ◌-◌, ◌≤◌, ◌<◌}
-use native.Mathlib.Nat.{add-zero, zero-add, add-suc}
-use native.Mathlib.Numerals.{add-one}
 use native.Mathlib.Omega.{arith}
-use mathlib.Core.Path.{◌≡◌, refl, sym, ap, ap₂, ◌∙◌, subst}
-use mathlib.Core.Bool.{Bool, true, false, not, cond}
+use mathlib.Core.Path.{◌≡◌, refl, sym, ap, ap₂, ◌∙◌}
+use mathlib.Core.Bool.{Bool, true, false, cond}
 use mathlib.Core.List.{List, [], ◌∷◌, map}
 use lib.Dec.{T, ltb, eqb}
 use lib.ListN.{length, get_or, length-map}
-use borrow.Author.Tests.{eq-eqb, ne_eqb, lt-ltb}
-use Rattle.plpb.specs.Lists.{◌and◌, ◌or◌, any, all, count}
+use borrow.Author.Tests.{eq-eqb, ne_eqb}
+use Rattle.std.specs.Prelude.{◌&&◌, ◌||◌}
+use Rattle.std.specs.List.{filter, list_any, list_all, range_with_len}
+use Rattle.plpb.specs.Lists.{◌and◌, ◌or◌, keep, any, all, count}
 use Rattle.plpb.specs.Plan.{Rule, Clause, Plan, Assignment, rule_holds, rising, numbers_rise}
 use Rattle.plpb.specs.Equations.{clause_break}
-use Rattle.plpb.proofs.Lists.{count_nil, count_cons, count_le, all_at, true_and, and_true, and_false, false_and, true_or, false_or}
+use Rattle.plpb.proofs.Lists.{count_le, all_at, true_and, and_true, and_false, false_and, true_or, false_or}
 use Rattle.words.specs.Words.{word_at}
 use Rattle.order.specs.Order.{Place, order, run_end, cut, rule_at, word_place}
 use Rattle.order.specs.Breaks.{spoils_part, false_after}
-use Rattle.order.specs.Grouped.{naming}
 use Rattle.order.specs.Blocks.{rules_along, same_clause, Group}
 use Rattle.order.proofs.Tested.{cut_length}
 use Rattle.order.proofs.Blocks.{cut_cons, cut_past}
@@ -29,7 +28,7 @@ use Rattle.tallies.proofs.TallyBytes.{roomy_fits}
 use Rattle.recount.proofs.Laid.{parts}
 use Rattle.columns.specs.Columns.{no_place}
 use Rattle.effects.specs.Kept.{lent_bits, Going, place_at, place_rule, Visited}
-use Rattle.effects.proofs.Runs.{going_rises, going_bits, going_tables, run_inside, run_few}
+use Rattle.effects.proofs.Runs.{going_rises, going_bits, run_inside, run_few}
 use Rattle.effects.proofs.Places.{place_here}
 use Rattle.groups.specs.Stretch.{Stretch}
 
@@ -48,6 +47,43 @@ module _ (p : Plan) where
   unfolding rules_along
   along_length i j h l = length-map (cut i j (order p)) (λ q. rule_at p q.rule) ∙ cut_length i j (order p) h l
 
+  -- The rules of a stretch, each said by its place's number.
+  pub along_row : (n i j : ℕ) → j - i ≡ n → j ≤ length (order p) → map (λ k. rule_at p (get_or (order p) k no_place).rule) (range_with_len i n) ≡ rules_along p i j
+  along_row zero i j e l = sym (along_none i j (omega arith))
+  along_row (suc n) i j e l = ap (λ xs. rule_at p (get_or (order p) i no_place).rule ∷ xs) (along_row n (i + 1) j (omega arith) l) ∙ sym (along_cons i j (omega arith) l)
+
+-- ---- the library's tests of a list, and those of the plan's definitions
+
+module _ {A B : Type 0} (f : B → Bool) (h : A → B) where
+  or_same : (b c : Bool) → (b || c) ≡ (b or c)
+  unfolding ◌or◌
+  or_same true c = refl
+  or_same false c = refl
+
+  and_same : (b c : Bool) → (b && c) ≡ (b and c)
+  unfolding ◌and◌
+  and_same true c = refl
+  and_same false c = refl
+
+  pub any_of : (xs : List A) → list_any (λ x. f (h x)) xs ≡ any f (map h xs)
+  unfolding any
+  any_of [] = refl
+  any_of (x ∷ xs) = or_same _ _ ∙ ap (λ b. f (h x) or b) (any_of xs)
+
+  pub all_of : (xs : List A) → list_all (λ x. f (h x)) xs ≡ all f (map h xs)
+  unfolding all
+  all_of [] = refl
+  all_of (x ∷ xs) = and_same _ _ ∙ ap (λ b. f (h x) and b) (all_of xs)
+
+  kept_more : (b : Bool) (x : A) (xs : List A) (ys : List B) → length xs ≡ length ys → length (cond b (x ∷ xs) xs) ≡ length (cond b (h x ∷ ys) ys)
+  kept_more true x xs ys e = ap suc e
+  kept_more false x xs ys e = e
+
+  pub count_of : (xs : List A) → length (filter (λ x. f (h x)) xs) ≡ count f (map h xs)
+  unfolding count keep
+  count_of [] = refl
+  count_of (x ∷ xs) = kept_more (f (h x)) x _ _ (count_of xs)
+
 module _ {tables terms assignment tallies marks : List ℕ} {x k j : ℕ} (s : Stretch tables terms assignment tallies marks x k j) where
   abbrev p : Plan
   p = plan_of_tables tables terms
@@ -64,11 +100,11 @@ module _ {tables terms assignment tallies marks : List ℕ} {x k j : ℕ} (s : S
   pub stretch_visited : {i : ℕ} → k ≤ i → i < j → Visited tables terms assignment tallies marks x i
   stretch_visited h l = record { going = s.going; first = omega (arith, s.first); last = omega (arith, s.last) }
 
+  -- One of the rules meets a test: this one, or one behind.
   module _ {i : ℕ} (h : i < j) where
     next : rules_along p i j ≡ place_rule tables terms i ∷ rules_along p (i + 1) j
     next = along_cons p i j h stretch_inside
 
-    -- One of the rules meets a test: this one, or one behind.
     pub any_here : (f : Rule → Bool) {b : Bool} → b ≡ f (place_rule tables terms i) → b ≡ true → any f (rules_along (plan_of_tables tables terms) i j) ≡ true
     unfolding any
     any_here f e t = ap (any f) next ∙ ap (λ u. u or any f (rules_along p (i + 1) j)) (sym e ∙ t) ∙ true_or _
@@ -77,30 +113,22 @@ module _ {tables terms assignment tallies marks : List ℕ} {x k j : ℕ} (s : S
     unfolding any
     any_behind f e t = sym (ap (any f) next ∙ ap (λ u. u or any f (rules_along p (i + 1) j)) (sym e ∙ t) ∙ false_or _)
 
-    pub all_not : (f : Rule → Bool) {b : Bool} → b ≡ f (place_rule tables terms i) → b ≡ false → all f (rules_along (plan_of_tables tables terms) i j) ≡ false
-    unfolding all
-    all_not f e t = ap (all f) next ∙ ap (λ u. u and all f (rules_along p (i + 1) j)) (sym e ∙ t) ∙ false_and _
+  pub any_end : {i : ℕ} → j ≤ i → (f : Rule → Bool) → any f (rules_along (plan_of_tables tables terms) i j) ≡ false
+  unfolding any
+  any_end h f = ap (any f) (along_none p _ j h)
 
-    pub all_behind : (f : Rule → Bool) {b : Bool} → b ≡ f (place_rule tables terms i) → b ≡ true → all f (rules_along (plan_of_tables tables terms) (i + 1) j) ≡ all f (rules_along (plan_of_tables tables terms) i j)
-    unfolding all
-    all_behind f e t = sym (ap (all f) next ∙ ap (λ u. u and all f (rules_along p (i + 1) j)) (sym e ∙ t) ∙ true_and _)
+  -- What a test says of the places' numbers it says of their rules.
+  abbrev rule : ℕ → Rule
+  rule i = place_rule tables terms i
 
-    pub count_behind : (f : Rule → Bool) (n : ℕ) {b : Bool} {m : ℕ} → b ≡ f (place_rule tables terms i) → m ≡ cond b 1 0 + n → m + count f (rules_along (plan_of_tables tables terms) (i + 1) j) ≡ n + count f (rules_along (plan_of_tables tables terms) i j)
-    count_behind f n {b} {m} e t =
-        let c : count f (rules_along p i j) ≡ cond b 1 0 + count f (rules_along p (i + 1) j) = ap (count f) next ∙ count_cons f _ _ ∙ ap (λ u. cond u 1 0 + count f (rules_along p (i + 1) j)) (sym e) in
-        omega (arith, c, t)
+  pub any_along : (f : Rule → Bool) → list_any (λ i. f (place_rule tables terms i)) (range_with_len k (j - k)) ≡ any f (rules_along (plan_of_tables tables terms) k j)
+  any_along f = any_of f rule _ ∙ ap (any f) (along_row p (j - k) k j refl stretch_inside)
 
-  module _ {i : ℕ} (h : j ≤ i) where
-    pub any_end : (f : Rule → Bool) → any f (rules_along (plan_of_tables tables terms) i j) ≡ false
-    unfolding any
-    any_end f = ap (any f) (along_none p i j h)
+  pub all_along : (f : Rule → Bool) → list_all (λ i. f (place_rule tables terms i)) (range_with_len k (j - k)) ≡ all f (rules_along (plan_of_tables tables terms) k j)
+  all_along f = all_of f rule _ ∙ ap (all f) (along_row p (j - k) k j refl stretch_inside)
 
-    pub all_end : (f : Rule → Bool) → all f (rules_along (plan_of_tables tables terms) i j) ≡ true
-    unfolding all
-    all_end f = ap (all f) (along_none p i j h)
-
-    pub count_end : (f : Rule → Bool) → count f (rules_along (plan_of_tables tables terms) i j) ≡ 0
-    count_end f = ap (count f) (along_none p i j h) ∙ count_nil f
+  pub count_along : (f : Rule → Bool) → length (filter (λ i. f (place_rule tables terms i)) (range_with_len k (j - k))) ≡ count f (rules_along (plan_of_tables tables terms) k j)
+  count_along f = count_of f rule _ ∙ ap (count f) (along_row p (j - k) k j refl stretch_inside)
 
   -- ---- a group
 

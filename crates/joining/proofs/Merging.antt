@@ -1,20 +1,20 @@
 -- A clause's rules beside the places of its group: a rule that names the variable has the next place.
 -- Assumes nothing.
-use Prim.Native.Nat.{ℕ, zero, suc, ◌+◌, ◌-◌, ◌≤◌, ◌<◌}
-use native.Mathlib.Nat.{le_refl, zero-add}
+use Prim.Native.Nat.{ℕ, suc, ◌+◌, ◌-◌, ◌≤◌, ◌<◌}
+use native.Mathlib.Nat.{le_refl}
 use native.Mathlib.Numerals.{add-one}
 use native.Mathlib.Decide.{dec_lt}
 use native.Mathlib.Omega.{arith}
-use mathlib.Core.Path.{◌≡◌, refl, sym, ap, ap₂, ◌∙◌, subst}
+use mathlib.Core.Path.{◌≡◌, refl, sym, ap, ap₂, ◌∙◌}
 use mathlib.Core.Bool.{Bool, true, false, cond}
 use mathlib.Core.Logic.{◌⊎◌, inl, inr, ⊎_elim}
 use mathlib.Core.List.{List, [], ◌∷◌, ◌++◌, append-nil}
-use lib.Dec.{T, eqb}
+use lib.Dec.{eqb}
 use lib.ListN.{length, get_or, drop, drop_of_length-le}
 use lib.Seq.{drop-cons}
 use borrow.Author.Tests.{eq-eqb, ne_eqb}
-use Rattle.plpb.specs.Lists.{◌or◌, any, all, concat}
-use Rattle.plpb.specs.Plan.{Term, Rule, Clause, Plan, Assignment, rising, named_in}
+use Rattle.plpb.specs.Lists.{◌or◌, any, concat}
+use Rattle.plpb.specs.Plan.{Term, Rule, Clause, Plan, Assignment, named_in}
 use Rattle.plpb.specs.Normal.{literal, literal_true, size}
 use Rattle.plpb.specs.Equations.{out, on, off, standing, shares_of}
 use Rattle.plpb.specs.Equations.{Shares as SharesOf}
@@ -23,7 +23,7 @@ use Rattle.plpb.proofs.Lists.{false_T}
 use Rattle.counting.specs.Shares.{capped_shares, start_shares, joined_shares, joined_along}
 use Rattle.counting.proofs.Joining.{capped_stays, capped_start, joined_step}
 use Rattle.words.specs.Words.{word_at}
-use Rattle.order.specs.Order.{Place, in_terms, in_rules, order, run_end, cut, no_rule, rule_at, first_rule, word_place}
+use Rattle.order.specs.Order.{Place, in_terms, in_rules, order, cut, no_rule, rule_at, first_rule, word_place}
 use Rattle.order.proofs.Occurrences.{place_in}
 use Rattle.order.proofs.Runs.{first_next, first_within, rule_in_clause}
 use Rattle.order.proofs.Grouped.{rule_first}
@@ -39,8 +39,9 @@ use Rattle.columns.specs.Columns.{no_place}
 use Rattle.effects.specs.Kept.{lent_bits, place_at, Visited}
 use Rattle.effects.proofs.Kept.{rule_rising}
 use Rattle.effects.proofs.Places.{place_here}
-use Rattle.groups.specs.Stretch.{Stretch}
-use Rattle.groups.proofs.Stretch.{stretch_inside, stretch_visited}
+use Rattle.groups.specs.declared.run.Run.{Run}
+use Rattle.groups.proofs.Stretch.{stretch_inside}
+use Rattle.groups.proofs.Runs.{stretch, visited}
 use Rattle.joining.specs.Merging.{Ahead, Merging, Placed}
 
 -- ---- the first place of some rules
@@ -74,20 +75,20 @@ standing_out a x (t ∷ ts) e = at (eqb t.variable x) e (standing_out a x ts)
 
 -- ---- one rule
 
-module _ {tables terms assignment tallies marks : List ℕ} {x c r i j : ℕ} (m : Merging tables terms assignment tallies marks x c r i j) where
+module _ {run : Run} {c r i j : ℕ} (m : Merging run c r i j) where
   abbrev p : Plan
-  p = plan_of_tables tables terms
+  p = plan_of_tables run.tables.now run.terms.now
 
   abbrev clause : Clause
-  clause = get_or (plan_of_tables tables terms).clauses c []
+  clause = get_or (plan_of_tables run.tables.now run.terms.now).clauses c []
 
   abbrev f : ℕ
-  f = first_rule (plan_of_tables tables terms).clauses c
+  f = first_rule (plan_of_tables run.tables.now run.terms.now).clauses c
 
   inside : r - f < length clause
   inside = omega (arith, m.last, m.ahead.first, first_next p.clauses c m.ahead.there)
 
-  pub merging_below : r < length (rules_of (plan_of_tables tables terms))
+  pub merging_below : r < length (rules_of (plan_of_tables run.tables.now run.terms.now))
   unfolding rules_of
   merging_below = omega (arith, m.last, first_within p.clauses (suc c))
 
@@ -100,35 +101,35 @@ module _ {tables terms assignment tallies marks : List ℕ} {x c r i j : ℕ} (m
   rest : List Rule
   rest = drop (suc (r - f)) clause
 
-  pub rules_next : drop (r - first_rule (plan_of_tables tables terms).clauses c) (get_or (plan_of_tables tables terms).clauses c []) ≡ rule_at (plan_of_tables tables terms) r ∷ drop (r + 1 - first_rule (plan_of_tables tables terms).clauses c) (get_or (plan_of_tables tables terms).clauses c [])
+  pub rules_next : drop (r - first_rule (plan_of_tables run.tables.now run.terms.now).clauses c) (get_or (plan_of_tables run.tables.now run.terms.now).clauses c []) ≡ rule_at (plan_of_tables run.tables.now run.terms.now) r ∷ drop (r + 1 - first_rule (plan_of_tables run.tables.now run.terms.now).clauses c) (get_or (plan_of_tables run.tables.now run.terms.now).clauses c [])
   rules_next =
       let next : suc (r - f) ≡ r + 1 - f = omega (arith, m.ahead.first) in
       drop-cons clause (r - f) no_rule inside ∙ ap₂ (λ q n. q ∷ drop n clause) rule_is next
 
   abbrev R : List Place
-  R = in_rules x c (suc r) (drop (r + 1 - f) clause)
+  R = in_rules run.x c (suc r) (drop (r + 1 - f) clause)
 
-  same_rest : R ≡ in_rules x c (r + 1) (drop (r + 1 - f) clause)
-  same_rest = ap (λ n. in_rules x c n (drop (r + 1 - f) clause)) (sym (add-one r))
+  same_rest : R ≡ in_rules run.x c (r + 1) (drop (r + 1 - f) clause)
+  same_rest = ap (λ n. in_rules run.x c n (drop (r + 1 - f) clause)) (sym (add-one r))
 
   u : Place
-  u = record { clause = c; rule = r; term = place_in x (rule_at p r).terms }
+  u = record { clause = c; rule = r; term = place_in run.x (rule_at p r).terms }
 
-  split : cut i j (order p) ≡ cond (named_in x (rule_at p r).terms) (u ∷ R) R
+  split : cut i j (order p) ≡ cond (named_in run.x (rule_at p r).terms) (u ∷ R) R
   unfolding u
   split =
-      m.ahead.places ∙ ap (in_rules x c r) rules_next ∙ sym (append-nil _)
-      ∙ rule_first x c r (rule_at p r) (drop (r + 1 - f) clause) [] (rule_rising m.stretch.going.kept merging_below)
-      ∙ ap (λ us. cond (named_in x (rule_at p r).terms) (u ∷ us) us) (append-nil R)
+      m.ahead.places ∙ ap (in_rules run.x c r) rules_next ∙ sym (append-nil _)
+      ∙ rule_first run.x c r (rule_at p r) (drop (r + 1 - f) clause) [] (rule_rising run.going.kept merging_below)
+      ∙ ap (λ us. cond (named_in run.x (rule_at p r).terms) (u ∷ us) us) (append-nil R)
 
   first_of : i < j → cut i j (order p) ≡ get_or (order p) i no_place ∷ cut (i + 1) j (order p)
-  first_of h = cut_cons i j (order p) no_place h (stretch_inside m.stretch)
+  first_of h = cut_cons i j (order p) no_place h (stretch_inside (stretch run m.low m.high))
 
-  pub merging_visited : i < j → Visited tables terms assignment tallies marks x i
-  merging_visited h = stretch_visited m.stretch (le_refl i) h
+  pub merging_visited : i < j → Visited run.tables.now run.terms.now run.assignment.now run.tallies.now run.marks.now run.x i
+  merging_visited h = visited run m.low (omega (arith, m.high))
 
   -- A rule that names x has the next place, and one that does not has not.
-  module _ (e : named_in x (rule_at (plan_of_tables tables terms) r).terms ≡ true) where
+  module _ (e : named_in run.x (rule_at (plan_of_tables run.tables.now run.terms.now) r).terms ≡ true) where
     both : cut i j (order p) ≡ u ∷ R
     both = split ∙ ap (λ b. cond b (u ∷ R) R) e
 
@@ -143,7 +144,7 @@ module _ {tables terms assignment tallies marks : List ℕ} {x c r i j : ℕ} (m
             let z : ◌≡◌ {A = ℕ} 0 1 = cc in
             absurd (omega arith)
 
-    pub named_here : (place_at tables terms i).rule ≡ r
+    pub named_here : (place_at run.tables.now run.terms.now i).rule ≡ r
     unfolding u
     named_here =
         let b : get_or (order p) i no_place ∷ cut (i + 1) j (order p) ≡ u ∷ R = sym (first_of named_low) ∙ both in
@@ -155,30 +156,30 @@ module _ {tables terms assignment tallies marks : List ℕ} {x c r i j : ℕ} (m
         let b : get_or (order p) i no_place ∷ cut (i + 1) j (order p) ≡ u ∷ R = sym (first_of named_low) ∙ both in
         cc
 
-  module _ (e : named_in x (rule_at (plan_of_tables tables terms) r).terms ≡ false) where
-    pub unnamed_here : i < j → (place_at tables terms i).rule ≡ r → ⊥
-    unnamed_here h s = omega (arith, s, head_rule x c (suc r) (drop (r + 1 - f) clause) (get_or (order p) i no_place) (cut (i + 1) j (order p)) (sym (split ∙ ap (λ b. cond b (u ∷ R) R) e) ∙ first_of h))
+  module _ (e : named_in run.x (rule_at (plan_of_tables run.tables.now run.terms.now) r).terms ≡ false) where
+    pub unnamed_here : i < j → (place_at run.tables.now run.terms.now i).rule ≡ r → ⊥
+    unnamed_here h s = omega (arith, s, head_rule run.x c (suc r) (drop (r + 1 - f) clause) (get_or (order p) i no_place) (cut (i + 1) j (order p)) (sym (split ∙ ap (λ b. cond b (u ∷ R) R) e) ∙ first_of h))
 
   -- Whether the rule names x, by the place.
-  pub at_named : {w : ℕ} → i < j → w ≡ word_at tables (entry_at i) → eqb (word_place w).rule r ≡ named_in x (rule_at (plan_of_tables tables terms) r).terms
-  at_named {w} h k = ap (λ n. eqb n r) (ap (λ v. (word_place v).rule) k ∙ ap (λ q. q.rule) (place_here (merging_visited h))) ∙ at (named_in x (rule_at p r).terms) refl
+  pub at_named : {w : ℕ} → i < j → w ≡ word_at run.tables.now (entry_at i) → eqb (word_place w).rule r ≡ named_in run.x (rule_at (plan_of_tables run.tables.now run.terms.now) r).terms
+  at_named {w} h k = ap (λ n. eqb n r) (ap (λ v. (word_place v).rule) k ∙ ap (λ q. q.rule) (place_here (merging_visited h))) ∙ at (named_in run.x (rule_at p r).terms) refl
     where
-      at : (b : Bool) → named_in x (rule_at p r).terms ≡ b → eqb (place_at tables terms i).rule r ≡ b
+      at : (b : Bool) → named_in run.x (rule_at p r).terms ≡ b → eqb (place_at run.tables.now run.terms.now i).rule r ≡ b
       at true e = eq-eqb _ r (named_here e)
       at false e = ne_eqb _ r (unnamed_here e h)
 
-  pub past_unnamed : j ≤ i → false ≡ named_in x (rule_at (plan_of_tables tables terms) r).terms
-  past_unnamed h = at (named_in x (rule_at p r).terms) refl
+  pub past_unnamed : j ≤ i → false ≡ named_in run.x (rule_at (plan_of_tables run.tables.now run.terms.now) r).terms
+  past_unnamed h = at (named_in run.x (rule_at p r).terms) refl
     where
-      at : (b : Bool) → named_in x (rule_at p r).terms ≡ b → false ≡ b
+      at : (b : Bool) → named_in run.x (rule_at p r).terms ≡ b → false ≡ b
       at true e = absurd (omega (arith, named_low e))
       at false e = refl
 
   -- The next rule, and the places behind.
-  pub ahead_next : {k : ℕ} → k ≡ cond (named_in x (rule_at (plan_of_tables tables terms) r).terms) (i + 1) i → Ahead (plan_of_tables tables terms) x c (r + 1) k j × (i ≤ k)
-  ahead_next {k} h = at (named_in x (rule_at p r).terms) refl h
+  pub ahead_next : {k : ℕ} → k ≡ cond (named_in run.x (rule_at (plan_of_tables run.tables.now run.terms.now) r).terms) (i + 1) i → Ahead (plan_of_tables run.tables.now run.terms.now) run.x c (r + 1) k j × (i ≤ k)
+  ahead_next {k} h = at (named_in run.x (rule_at p r).terms) refl h
     where
-      at : (b : Bool) → named_in x (rule_at p r).terms ≡ b → k ≡ cond b (i + 1) i → Ahead p x c (r + 1) k j × (i ≤ k)
+      at : (b : Bool) → named_in run.x (rule_at p r).terms ≡ b → k ≡ cond b (i + 1) i → Ahead p run.x c (r + 1) k j × (i ≤ k)
       at true e l =
           (record { there = m.ahead.there; first = omega (arith, m.ahead.first); low = omega (arith, l, named_low e); places = rw l (named_rest e ∙ same_rest) }, omega (arith, l))
       at false e l =
@@ -194,35 +195,35 @@ pub record Joined (p : Plan) (a : Assignment) (x c k j r i : ℕ) (s : SharesOf)
   pub stays : capped_shares s ≡ s
   pub along : capped_shares (joined_along (shares_of a x) s (drop (r - first_rule p.clauses c) (get_or p.clauses c []))) ≡ capped_shares (joined_along (shares_of a x) start_shares (get_or p.clauses c []))
 
-module _ {tables terms assignment tallies marks : List ℕ} {x c k j : ℕ} (d : Placed tables terms assignment tallies marks x c k j) where
+module _ {run : Run} {c k j : ℕ} (d : Placed run c k j) where
   abbrev plan : Plan
-  plan = plan_of_tables tables terms
+  plan = plan_of_tables run.tables.now run.terms.now
 
   abbrev bits : Assignment
-  bits = lent_bits tables terms assignment
+  bits = lent_bits run.tables.now run.terms.now run.assignment.now
 
   there : c < length plan.clauses
   there = d.group.clause_there
 
-  laid : Laid tables terms
-  laid = d.stretch.going.kept.ready.laid
+  laid : Laid run.tables.now run.terms.now
+  laid = run.going.kept.ready.laid
 
-  in_words : c < word_at tables 1
-  in_words = omega (arith, there, clauses_word tables terms laid)
+  in_words : c < word_at run.tables.now 1
+  in_words = omega (arith, there, clauses_word run.tables.now run.terms.now laid)
 
-  pub placed_readable : RunReadable tables c
-  placed_readable = run_readable tables terms laid c in_words
+  pub placed_readable : RunReadable run.tables.now c
+  placed_readable = run_readable run.tables.now run.terms.now laid c in_words
 
-  pub placed_end : {end : ℕ} → end ≡ word_at tables (clause_first_at c) + word_at tables (clause_count_at c) → end ≡ first_rule (plan_of_tables tables terms).clauses (suc c)
-  placed_end e = e ∙ sym (next_rule_lem tables terms laid c in_words)
+  pub placed_end : {end : ℕ} → end ≡ word_at run.tables.now (clause_first_at c) + word_at run.tables.now (clause_count_at c) → end ≡ first_rule (plan_of_tables run.tables.now run.terms.now).clauses (suc c)
+  placed_end e = e ∙ sym (next_rule_lem run.tables.now run.terms.now laid c in_words)
 
-  pub end_few : first_rule (plan_of_tables tables terms).clauses (suc c) ≤ 1_025
+  pub end_few : first_rule (plan_of_tables run.tables.now run.terms.now).clauses (suc c) ≤ 1_025
   unfolding rules_of
-  end_few = omega (arith, first_within plan.clauses (suc c), (parts tables terms laid).rule_count)
+  end_few = omega (arith, first_within plan.clauses (suc c), (parts run.tables.now run.terms.now laid).rule_count)
 
-  pub joined_start : {first : ℕ} {s : SharesOf} → first ≡ word_at tables (clause_first_at c) → s ≡ start_shares → Joined (plan_of_tables tables terms) (lent_bits tables terms assignment) x c k j first k s
+  pub joined_start : {first : ℕ} {s : SharesOf} → first ≡ word_at run.tables.now (clause_first_at c) → s ≡ start_shares → Joined (plan_of_tables run.tables.now run.terms.now) (lent_bits run.tables.now run.terms.now run.assignment.now) run.x c k j first k s
   joined_start {first} {s} e h =
-      let same : first ≡ first_rule plan.clauses c = e ∙ first_rule_lem tables terms laid c in_words in
+      let same : first ≡ first_rule plan.clauses c = e ∙ first_rule_lem run.tables.now run.terms.now laid c in_words in
       let none : first - first_rule plan.clauses c ≡ 0 = omega (arith, same) in
       record {
         ahead = record { there = there; first = omega (arith, same); low = omega (arith, d.group.some); places = rw (none, same) d.places };
@@ -232,15 +233,16 @@ module _ {tables terms assignment tallies marks : List ℕ} {x c k j : ℕ} (d :
         along = rw (none, h) refl;
       }
 
-  module _ {r i : ℕ} {s : SharesOf} (o : Joined (plan_of_tables tables terms) (lent_bits tables terms assignment) x c k j r i s) where
-    pub joined_merging : r < first_rule (plan_of_tables tables terms).clauses (suc c) → Merging tables terms assignment tallies marks x c r i j
+  module _ {r i : ℕ} {s : SharesOf} (o : Joined (plan_of_tables run.tables.now run.terms.now) (lent_bits run.tables.now run.terms.now run.assignment.now) run.x c k j r i s) where
+    pub joined_merging : r < first_rule (plan_of_tables run.tables.now run.terms.now).clauses (suc c) → Merging run c r i j
     joined_merging h = record {
-      stretch = record { going = d.stretch.going; first = omega (arith, d.stretch.first, o.low); last = d.stretch.last };
+      low = omega (arith, d.group.first, o.low, run.begins);
+      high = omega (arith, d.group.last, run.ends);
       ahead = o.ahead;
       last = h;
     }
 
-    pub joined_next : (h : r < first_rule (plan_of_tables tables terms).clauses (suc c)) {z : State} {rule t : SharesOf} {n : ℕ} → StateOf (lent_bits tables terms assignment) x (rule_at (plan_of_tables tables terms) r) z → rule ≡ capped_shares (shares_from z) → t ≡ capped_shares (joined_shares s rule) → n ≡ cond (named_in x (rule_at (plan_of_tables tables terms) r).terms) (i + 1) i → Joined (plan_of_tables tables terms) (lent_bits tables terms assignment) x c k j (r + 1) n t
+    pub joined_next : (h : r < first_rule (plan_of_tables run.tables.now run.terms.now).clauses (suc c)) {z : State} {rule t : SharesOf} {n : ℕ} → StateOf (lent_bits run.tables.now run.terms.now run.assignment.now) run.x (rule_at (plan_of_tables run.tables.now run.terms.now) r) z → rule ≡ capped_shares (shares_from z) → t ≡ capped_shares (joined_shares s rule) → n ≡ cond (named_in run.x (rule_at (plan_of_tables run.tables.now run.terms.now) r).terms) (i + 1) i → Joined (plan_of_tables run.tables.now run.terms.now) (lent_bits run.tables.now run.terms.now run.assignment.now) run.x c k j (r + 1) n t
     joined_next h {z} {rule} {t} {n} q e f g =
         let next = ahead_next (joined_merging h) g in
         record {
@@ -249,12 +251,12 @@ module _ {tables terms assignment tallies marks : List ℕ} {x c k j : ℕ} (d :
           low = omega (arith, o.low, next.1);
           stays = capped_stays t (joined_shares s rule) f;
           along =
-              joined_step (shares_of bits x) s t rule (rule_at plan r) (drop (r + 1 - first_rule plan.clauses c) (get_or plan.clauses c [])) (e ∙ ap capped_shares (shares_rule q)) f
-              ∙ ap (λ rs. capped_shares (joined_along (shares_of bits x) s rs)) (sym (rules_next (joined_merging h)))
+              joined_step (shares_of bits run.x) s t rule (rule_at plan r) (drop (r + 1 - first_rule plan.clauses c) (get_or plan.clauses c [])) (e ∙ ap capped_shares (shares_rule q)) f
+              ∙ ap (λ rs. capped_shares (joined_along (shares_of bits run.x) s rs)) (sym (rules_next (joined_merging h)))
               ∙ o.along;
         }
 
-    pub joined_end : first_rule (plan_of_tables tables terms).clauses (suc c) ≤ r → s ≡ capped_shares (joined_along (shares_of (lent_bits tables terms assignment) x) start_shares (get_or (plan_of_tables tables terms).clauses c []))
+    pub joined_end : first_rule (plan_of_tables run.tables.now run.terms.now).clauses (suc c) ≤ r → s ≡ capped_shares (joined_along (shares_of (lent_bits run.tables.now run.terms.now run.assignment.now) run.x) start_shares (get_or (plan_of_tables run.tables.now run.terms.now).clauses c []))
     unfolding joined_along
     joined_end h =
         let none : drop (r - first_rule plan.clauses c) (get_or plan.clauses c []) ≡ [] = drop_of_length-le (get_or plan.clauses c []) {i = r - first_rule plan.clauses c} (omega (arith, first_next plan.clauses c there)) in

@@ -81,15 +81,13 @@ fn follow(tables: &[u8], terms: &[u8], marks: &[u8], bits: &[u8], tallies: &mut 
 {
     let value = value_of(bits, x);
     let to = index(tables, ENDS + x as usize);
-    let mut k = index(tables, ENDS + (x - 1) as usize);
-    while k < to {
+    for k in index(tables, ENDS + (x - 1) as usize)..to {
         pass(
             tallies,
             word(tables, ORDER + k),
             value,
             word(marks, WEIGHTS + k),
         );
-        k += 1;
     }
 }
 

@@ -1,15 +1,15 @@
 -- The least break count, one variable after another.
 -- Assumes nothing.
-use Prim.Native.Nat.{ℕ, zero, suc, ◌+◌, ◌-◌, ◌≤◌, ◌<◌, min}
+use Prim.Native.Nat.{ℕ, suc, ◌+◌, ◌≤◌, ◌<◌, min}
 use native.Mathlib.Decide.{dec_lt}
 use native.Mathlib.Omega.{arith}
 use mathlib.Core.Path.{◌≡◌, refl, sym, ap, ap₂, ◌∙◌, subst}
 use mathlib.Core.Bool.{Bool, true, false, cond}
 use mathlib.Core.List.{List, [], ◌∷◌, ◌++◌, append-nil}
-use lib.Dec.{ltb, eqb}
+use lib.Dec.{ltb}
 use lib.ListN.{length, get_or, take, length-append, get_or-append}
 use lib.Seq.{take-suc, get_or-append_seam}
-use borrow.Author.Tests.{lt-ltb, le-ltb, eq-eqb, ne_eqb, ltb-true, ltb-false}
+use borrow.Author.Tests.{lt-ltb, le-ltb, eq-eqb, ne_eqb}
 use Rattle.plpb.specs.Lists.{keep}
 use Rattle.plpb.specs.Plan.{Plan, Assignment}
 use Rattle.plpb.specs.Count.{cap, capped_break}
@@ -17,7 +17,7 @@ use Rattle.plpb.specs.Choice.{least_break, with_break}
 use Rattle.words.specs.Words.{word_at}
 use Rattle.words.specs.Writes.{Wrote}
 use Rattle.columns.specs.Layout.{pick_at, column_size}
-use Rattle.picks.specs.Picks.{Noted, Picks, Picked}
+use Rattle.picks.specs.Picks.{Picks, Picked}
 use Rattle.picks.proofs.Noting.{noted_self, noted_more, wrote_noted, picks_none, with_more_lem}
 use Rattle.least.specs.declared.Best.{Best}
 use Rattle.least.specs.Best.{place_for, Offered}

@@ -10,13 +10,14 @@ ghost use Rattle.effects.specs.Kept.{lent_bits};
 ghost use Rattle.picks.specs.Picks.{Picked, Pickable, Triable};
 ghost use Rattle.least.specs.Best.{place_for, Offered};
 
-use columns::{LIST_COUNTS, LISTS, PICKS};
+use columns::PICKS;
 use counting::count::Count;
-use picks::terms_ahead;
+use groups::Run;
+use picks::list_of;
 use spoiling::break_of;
 use words::{index, narrow, write_word};
 
-// The least count so far, and how many have it.
+// The least count so far, and how many have it. None so far is one above the cap: an `Option` would be opened again for the limit that each count is given.
 #[derive(Clone, Copy)]
 pub struct Best {
     pub least: u64,
@@ -46,7 +47,8 @@ fn offer(
         marks.old marks.new result }
 {
     let x = index(marks, i);
-    let n = break_of(tables, terms, assignment, tallies, marks, x, best.least);
+    let run = Run::of(tables, terms, assignment, tallies, marks, x);
+    let n = break_of(&run, best.least);
     if best.least < n {
         return best;
     }
@@ -78,16 +80,13 @@ pub fn least_of(
         (choosable (plan_of_tables tables.now terms.now)
         (get_or (plan_of_tables tables.now terms.now).clauses c []))) marks.old marks.new result }
 {
-    let first = LISTS + terms_ahead(tables, terms, c);
-    let end = first + index(marks, LIST_COUNTS + c);
+    let list = list_of(tables, terms, marks, c);
     let mut best = Best {
         least: Count::CAP.value as u64 + 1,
         count: 0,
     };
-    let mut i = first;
-    while i < end {
+    for i in list.start..list.end {
         best = offer(tables, terms, assignment, tallies, marks, i, best);
-        i += 1;
     }
     best.count
 }

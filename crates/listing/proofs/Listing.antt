@@ -1,6 +1,6 @@
 -- The lists in the words of the marks, as one entry of a run after another is gone through.
 -- Assumes nothing.
-use Prim.Native.Nat.{ℕ, zero, suc, ◌+◌, ◌*◌, ◌-◌, ◌≤◌, ◌<◌}
+use Prim.Native.Nat.{ℕ, suc, ◌+◌, ◌*◌, ◌-◌, ◌≤◌, ◌<◌}
 use native.Mathlib.Decide.{ℕ_discrete, dec_le}
 use native.Mathlib.Nat.{lt_of_not-le}
 use native.Mathlib.Numerals.{add-one}
@@ -8,16 +8,18 @@ use native.Mathlib.Omega.{arith}
 use borrow.Author.Tests.{eq-eqb, ne_eqb, lt-ltb, le-ltb}
 use mathlib.Core.Path.{◌≡◌, refl, sym, ap, ap₂, subst, ◌∙◌}
 use mathlib.Core.Bool.{Bool, true, false}
-use mathlib.Core.List.{List, [], ◌∷◌, ◌++◌, map}
+use mathlib.Core.List.{List, [], ◌∷◌, ◌++◌}
 use lib.Dec.{ltb, eqb}
-use lib.ListN.{length, get_or, length-append, get_or-append}
+use lib.ListN.{length, get_or, replicate, length-append, get_or-append}
 use lib.Seq.{get_or-append_seam}
-use Rattle.plpb.specs.Lists.{◌and◌, row, sum_by}
+use Rattle.plpb.specs.Lists.{◌and◌}
 use Rattle.plpb.specs.Plan.{Plan, is_locked}
 use Rattle.plpb.specs.Tallies.{rules_of}
-use Rattle.words.specs.Words.{word_at}
-use Rattle.words.specs.Writes.{Wrote, put_words}
-use Rattle.words.proofs.Writes.{word_wrote}
+use borrow.Rule.Slice.PartMut.{put_mid}
+use Rattle.std.proofs.lemmas.List.{length-replicate}
+use Rattle.words.specs.Words.{word_at, word_bytes}
+use Rattle.words.specs.Writes.{Wrote, put, put_words}
+use Rattle.words.proofs.Writes.{word_wrote, lent_part, word_bytes_zeros}
 use Rattle.order.specs.Order.{Place, occurrences, first_rule, word_place}
 use Rattle.order.specs.Mentions.{terms_before}
 use Rattle.order.proofs.Runs.{Named, named_below}
@@ -33,9 +35,10 @@ use Rattle.recount.proofs.Laid.{parts, sections, clauses_word, variables_word}
 use Rattle.columns.specs.Layout.{column_size, column_word_count, list_at, list_count_at}
 use Rattle.columns.specs.Columns.{no_place, terms_ahead, words_from, Listed}
 use Rattle.columns.specs.Frames.{Only}
-use Rattle.columns.proofs.Frames.{only_none, only_next, wrote_only}
+use Rattle.columns.proofs.Frames.{only_next, only_wider, wrote_only}
 use Rattle.columns.proofs.Entries.{run_size, run_few, run_named, run_place}
 use Rattle.listing.specs.Listing.{reached_by, list_to, ListOf, Listing}
+use Rattle.listing.proofs.Filling.{part_only, zero_word}
 use Rattle.listing.proofs.Reaching.{ahead_next, ahead_rise, ahead_all, list_first, list_last, list_passed, list_locked, list_few, list_beside, list_there, list_longer, ends_there, ends_elsewhere}
 
 -- ---- a list in words
@@ -250,15 +253,16 @@ pub record Cleared (p : Plan) (c : ℕ) (s t : List ℕ) : Type 0 where
   pub each : (d : ℕ) → d < c → word_at t (list_count_at d) ≡ 0
   pub only : Only (list_count_at 0) column_word_count s t
 
-pub cleared_none : (p : Plan) (s : List ℕ) → Cleared p 0 s s
-cleared_none p s = record { each = λ d h. absurd (omega arith); only = only_none (list_count_at 0) column_word_count s }
-
-pub cleared_next : {p : Plan} {c : ℕ} {s t u : List ℕ} → column_size ≤ length s → c < 513 → Cleared p c s t → u ≡ put_words (list_count_at c) (0 ∷ []) t → Cleared p (c + 1) s u
-cleared_next {p} {c} {s} {t} {u} room few y e =
-    let w = word_wrote (list_count_at c) 0 t u (omega (arith, y.only.size)) (omega arith) e in
+-- A part of the marks filled with zeros: the counts of so many lists.
+pub cleared : (p : Plan) (c : ℕ) {s : List ℕ} (ys : List ℕ) → c < 514 → column_size ≤ length s → ys ≡ replicate (4 * (8_176 + c) - 32_704) 0 → Cleared p c s (put_mid 32_704 (4 * (8_176 + c) - 32_704) s ys)
+cleared p c {s} ys few room e =
+    let long : length ys ≡ 4 * (8_176 + c) - 32_704 = ap length e ∙ length-replicate {A = ℕ} (4 * (8_176 + c) - 32_704) 0 in
+    let size : 4 * (8_176 + c) - 32_704 ≡ 4 * c = omega arith in
+    let put_back : put_mid 32_704 (4 * (8_176 + c) - 32_704) s ys ≡ put 32_704 (word_bytes (replicate c 0)) s =
+    lent_part 32_704 (4 * (8_176 + c)) s ys (omega arith) long ∙ ap (λ (b : List ℕ). put 32_704 b s) (e ∙ ap (λ (n : ℕ). replicate n 0) size ∙ sym (word_bytes_zeros c)) in
     record {
-      each = λ d h. elim (ℕ_discrete d c) [ yes same ↦ ap (λ j. word_at u (list_count_at j)) same ∙ w.here | no o ↦ w.others (list_count_at d) (λ z. o (omega (arith, z))) ∙ y.each d (omega (arith, o)) ];
-      only = only_next y.only (wrote_only (omega arith) (omega arith) w);
+      each = λ d h. ap (λ t. word_at t (8_176 + d)) put_back ∙ zero_word 8_176 c d s h (omega arith);
+      only = only_wider (omega arith) (omega arith) (part_only 8_176 (8_176 + c) ys (omega arith) (omega arith) long);
     }
 
 pub cleared_all : {tables terms s t : List ℕ} {c clauses : ℕ} → Laid tables terms → column_size ≤ length s → clauses ≡ word_at tables 1 → clauses ≤ c → Cleared (plan_of_tables tables terms) c s t → Listing (plan_of_tables tables terms) 1 0 t × Only (list_count_at 0) column_word_count s t

@@ -1,7 +1,6 @@
 -- Which clauses the run of a variable reaches, and how long their lists become.
 -- Assumes nothing.
 use Prim.Native.Nat.{ℕ, zero, suc, ◌+◌, ◌-◌, ◌≤◌, ◌<◌}
-use native.Mathlib.Numerals.{add-one}
 use native.Mathlib.Nat.{add-zero, add-suc, suc-add, zero-add}
 use native.Mathlib.Decide.{ℕ_discrete}
 use native.Mathlib.Omega.{arith}
@@ -16,7 +15,7 @@ use Rattle.plpb.specs.Lists.{◌and◌, ◌or◌, any, all, keep, count, concat,
 use Rattle.plpb.specs.Plan.{Term, Rule, Clause, Plan, is_locked, named_in, names}
 use Rattle.plpb.specs.Tallies.{rules_of}
 use Rattle.plpb.specs.Choice.{choosable}
-use Rattle.plpb.proofs.Lists.{any_append, keep_append, sum_by_append, count_cons, count_append, all_at, all_still, and_both, or_false, true_or, false_or, and_true, and_false, count_nil, count_false}
+use Rattle.plpb.proofs.Lists.{any_append, keep_append, sum_by_append, count_cons, all_at, all_still, and_both, or_false, true_or, false_or, and_true, and_false, count_nil, count_false}
 use Rattle.order.specs.Order.{Place, in_terms, in_rules, in_clauses, occurrences, first_rule, term_count}
 use Rattle.order.specs.Mentions.{terms_before}
 use Rattle.format.proofs.Lists.{row_split}

@@ -17,7 +17,7 @@ ghost use Rattle.listing.specs.Listing.{Listing};
 use columns::{LIST_COUNTS, LISTS};
 use format::{CLAUSES, ENDS, LOCKS, ORDER, RULES};
 use places::clause_in;
-use words::{clear, index, narrow, word, write_word};
+use words::{index, narrow, word, write_word};
 
 // Whether x is the last of the n variables of a list.
 fn ends_with(marks: &[u8], at: usize, n: usize, x: usize) -> bool
@@ -57,10 +57,8 @@ fn list_run(tables: &[u8], terms: &[u8], x: usize, marks: &mut [u8])
         × Only (list_count_at 0) column_word_count marks.old marks.new }
 {
     let end = index(tables, ENDS + x);
-    let mut k = index(tables, ENDS + (x - 1));
-    while k < end {
+    for k in index(tables, ENDS + (x - 1))..end {
         list_entry(tables, terms, x, k, marks);
-        k += 1;
     }
 }
 
@@ -84,11 +82,7 @@ fn clear_counts(tables: &[u8], terms: &[u8], marks: &mut [u8])
         × Only (list_count_at 0) column_word_count marks.old marks.new }
 {
     let clauses = index(tables, 1);
-    let mut c = 0;
-    while c < clauses {
-        write_word(marks, LIST_COUNTS + c, 0);
-        c += 1;
-    }
+    marks[4 * LIST_COUNTS..4 * (LIST_COUNTS + clauses)].fill(0);
 }
 
 // All variables.
@@ -99,9 +93,7 @@ pub fn list_clauses(tables: &[u8], terms: &[u8], marks: &mut [u8])
 {
     clear_counts(tables, terms, marks);
     let n = index(tables, 0);
-    let mut x = 1;
-    while x <= n {
+    for x in 1..=n {
         list_variable(tables, terms, x, marks);
-        x += 1;
     }
 }

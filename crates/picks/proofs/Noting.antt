@@ -1,18 +1,16 @@
 -- Hints and picks are noted: the weights and the lists stay, and a pick comes behind the others.
 -- Assumes nothing.
-use Prim.Native.Nat.{ℕ, zero, suc, ◌+◌, ◌*◌, ◌-◌, ◌≤◌, ◌<◌}
-use native.Mathlib.Nat.{add-zero}
-use native.Mathlib.Numerals.{add-one}
+use Prim.Native.Nat.{ℕ, suc, ◌+◌, ◌*◌, ◌-◌, ◌≤◌, ◌<◌}
 use native.Mathlib.Decide.{dec_lt}
 use native.Mathlib.Omega.{arith}
-use mathlib.Core.Path.{◌≡◌, refl, sym, ap, ap₂, ◌∙◌}
+use mathlib.Core.Path.{◌≡◌, refl, sym, ap, ◌∙◌}
 use mathlib.Core.Bool.{Bool, true, false, cond}
-use mathlib.Core.List.{List, [], ◌∷◌, ◌++◌, map, append-nil}
-use lib.Dec.{T, eqb}
-use lib.ListN.{length, get_or, take, drop, length-append, get_or-append}
+use mathlib.Core.List.{List, [], ◌∷◌, ◌++◌, append-nil}
+use lib.Dec.{eqb}
+use lib.ListN.{length, get_or, take, length-append, get_or-append}
 use lib.Seq.{take-suc, get_or-append_seam}
 use Rattle.plpb.specs.Lists.{keep, row}
-use Rattle.plpb.specs.Plan.{Plan, Assignment, Clause}
+use Rattle.plpb.specs.Plan.{Plan, Assignment}
 use Rattle.plpb.specs.Tallies.{rules_of}
 use Rattle.plpb.specs.Count.{capped_break}
 use Rattle.plpb.specs.Choice.{choosable, with_break}
@@ -20,22 +18,22 @@ use Rattle.plpb.proofs.Lists.{keep_append, length_row, row_at, all_at, false_T, 
 use Rattle.words.specs.Words.{word_at, num_at}
 use Rattle.words.specs.Writes.{Wrote}
 use Rattle.words.proofs.Words.{num_at_drop}
-use Rattle.order.specs.Order.{term_count, first_rule}
+use Rattle.order.specs.Order.{first_rule}
 use Rattle.order.proofs.Runs.{first_next, first_within}
 use Rattle.format.specs.Limits.{max_variables}
 use Rattle.format.specs.Tables.{plan_of_tables}
 use Rattle.format.specs.Layout.{clause_first_at, rule_first_at}
 use Rattle.format.proofs.Bools as bools
 use Rattle.format.proofs.Lawful.{clause_lawful, clause_some}
-use Rattle.format.proofs.Placed.{clause_first, clause_inside, rule_first}
+use Rattle.format.proofs.Placed.{clause_first, rule_first}
 use Rattle.tallies.proofs.Tallied.{get_d_map}
 use Rattle.recount.specs.Core.{Laid}
-use Rattle.recount.proofs.Laid.{parts, sections, tables_long}
+use Rattle.recount.proofs.Laid.{parts, sections}
 use Rattle.columns.specs.Layout.{hint_at, pick_at, weight_at, list_count_at, list_at, column_size}
-use Rattle.columns.specs.Columns.{Weighed, words_from, terms_ahead, Listed}
+use Rattle.columns.specs.Columns.{words_from, terms_ahead, Listed}
 use Rattle.columns.proofs.Marks.{Behind, weighed_behind, listed_behind}
-use Rattle.effects.specs.Kept.{lent_bits, Walkable, Going}
-use Rattle.picks.specs.Picks.{Noted, Picks, Picked, Pickable, Triable, Tried}
+use Rattle.effects.specs.Kept.{Walkable}
+use Rattle.picks.specs.Picks.{Noted, Picks, Pickable, Triable, Tried}
 use Rattle.picks.proofs.Room.{list_room, choosable_within, choosable_most, keep_fewer}
 
 -- ---- nothing else changes
@@ -204,11 +202,5 @@ module _ {tables terms assignment tallies s : List ℕ} {c : ℕ} (k : Pickable 
 -- ---- the list's words, as the code reads where they begin and how many they are
 
 module _ {tables terms assignment tallies s : List ℕ} {c : ℕ} (k : Pickable tables terms assignment tallies s c) {ahead n : ℕ} (e : ahead ≡ terms_ahead (plan_of_tables tables terms) c) (f : n ≡ word_at s (list_count_at c)) where
-  pub list_first : list_at ahead ≡ list_at (terms_ahead (plan_of_tables tables terms) c)
-  list_first = ap list_at e
-
-  pub list_end : list_at ahead + n ≡ list_at ahead + length (choosable (plan_of_tables tables terms) (get_or (plan_of_tables tables terms).clauses c []))
-  list_end = ap (λ i. list_at ahead + i) (count_word k f)
-
   pub list_bounds : (ahead ≤ 6_512) × (n ≤ 512) × (ahead + n ≤ 6_512)
   list_bounds = (omega (arith, e, list_ends k), omega (arith, count_word k f, list_few k), omega (arith, e, count_word k f, list_ends k))

@@ -1,15 +1,14 @@
 -- A clause's variables are no more than its terms, so its list ends where its terms do or before.
 -- Assumes nothing.
-use Prim.Native.Nat.{ℕ, zero, suc, ◌+◌, ◌-◌, ◌≤◌, ◌<◌}
-use native.Mathlib.Nat.{le_refl, le_trans}
+use Prim.Native.Nat.{ℕ, zero, suc, ◌+◌, ◌≤◌, ◌<◌}
 use native.Mathlib.Omega.{arith}
 use mathlib.Core.Path.{◌≡◌, refl, sym, ap, ap₂, ◌∙◌}
 use mathlib.Core.Bool.{Bool, true, false, not, cond}
 use mathlib.Core.List.{List, [], ◌∷◌, ◌++◌, append_assoc}
 use lib.Dec.{T, leb, eqb, leb→le, le→leb}
-use lib.ListN.{length, get_or, take, drop, length-append}
+use lib.ListN.{length, get_or, take, drop}
 use lib.Seq.{take-append_seam, split_at}
-use borrow.Author.Tests.{eq-eqb, ne_eqb, eqb-true, eqb-false}
+use borrow.Author.Tests.{ne_eqb, eqb-true}
 use Rattle.plpb.specs.Lists.{◌and◌, ◌or◌, keep, count, any, all, sum_by, concat, row}
 use Rattle.plpb.specs.Plan.{Term, Rule, Clause, Plan, is_locked, named_in, names}
 use Rattle.plpb.specs.Tallies.{rules_of}

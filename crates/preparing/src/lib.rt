@@ -13,18 +13,13 @@ use columns::{HINTS, PICKS};
 use listing::list_clauses;
 use sizing::size_rules;
 use weighing::weigh;
-use words::write_word;
 
 // No variable has a place to look at first: what stood in the lent bytes would do as well, but then the time of a search would hang on it.
 fn clear_hints(marks: &mut [u8])
     requires { column_size ≤ length marks.old }
     ensures { Only (hint_at 1) picks_at marks.old marks.new }
 {
-    let mut i = HINTS + 1;
-    while i < PICKS {
-        write_word(marks, i, 0);
-        i += 1;
-    }
+    marks[4 * (HINTS + 1)..4 * PICKS].fill(0);
 }
 
 pub fn prepare(tables: &[u8], terms: &[u8], tallies: &mut [u8], marks: &mut [u8])

@@ -2,7 +2,7 @@
 // Of the ranking only the first two are kept.
 #![tactic(auto)]
 
-ghost use Rattle.std.specs.Prelude.{◌≡◌, List, [], ◌∷◌, ℕ, max, ◌+◌, ◌-◌, get_or};
+ghost use Rattle.std.specs.Prelude.{◌≡◌, List, [], ◌∷◌, ℕ, ◌+◌, ◌-◌, get_or};
 ghost use Rattle.plpb.specs.Plan.{Plan, Assignment};
 ghost use Rattle.plpb.specs.Count.{cap, given};
 ghost use Rattle.plpb.specs.Choice.{choosable};
@@ -11,14 +11,14 @@ ghost use Rattle.format.specs.Tables.{plan_of_tables};
 ghost use Rattle.effects.specs.Kept.{lent_bits, Going};
 ghost use Rattle.picks.specs.Picks.{Pickable};
 ghost use Rattle.stamps.specs.Stamps.{stamp_in};
-ghost use Rattle.ranking.specs.Ranking.{comes_before, older_than, Stands, Ranks};
+ghost use Rattle.ranking.specs.Ranking.{comes_before, Stands, Ranks};
 
-use columns::{LIST_COUNTS, LISTS};
 use counting::count::Count;
 use counts::counts_along;
-use picks::terms_ahead;
+use groups::Run;
+use picks::list_of;
 use stamps::last_flip;
-use words::{index, widen, word};
+use words::{widen, word};
 
 // A variable as it is ranked: make minus break, above the least that this can be; the number of its last flip; its number.
 #[derive(Clone, Copy)]
@@ -75,7 +75,8 @@ fn standing_of(
     ensures { Stands (plan_of_tables tables.now terms.now)
         (lent_bits tables.now terms.now assignment.now) (stamp_in marks.now) x result }
 {
-    let counts = counts_along(tables, terms, assignment, tallies, marks, widen(x));
+    let run = Run::of(tables, terms, assignment, tallies, marks, widen(x));
+    let counts = counts_along(&run);
     Standing {
         score: raised(counts.makes, counts.breaks),
         last: last_flip(marks, x),
@@ -83,36 +84,11 @@ fn standing_of(
     }
 }
 
-// "equals by longest unflipped in this try (never flipped first), then by number"
-fn is_older(a: Standing, b: Standing) -> bool
-    ensures { result ≡ older_than a b }
-{
-    if a.last < b.last {
-        return true;
-    }
-    if a.last != b.last {
-        return false;
-    }
-    a.variable < b.variable
-}
-
-// "highest first"
+// "highest first"; "equals by longest unflipped in this try (never flipped first), then by number"
 fn comes_before(a: Standing, b: Standing) -> bool
     ensures { result ≡ comes_before a b }
 {
-    if b.score < a.score {
-        return true;
-    }
-    if a.score < b.score {
-        return false;
-    }
-    is_older(a, b)
-}
-
-fn later(a: u32, b: u32) -> u32
-    ensures { result ≡ max a b }
-{
-    if a < b { b } else { a }
+    (b.score, a.last, a.variable) < (a.score, b.last, b.variable)
 }
 
 // One variable more.
@@ -122,7 +98,7 @@ fn joined(top: Top, s: Standing) -> Top
 {
     let first = top.first;
     let second = top.second;
-    let latest = later(s.last, top.latest);
+    let latest = s.last.max(top.latest);
     if top.count == 0 {
         return Top {
             count: 1,
@@ -178,12 +154,10 @@ pub fn rank_clause(
         (choosable (plan_of_tables tables.now terms.now)
         (get_or (plan_of_tables tables.now terms.now).clauses c [])) result }
 {
-    let first = LISTS + terms_ahead(tables, terms, c);
+    let list = list_of(tables, terms, marks, c);
     let mut top = Top::NONE;
-    let mut left = index(marks, LIST_COUNTS + c);
-    while 0 < left {
-        left -= 1;
-        let x = word(marks, first + left);
+    for i in (list.start..list.end).rev() {
+        let x = word(marks, i);
         let s = standing_of(tables, terms, assignment, tallies, marks, x);
         top = joined(top, s);
     }

@@ -2,12 +2,10 @@
 -- Assumes nothing.
 use Prim.Native.Nat.{ℕ, zero, suc, ◌+◌, ◌-◌, ◌≤◌, ◌<◌}
 use native.Mathlib.Omega.{arith}
-use mathlib.Core.Path.{◌≡◌, refl, sym, ap, ap₂, ◌∙◌, subst}
-use mathlib.Core.Bool.{Bool, true, false, cond}
+use mathlib.Core.Path.{◌≡◌, sym, ap, ◌∙◌, subst}
+use mathlib.Core.Bool.{false}
 use mathlib.Core.List.{List, [], ◌∷◌, ◌++◌, map}
-use lib.Dec.{T, ltb, eqb}
-use lib.ListN.{length, get_or, length-append, length-map}
-use borrow.Author.Tests.{ltb-false}
+use lib.ListN.{length, get_or, length-map}
 use Rattle.plpb.specs.Lists.{all, sum_by}
 use Rattle.plpb.specs.Plan.{Clause, Plan, Assignment, names, rising, numbers_rise}
 use Rattle.plpb.specs.Tallies.{rules_of}
@@ -15,13 +13,13 @@ use Rattle.plpb.proofs.Lists.{all_at}
 use Rattle.plpb.specs.Equations.{shares_of, clause_break, clause_make}
 use Rattle.plpb.specs.Equations.{Shares as SharesOf}
 use Rattle.plpb.specs.Count.{cap, capped, capped_break}
-use Rattle.plpb.proofs.Capped.{capped_zero, capped_twice, capped_small, capped_large, capped_most}
+use Rattle.plpb.proofs.Capped.{capped_large, capped_most}
 use Rattle.counting.specs.Shares.{capped_shares, start_shares, joined_along}
 use Rattle.counting.proofs.Joining.{clause_shares_lem}
 use Rattle.order.specs.Order.{Place, in_rules, order, run_end, cut, rule_at, first_rule, has_several}
 use Rattle.order.specs.Grouped.{naming}
-use Rattle.order.specs.Blocks.{rules_along, Group}
-use Rattle.order.proofs.Blocks.{Along, Next, next, places_from, block, cut_cons, cut_parts}
+use Rattle.order.specs.Blocks.{Group}
+use Rattle.order.proofs.Blocks.{Next, next, places_from, cut_cons, cut_parts}
 use Rattle.order.proofs.Runs.{rule_in_clause}
 use Rattle.order.proofs.Shares.{group_rules}
 use Rattle.order.proofs.Groups.{single_break, single_make}
@@ -33,7 +31,9 @@ use Rattle.columns.specs.Columns.{no_place}
 use Rattle.effects.specs.Kept.{lent_bits, Going, place_at, place_rule, Visited}
 use Rattle.effects.proofs.Runs.{run_inside}
 use Rattle.effects.proofs.Places.{place_named}
-use Rattle.groups.specs.Stretch.{group_end, Begins}
+use Rattle.groups.specs.Stretch.{group_end}
+use Rattle.groups.specs.declared.run.Run.{Run}
+use Rattle.groups.specs.Run.{plan}
 use Rattle.groups.proofs.Stretch.{along_length}
 use Rattle.freely.proofs.Free.{single_clause}
 use Rattle.freely.proofs.Sums.{Summing, sum_begins, sum_most, break_counted}
@@ -51,7 +51,7 @@ module _ {tables terms assignment tallies marks : List ℕ} {x : ℕ} (g : Going
   abbrev j : ℕ
   j = group_end (plan_of_tables tables terms) x k
 
-  begins : Begins tables terms assignment tallies marks x k
+  begins : Group p x c k j
   begins = sum_begins g none s here
 
   long : run_end p x ≤ length (order p)
@@ -68,15 +68,20 @@ module _ {tables terms assignment tallies marks : List ℕ} {x : ℕ} (g : Going
 
   size : k + length places ≡ j
   size =
-      let o = begins.group in
+      let o = begins in
       let ks = p.clauses in
       let rises = all_at (all (λ q. rising q.terms)) ks c [] (unfold numbers_rise in s.rise) n.there in
       let same : map (λ q. rule_at p q.rule) places ≡ naming x (get_or ks c []) = group_rules p x c (first_rule ks c) (get_or ks c []) rises (λ i l. unfold rule_at rules_of in rule_in_clause ks c i n.there l) in
       let long : length places ≡ j - k = sym (length-map places (λ q. rule_at p q.rule)) ∙ ap length (same ∙ sym o.rules) ∙ along_length p k j (omega (arith, o.some)) (omega (arith, o.last, run_inside g)) in
       omega (arith, long, o.some)
 
-  pub sum_starts : Starts tables terms assignment tallies marks x k
-  sum_starts = record { begins = begins; places = ap (λ e. cut k e (order p)) (sym size) ∙ (cut_parts k (run_end p x) (order p) places (places_from p x s.rise (suc c)) s.along.last long split).1 }
+  group_places : cut k j (order p) ≡ places
+  group_places = ap (λ e. cut k e (order p)) (sym size) ∙ (cut_parts k (run_end p x) (order p) places (places_from p x s.rise (suc c)) s.along.last long split).1
+
+pub sum_starts : (run : Run) {count : Clause → ℕ} → ((k : Clause) → names k run.x ≡ false → count k ≡ 0) → {whole k sum : ℕ} → Summing (plan run) run.x count whole k sum → k < run.end → Starts run k
+sum_starts run none {k = k} s h =
+    let here : k < run_end (plan run) run.x = omega (arith, run.ends) in
+    record { begins = sum_begins run.going none s here; places = group_places run.going none s here }
 
 -- ---- what a group counts
 

@@ -1,28 +1,20 @@
 // How many clauses of the expansion a flip spoils, along the variable's run: given up above a limit, and once the sum is cut.
 #![tactic(auto)]
 
-ghost use Rattle.std.specs.Prelude.{◌≡◌, true, suc, ◌-◌, ◌≤◌, ◌<◌};
+ghost use Rattle.std.specs.Prelude.{◌≡◌, true, suc, ◌<◌};
 ghost use Rattle.plpb.specs.Count.{cap, capped, capped_break};
 ghost use Rattle.plpb.specs.Equations.{clause_break};
 ghost use Rattle.counting.specs.Count.{number};
-ghost use Rattle.order.specs.Order.{run_end};
-ghost use Rattle.format.specs.Tables.{plan_of_tables};
 ghost use Rattle.rules.specs.State.{Balanced, shares_from};
-ghost use Rattle.effects.specs.Kept.{lent_bits, Going};
+ghost use Rattle.groups.specs.Run.{plan, bits};
 ghost use Rattle.spoiling.specs.Along.{Starts, Stepped, UpTo};
 
 use counting::bound::{over_difference, over_surely_past};
 use counting::count::Count;
-use effects::{spoils_at, state_at};
-use format::{ENDS, ORDER};
-use groups::{group_breaks, group_end};
+use groups::Run;
 use joining::shares_along;
-use places::clause_in;
 use rules::place::Stands;
 use rules::state::State;
-use words::{index, word};
-
-const SEVERAL: u32 = 2147483648; // the words of places in clauses of more than one rule begin here
 
 // e of a rule in this state: equation (10).
 pub fn spoiled(s: State) -> Count
@@ -42,6 +34,7 @@ pub fn spoiled(s: State) -> Count
 }
 
 // Whether e of a rule in this state is past the cap for sure, told without a binomial.
+// One function for this and `spoiled`, over what is asked of a side, has a longer contract than the two matches.
 fn surely_past(s: State) -> bool
     requires { Balanced s }
     ensures { result ≡ true → cap < (shares_from s).e }
@@ -59,30 +52,17 @@ fn surely_past(s: State) -> bool
 }
 
 // Whether the last place of the run, if it is that of a clause of one rule, shows that the whole count is cut: the objective's clause is behind all others.
-fn cut_at_last(
-    tables: &[u8],
-    terms: &[u8],
-    assignment: &[u8],
-    tallies: &[u8],
-    marks: &[u8],
-    x: usize,
-    first: usize,
-    end: usize,
-) -> bool
-    requires { Going tables.now terms.now assignment.now tallies.now marks.now x
-        × (first ≡ run_end (plan_of_tables tables.now terms.now) (x - 1)) × (end ≡ run_end (plan_of_tables tables.now terms.now) x) }
-    ensures { result ≡ true → suc cap ≡ capped_break (plan_of_tables tables.now terms.now)
-        (lent_bits tables.now terms.now assignment.now) x }
+fn cut_at_last(run: &Run<'_>) -> bool
+    ensures { result ≡ true → suc cap ≡ capped_break (plan run.now) (bits run.now) run.now.x }
 {
-    if end <= first {
+    if run.end <= run.first {
         return false;
     }
-    let k = end - 1;
-    if SEVERAL <= word(tables, ORDER + k) {
+    let k = run.end - 1;
+    if run.has_several(k) {
         return false;
     }
-    let s = state_at(tables, terms, assignment, tallies, marks, x, k);
-    surely_past(s)
+    surely_past(run.state_at(k))
 }
 
 // What a group counts, and where it ends.
@@ -93,71 +73,48 @@ pub struct Step {
 }
 
 // A clause of one rule counts nothing where the rule is not spoiled, one of several where it does not break: no binomial is worked out there.
-fn count_at(
-    tables: &[u8],
-    terms: &[u8],
-    assignment: &[u8],
-    tallies: &[u8],
-    marks: &[u8],
-    x: usize,
-    k: usize,
-    end: usize,
-) -> Step
-    requires { Starts tables.now terms.now assignment.now tallies.now marks.now x k
-        × (end ≡ run_end (plan_of_tables tables.now terms.now) x) }
-    ensures { Stepped (clause_break (lent_bits tables.now terms.now assignment.now) x) tables.now
-        terms.now x k result }
+fn count_at(run: &Run<'_>, k: usize) -> Step
+    requires { Starts run.now k }
+    ensures { Stepped (clause_break (bits run.now) run.now.x) run.now k result }
 {
-    let o = word(tables, ORDER + k);
-    if o < SEVERAL {
-        if !spoils_at(tables, terms, assignment, tallies, marks, x, k) {
+    if !run.has_several(k) {
+        let next = k + 1;
+        if !run.spoils_at(k) {
             return Step {
                 count: Count::ZERO,
-                next: k + 1,
+                next,
             };
         }
-        let s = state_at(tables, terms, assignment, tallies, marks, x, k);
         return Step {
-            count: spoiled(s),
-            next: k + 1,
+            count: spoiled(run.state_at(k)),
+            next,
         };
     }
-    let c = clause_in(o);
-    let j = group_end(tables, terms, assignment, tallies, marks, x, k, end);
-    if !group_breaks(tables, terms, assignment, tallies, marks, x, c, k, j) {
+    let c = run.clause_at(k);
+    let j = run.group_end(k);
+    if !run.group_breaks(c, k, j) {
         return Step {
             count: Count::ZERO,
             next: j,
         };
     }
-    let s = shares_along(tables, terms, assignment, tallies, marks, x, c, k, j);
-    let count = s.e;
-    Step { count, next: j }
+    Step {
+        count: shares_along(run, c, k, j).e,
+        next: j,
+    }
 }
 
-// The break count of x where it is no more than a limit, else some number above the limit.
-pub fn break_of(
-    tables: &[u8],
-    terms: &[u8],
-    assignment: &[u8],
-    tallies: &[u8],
-    marks: &[u8],
-    x: usize,
-    limit: u64,
-) -> u64
-    requires { Going tables.now terms.now assignment.now tallies.now marks.now x }
-    ensures { UpTo limit
-        (capped_break (plan_of_tables tables.now terms.now)
-        (lent_bits tables.now terms.now assignment.now) x) result }
+// The break count of the variable where it is no more than a limit, else some number above the limit.
+pub fn break_of(run: &Run<'_>, limit: u64) -> u64
+    ensures { UpTo limit (capped_break (plan run.now) (bits run.now) run.now.x) result }
 {
-    let end = index(tables, ENDS + x);
-    let mut sum = Count::ZERO;
-    let mut k = index(tables, ENDS + (x - 1));
-    if cut_at_last(tables, terms, assignment, tallies, marks, x, k, end) {
+    if cut_at_last(run) {
         return Count::CUT.rank();
     }
-    while k < end {
-        let t = count_at(tables, terms, assignment, tallies, marks, x, k, end);
+    let mut sum = Count::ZERO;
+    let mut k = run.first;
+    while k < run.end {
+        let t = count_at(run, k);
         let count = t.count;
         sum = sum.plus(count);
         if limit < sum.rank() {

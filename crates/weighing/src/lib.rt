@@ -20,10 +20,7 @@ use words::{index, word, write_word};
 fn size_in(weight: u32) -> u32
     ensures { result ≡ nat_abs (signed weight) }
 {
-    if weight < 2147483648 {
-        return weight;
-    }
-    4294967295 - weight + 1
+    weight.cast_signed().unsigned_abs()
 }
 
 // The weight of entry k.
@@ -45,9 +42,7 @@ pub fn weigh(tables: &[u8], terms: &[u8], marks: &mut [u8])
         × Only (weight_at 0) (list_count_at 0) marks.old marks.new }
 {
     let count = index(tables, 3);
-    let mut k = 0;
-    while k < count {
+    for k in 0..count {
         write_word(marks, WEIGHTS + k, entry_weight(tables, terms, k));
-        k += 1;
     }
 }

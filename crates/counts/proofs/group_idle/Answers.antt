@@ -7,6 +7,7 @@ use mathlib.Core.Path.{◌≡◌, sym, ◌∙◌}
 use mathlib.Core.Bool.{false}
 use lib.Dec.{ltb}
 use Rattle.plpb.proofs.Lists.{false_T}
+use Rattle.groups.proofs.Runs.{group_stretch}
 use Rattle.counts.proofs.group_idle.Goals as goal
 
 none : (n : ℕ) → ltb 0 n ≡ false → n ≡ 0
@@ -23,3 +24,6 @@ returns-then-group_breaks c = λ e. absurd (false_T (sym e) tt)
 
 pub returns-then-group_mends : goal.returns-then-group_mends
 returns-then-group_mends c = λ e. absurd (false_T (sym e) tt)
+
+pub group_mends-requires : goal.group_mends-requires
+group_mends-requires c = (group_stretch c.args.run.now c.requires, c.requires)

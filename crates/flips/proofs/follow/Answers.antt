@@ -76,12 +76,6 @@ overflow_add-k c = omega (arith, c.loop-k-test.true, c.index-to.ensures, run_few
 pub word-requires : goal.word-requires
 word-requires c = omega (arith, c.loop-k-test.true, c.index-to.ensures, run_few c.requires, tables_long _ _ c.requires.ready.laid)
 
-pub overflow_add-k-in-loop-k : goal.overflow_add-k-in-loop-k
-overflow_add-k-in-loop-k c = omega (arith, c.loop-k-test.true, c.index-to.ensures, run_few c.requires)
-
-pub loop-k-smaller : goal.loop-k-smaller
-loop-k-smaller c = omega (arith, c.loop-k-test.true)
-
 pub overflow_sub-to : goal.overflow_sub-to
 overflow_sub-to c = omega (arith, c.index-from.ensures, c.index-to.ensures, run_size c.requires)
 

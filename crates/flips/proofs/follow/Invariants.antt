@@ -8,6 +8,3 @@ use Rattle.flips.proofs.follow.Given as goal
 
 abbrev pub invariant-loop-k : goal.invariant-loop-k
 invariant-loop-k l = (l.from ≤ l.k) × (l.k ≤ l.to) × Going l.tables l.terms l.bits l.x (l.k - l.from) l.tallies × Inside l.initial.tallies l.tallies × Below 256 l.tallies
-
-abbrev pub decreases-loop-k : goal.decreases-loop-k
-decreases-loop-k l = l.to - l.k

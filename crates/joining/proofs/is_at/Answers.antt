@@ -15,7 +15,7 @@ pub overflow_add-i : goal.overflow_add-i
 overflow_add-i c = omega (arith, place_few (merging_visited c.requires c.if-i-j.true))
 
 pub word-requires : goal.word-requires
-word-requires c = omega (arith, place_few (merging_visited c.requires c.if-i-j.true), going_tables c.requires.stretch.going)
+word-requires c = omega (arith, place_few (merging_visited c.requires c.if-i-j.true), going_tables c.args.run.now.going)
 
 pub returns : goal.returns
 returns c = past_unnamed c.requires c.if-i-j.false

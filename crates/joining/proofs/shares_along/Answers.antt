@@ -1,9 +1,8 @@
 -- The goals that the search leaves.
-use Prim.Native.Nat.{◌-◌}
 use native.Mathlib.Omega.{arith}
 use mathlib.Core.Path.{refl}
 use Rattle.counting.specs.Shares.{start_shares}
-use Rattle.joining.proofs.Merging.{placed_readable, placed_end, end_few, joined_start, joined_merging, joined_next, joined_end}
+use Rattle.joining.proofs.Merging.{placed_readable, placed_end, joined_start, joined_merging, joined_next, joined_end}
 use Rattle.joining.proofs.shares_along.Goals as goal
 
 pub loop-r-init : goal.loop-r-init
@@ -26,12 +25,6 @@ shares-requires c = c.state_in-s.ensures.balanced
 
 pub past-i-requires : goal.past-i-requires
 past-i-requires c = joined_merging c.requires c.loop-r.invariant.0 (omega (arith, c.loop-r-test.true, c.loop-r.invariant.1))
-
-pub overflow_add-r : goal.overflow_add-r
-overflow_add-r c = omega (arith, c.loop-r-test.true, c.loop-r.invariant.1, end_few c.requires)
-
-pub loop-r-smaller : goal.loop-r-smaller
-loop-r-smaller c = omega (arith, c.loop-r-test.true)
 
 pub returns : goal.returns
 returns c = joined_end c.requires c.loop-r.invariant.0 (omega (arith, c.loop-r-test.false, c.loop-r.invariant.1))

@@ -1,7 +1,7 @@
 -- `shares_along` meets its contract. The invariant: the shares of the rules before r are joined, and the places from i on are those of the rules from r on.
 -- The measure is what is left.
 -- Assumes nothing.
-use Prim.Native.Nat.{suc, ◌-◌}
+use Prim.Native.Nat.{suc}
 use mathlib.Core.Path.{◌≡◌}
 use Rattle.counting.specs.Shares.{shares_in}
 use Rattle.order.specs.Order.{first_rule}
@@ -12,7 +12,4 @@ use Rattle.joining.proofs.shares_along.Given as goal
 
 abbrev pub invariant-loop-r : goal.invariant-loop-r
 invariant-loop-r l =
-    Joined (plan_of_tables l.tables l.terms) (lent_bits l.tables l.terms l.assignment) l.x l.c l.k l.j l.r l.i (shares_in l.shares) × (l.end ≡ first_rule (plan_of_tables l.tables l.terms).clauses (suc l.c))
-
-abbrev pub decreases-loop-r : goal.decreases-loop-r
-decreases-loop-r l = l.end - l.r
+    Joined (plan_of_tables l.run.tables.now l.run.terms.now) (lent_bits l.run.tables.now l.run.terms.now l.run.assignment.now) l.run.x l.c l.k l.j l.r l.i (shares_in l.shares) × (l.end ≡ first_rule (plan_of_tables l.run.tables.now l.run.terms.now).clauses (suc l.c))

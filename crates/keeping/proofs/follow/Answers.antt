@@ -89,11 +89,5 @@ overflow_add-k-in-loop-k c = omega (arith, c.loop-k-test.true, c.index-to.ensure
 pub word-requires-in-loop-k : goal.word-requires-in-loop-k
 word-requires-in-loop-k c = omega (arith, c.loop-k-test.true, c.index-to.ensures, run_few c.requires.follow, c.requires.weighed.room)
 
-pub overflow_add-k-in-loop-k-2 : goal.overflow_add-k-in-loop-k-2
-overflow_add-k-in-loop-k-2 c = omega (arith, c.loop-k-test.true)
-
-pub loop-k-smaller : goal.loop-k-smaller
-loop-k-smaller c = omega (arith, c.loop-k-test.true)
-
 pub shape_of-tallies : goal.shape_of-tallies
 shape_of-tallies c = c.loop-k.invariant.2.size_same

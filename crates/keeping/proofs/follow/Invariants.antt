@@ -10,6 +10,3 @@ use Rattle.keeping.proofs.follow.Given as goal
 abbrev pub invariant-loop-k : goal.invariant-loop-k
 invariant-loop-k l =
     (word_at l.tables (end_at (l.x - 1)) ≤ l.k) × (l.k ≤ l.to) × Keeping l.tables l.terms l.bits l.initial.tallies l.x (l.k - word_at l.tables (end_at (l.x - 1))) l.tallies × Below 256 l.tallies
-
-abbrev pub decreases-loop-k : goal.decreases-loop-k
-decreases-loop-k l = l.to - l.k

@@ -1,4 +1,4 @@
--- `least_of` meets its contract. The invariant: those of the first variables listed that have their least count are picked. The measure is what is left.
+-- `least_of` meets its contract. The invariant: those of the first variables listed that have their least count are picked.
 -- Assumes nothing.
 use Prim.Native.Nat.{◌-◌, ◌≤◌}
 use mathlib.Core.List.{[]}
@@ -11,7 +11,4 @@ use Rattle.least.proofs.least_of.Given as goal
 
 abbrev pub invariant-loop-i : goal.invariant-loop-i
 invariant-loop-i l =
-    (l.first ≤ l.i) × (l.i ≤ l.end) × Leading (plan_of_tables l.tables l.terms) (lent_bits l.tables l.terms l.assignment) (take (l.i - l.first) (choosable (plan_of_tables l.tables l.terms) (get_or (plan_of_tables l.tables l.terms).clauses l.c []))) l.initial.marks l.marks l.best
-
-abbrev pub decreases-loop-i : goal.decreases-loop-i
-decreases-loop-i l = l.end - l.i
+    (l.initial.i ≤ l.i) × (l.i ≤ l.i-end) × Leading (plan_of_tables l.tables l.terms) (lent_bits l.tables l.terms l.assignment) (take (l.i - l.initial.i) (choosable (plan_of_tables l.tables l.terms) (get_or (plan_of_tables l.tables l.terms).clauses l.c []))) l.initial.marks l.marks l.best

@@ -1,33 +1,38 @@
 -- The goals that the search leaves.
-use Prim.Native.Nat.{◌-◌}
 use native.Mathlib.Omega.{arith}
+use native.Mathlib.Nat.{le_refl}
+use borrow.Author.Rules.{rules}
+use Prim.Native.Nat.{ℕ, ◌+◌, ◌*◌, ◌-◌, ◌<◌}
+use mathlib.Core.Path.{◌≡◌, ap, ◌∙◌}
+use mathlib.Core.List.{List}
+use lib.ListN.{length, take, drop, replicate, length-take}
+use Rattle.std.proofs.Common.{length-drop}
+use Rattle.words.specs.Words.{word_at}
+use Rattle.format.specs.Tables.{plan_of_tables}
+use Rattle.recount.specs.Core.{Laid}
 use Rattle.recount.proofs.Laid.{tables_long, clauses_few}
-use Rattle.listing.proofs.Listing.{cleared_none, cleared_next, cleared_all}
+use Rattle.listing.proofs.Listing.{cleared, cleared_all}
 use Rattle.listing.proofs.clear_counts.Goals as goal
+
+few_clauses : {tables terms : List ℕ} {n : ℕ} → Laid tables terms → n ≡ word_at tables 1 → n < 514
+few_clauses l e = omega (arith, e, clauses_few _ _ l)
 
 pub index-clauses-requires : goal.index-clauses-requires
 index-clauses-requires c = omega (arith, tables_long _ _ c.requires.0)
 
-pub loop-c-init : goal.loop-c-init
-loop-c-init c = (omega arith, cleared_none _ _)
+pub overflow_add-clauses : goal.overflow_add-clauses
+overflow_add-clauses c = omega (arith, c.index-clauses.ensures, clauses_few _ _ c.requires.0)
 
-pub overflow_add-c : goal.overflow_add-c
-overflow_add-c c = omega (arith, c.loop-c-test.true, c.index-clauses.ensures, clauses_few _ _ c.requires.0)
+pub overflow_mul-clauses : goal.overflow_mul-clauses
+overflow_mul-clauses c = omega (arith, c.index-clauses.ensures, clauses_few _ _ c.requires.0)
 
-pub write_word-requires : goal.write_word-requires
-write_word-requires c = omega (arith, c.loop-c-test.true, c.index-clauses.ensures, clauses_few _ _ c.requires.0, c.loop-c.invariant.1.only.size, c.requires.1)
-
-pub overflow_add-c-in-loop-c : goal.overflow_add-c-in-loop-c
-overflow_add-c-in-loop-c c = omega (arith, c.loop-c-test.true)
-
-pub loop-c-smaller : goal.loop-c-smaller
-loop-c-smaller c = omega (arith, c.loop-c-test.true)
-
-pub loop-c-preserved : goal.loop-c-preserved
-loop-c-preserved c = (omega (arith, c.loop-c-test.true), cleared_next c.requires.1 (omega (arith, c.loop-c-test.true, c.index-clauses.ensures, clauses_few _ _ c.requires.0)) c.loop-c.invariant.1 c.write_word.ensures)
-
-pub shape_of-marks : goal.shape_of-marks
-shape_of-marks c = c.loop-c.invariant.1.only.size
+pub slice_bounds-fill-end : goal.slice_bounds-fill-end
+slice_bounds-fill-end c = omega (arith, few_clauses c.requires.0 c.index-clauses.ensures, c.requires.1)
 
 pub returns : goal.returns
-returns c = cleared_all c.requires.0 c.requires.1 c.index-clauses.ensures c.loop-c-test.false c.loop-c.invariant.1
+returns c =
+    let l = c.requires.0 in
+    let size : length (take (4 * (8_176 + c.index-clauses.result) - 32_704) (drop 32_704 c.args.marks.now)) ≡ 4 * (8_176 + c.index-clauses.result) - 32_704 =
+    omega (arith, few_clauses l c.index-clauses.ensures, c.requires.1, length-take (4 * (8_176 + c.index-clauses.result) - 32_704) (drop 32_704 c.args.marks.now), length-drop 32_704 c.args.marks.now) in
+    let zeros = c.fill.ensures.after (λ y h. search rules) ∙ ap (λ n. replicate n 0) size in
+    cleared_all l c.requires.1 c.index-clauses.ensures (le_refl c.index-clauses.result) (cleared (plan_of_tables c.args.tables.now c.args.terms.now) c.index-clauses.result c.fill.new.self (few_clauses l c.index-clauses.ensures) c.requires.1 zeros)

@@ -1,10 +1,9 @@
 -- The goals that the search leaves.
-use Prim.Native.Nat.{◌-◌}
 use native.Mathlib.Omega.{arith}
 use mathlib.Core.Path.{◌∙◌}
 use Rattle.recount.proofs.Laid.{tables_long, variables_word}
 use Rattle.columns.proofs.Frames.{only_none, only_next}
-use Rattle.listing.proofs.Listing.{variables_few, all_listed}
+use Rattle.listing.proofs.Listing.{all_listed}
 use Rattle.listing.proofs.list_clauses.Goals as goal
 
 pub clear_counts-requires : goal.clear_counts-requires
@@ -19,12 +18,6 @@ loop-x-init c = (omega arith, omega arith, c.clear_counts.ensures.0, only_none _
 pub list_variable-requires : goal.list_variable-requires
 list_variable-requires c = (c.requires.0, c.loop-x.invariant.0, omega (arith, c.loop-x-test.true, c.index-n.ensures, variables_word _ _ c.requires.0), c.loop-x.invariant.2)
 
-pub overflow_add-x : goal.overflow_add-x
-overflow_add-x c = omega (arith, c.loop-x-test.true, c.index-n.ensures, variables_few c.requires.0, variables_word _ _ c.requires.0)
-
-pub loop-x-smaller : goal.loop-x-smaller
-loop-x-smaller c = omega (arith, c.loop-x-test.true)
-
 pub loop-x-preserved : goal.loop-x-preserved
 loop-x-preserved c = (omega arith, omega (arith, c.loop-x-test.true), c.list_variable.ensures.0, only_next c.loop-x.invariant.3 c.list_variable.ensures.1)
 
@@ -33,3 +26,7 @@ shape_of-marks c = c.loop-x.invariant.3.size ∙ c.clear_counts.ensures.1.size
 
 pub returns : goal.returns
 returns c = (all_listed c.requires.0 c.index-n.ensures c.loop-x.invariant.1 c.loop-x-test.false c.loop-x.invariant.2, only_next c.clear_counts.ensures.1 c.loop-x.invariant.3)
+
+-- The last variable is listed.
+pub returns-2 : goal.returns-2
+returns-2 c = (all_listed c.requires.0 c.index-n.ensures (omega arith) (omega arith) c.list_variable.ensures.0, only_next c.clear_counts.ensures.1 (only_next c.loop-x.invariant.3 c.list_variable.ensures.1))

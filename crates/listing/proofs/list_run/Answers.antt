@@ -6,7 +6,7 @@ use Rattle.words.specs.Words.{word_at}
 use Rattle.format.specs.Layout.{end_at}
 use Rattle.recount.proofs.Laid.{tables_long}
 use Rattle.columns.proofs.Frames.{only_none, only_next}
-use Rattle.listing.proofs.Listing.{variables_few, run_begins, run_ends, run_listed, list_at_end}
+use Rattle.listing.proofs.Listing.{variables_few, run_begins, run_listed, list_at_end}
 use Rattle.listing.proofs.list_run.Goals as goal
 
 pub loop-k-init : goal.loop-k-init
@@ -38,12 +38,6 @@ index-k-requires c = omega (arith, c.requires.2, variables_few c.requires.0, tab
 
 pub list_entry-requires : goal.list_entry-requires
 list_entry-requires c = let y = c.requires in let i = c.loop-k.invariant in (y.0, y.1, y.2, y.3, i.0, omega (arith, c.loop-k-test.true, c.index-end.ensures), i.2)
-
-pub overflow_add-k : goal.overflow_add-k
-overflow_add-k c = let y = c.requires in omega (arith, c.loop-k-test.true, c.index-end.ensures, run_ends y.0 y.1 y.2)
-
-pub loop-k-smaller : goal.loop-k-smaller
-loop-k-smaller c = omega (arith, c.loop-k-test.true)
 
 pub loop-k-preserved : goal.loop-k-preserved
 loop-k-preserved c = let i = c.loop-k.invariant in (omega (arith, i.0), omega (arith, c.loop-k-test.true), c.list_entry.ensures.0, only_next i.3 c.list_entry.ensures.1)

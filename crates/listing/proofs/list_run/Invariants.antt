@@ -13,6 +13,3 @@ abbrev pub invariant-loop-k : goal.invariant-loop-k
 invariant-loop-k l =
     (word_at l.tables (end_at (l.x - 1)) ≤ l.k) × (l.k ≤ l.end) × Listing (plan_of_tables l.tables l.terms) l.x (l.k - word_at l.tables (end_at (l.x - 1))) l.marks
     × Only (list_count_at 0) column_word_count l.initial.marks l.marks
-
-abbrev pub decreases-loop-k : goal.decreases-loop-k
-decreases-loop-k l = l.end - l.k

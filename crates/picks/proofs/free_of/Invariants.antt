@@ -1,4 +1,4 @@
--- `free_of` meets its contract. The invariant: those of the first variables listed that break nothing are picked. The measure is what is left.
+-- `free_of` meets its contract. The invariant: those of the first variables listed that break nothing are picked.
 -- Assumes nothing.
 use Prim.Native.Nat.{◌-◌, ◌≤◌}
 use mathlib.Core.List.{[]}
@@ -11,7 +11,4 @@ use Rattle.picks.proofs.free_of.Given as goal
 
 abbrev pub invariant-loop-i : goal.invariant-loop-i
 invariant-loop-i l =
-    (l.first ≤ l.i) × (l.i ≤ l.end) × Picked (with_break (plan_of_tables l.tables l.terms) (lent_bits l.tables l.terms l.assignment) 0 (take (l.i - l.first) (choosable (plan_of_tables l.tables l.terms) (get_or (plan_of_tables l.tables l.terms).clauses l.c [])))) l.initial.marks l.marks l.count
-
-abbrev pub decreases-loop-i : goal.decreases-loop-i
-decreases-loop-i l = l.end - l.i
+    (l.initial.i ≤ l.i) × (l.i ≤ l.i-end) × Picked (with_break (plan_of_tables l.tables l.terms) (lent_bits l.tables l.terms l.assignment) 0 (take (l.i - l.initial.i) (choosable (plan_of_tables l.tables l.terms) (get_or (plan_of_tables l.tables l.terms).clauses l.c [])))) l.initial.marks l.marks l.count

@@ -1,37 +1,34 @@
 -- `free_one` meets its contract: the hint alone changes, or a pick comes behind the others.
 -- Assumes nothing.
-use Prim.Native.Nat.{◌+◌, ◌≤◌}
+use Prim.Native.Nat.{ℕ, ◌+◌, ◌≤◌}
 use native.Mathlib.Omega.{arith}
-use mathlib.Core.Path.{sym, ap, ◌∙◌}
+use mathlib.Core.Path.{◌≡◌, sym, ap, ◌∙◌}
+use mathlib.Core.List.{List}
 use lib.Dec.{eqb}
 use borrow.Author.Tests.{not-true, not-false}
 use Rattle.plpb.specs.Count.{capped_break}
+use Rattle.words.specs.Words.{word_at}
 use Rattle.words.proofs.Writes.{word_wrote}
 use Rattle.format.specs.Tables.{plan_of_tables}
 use Rattle.effects.specs.Kept.{lent_bits}
 use Rattle.effects.proofs.Runs.{going_few}
+use Rattle.picks.specs.Picks.{Triable}
 use Rattle.picks.proofs.Noting.{tried_not, tried_so}
-use Rattle.picks.proofs.free_one.Goals.{After-slice_known-3-1, After-write_word-arg-1, Then-not-is_free}
 use Rattle.picks.proofs.free_one.Goals as goal
 
-few_2 : (c : Then-not-is_free) → (1 ≤ c.index-x.result) × (c.index-x.result ≤ 512)
-few_2 c = (omega (arith, c.index-x.ensures, c.requires.going.low), omega (arith, c.index-x.ensures, going_few c.requires.going))
-
-few_3 : (c : After-slice_known-3-1) → (1 ≤ c.index-x.result) × (c.index-x.result ≤ 512)
-few_3 c = (omega (arith, c.index-x.ensures, c.requires.going.low), omega (arith, c.index-x.ensures, going_few c.requires.going))
-
-few_4 : (c : After-write_word-arg-1) → (1 ≤ c.index-x.result) × (c.index-x.result ≤ 512)
-few_4 c = (omega (arith, c.index-x.ensures, c.requires.going.low), omega (arith, c.index-x.ensures, going_few c.requires.going))
+-- The variable is one of the plan's.
+few : {tables terms assignment tallies marks : List ℕ} {i count x : ℕ} → Triable tables terms assignment tallies marks i count → x ≡ word_at marks i → (1 ≤ x) × (x ≤ 512)
+few y e = (omega (arith, e, y.going.low), omega (arith, e, going_few y.going))
 
 pub returns-then-not-is_free : goal.returns-then-not-is_free
 returns-then-not-is_free c =
-    let x = few_2 c in
+    let x = few c.requires c.index-x.ensures in
     let same = ap (λ x. eqb (capped_break (plan_of_tables c.args.tables.now c.args.terms.now) (lent_bits c.args.tables.now c.args.terms.now c.args.assignment.now) x) 0) c.index-x.ensures in
     tried_not c.is_free.ensures.1 x.0 x.1 c.requires.going.kept.weighed.room _ (sym same ∙ sym c.is_free.ensures.0 ∙ not-true _ c.if-not-is_free.true-raw)
 
 pub returns : goal.returns
 returns c =
-    let x = few_3 c in
+    let x = few c.requires c.index-x.ensures in
     let hint = c.is_free.ensures.1 in
     let same = ap (λ x. eqb (capped_break (plan_of_tables c.args.tables.now c.args.terms.now) (lent_bits c.args.tables.now c.args.terms.now c.args.assignment.now) x) 0) c.index-x.ensures in
     tried_so hint x.0 x.1 c.requires.going.kept.weighed.room c.args.count (sym same ∙ sym c.is_free.ensures.0 ∙ not-false _ c.if-not-is_free.false-raw)
@@ -41,7 +38,7 @@ returns c =
 pub shape_of-marks : goal.shape_of-marks
 shape_of-marks c =
     let hint = c.is_free.ensures.1 in
-    (word_wrote (1_152 + c.args.count) c.narrow.result _ _ (omega (arith, c.requires.few, hint.size, c.requires.going.kept.weighed.room)) (omega (arith, c.narrow.ensures, (few_3 c).1)) c.write_word.ensures).size ∙ hint.size
+    (word_wrote (1_152 + c.args.count) c.narrow.result _ _ (omega (arith, c.requires.few, hint.size, c.requires.going.kept.weighed.room)) (omega (arith, c.narrow.ensures, (few c.requires c.index-x.ensures).1)) c.write_word.ensures).size ∙ hint.size
 
 pub index-x-requires : goal.index-x-requires
 index-x-requires c = c.requires.inside
@@ -56,7 +53,7 @@ pub overflow_add-count : goal.overflow_add-count
 overflow_add-count c = omega (arith, c.requires.few)
 
 pub narrow-requires : goal.narrow-requires
-narrow-requires c = omega (arith, (few_4 c).1)
+narrow-requires c = omega (arith, (few c.requires c.index-x.ensures).1)
 
 pub write_word-requires : goal.write_word-requires
 write_word-requires c = omega (arith, c.requires.few, c.is_free.ensures.1.size, c.requires.going.kept.weighed.room)
