@@ -11,11 +11,12 @@ ghost use Rattle.picking.specs.Outcome.{Chooses};
 ghost use Rattle.skc.specs.Choosing.{of_clause, lent_try, ToChoose};
 
 use novelty::choose_novelty;
+use numbers::Short;
 use picking::Chosen;
 use settings::Settings;
 use skc::choose;
 
-// Of the marks only hints and picks change.
+// Of the marks only hints and picks change. The heuristic stays the number that the C interface takes.
 pub fn choose_in(
     tables: &[u8],
     terms: &[u8],
@@ -26,7 +27,7 @@ pub fn choose_in(
     numbers: &[u8],
     used: usize,
     s: Settings,
-) -> Chosen
+) -> Result<Chosen, Short>
     requires { ToChoose tables.now terms.now assignment.now tallies.now marks.old c numbers.now used }
     ensures { Chooses
         (choice_by (heuristic_of s.heuristic) (settings_of s) (plan_of_tables tables.now terms.now)

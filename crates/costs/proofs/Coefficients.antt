@@ -102,45 +102,40 @@ floor_summed tables =
 
 -- ---- summing up one after the other
 
--- With i of n numbers added, each of size a million at most.
-pub record Running (g : ℕ → ℤ) (n : ℕ) (sum : ℤ) (i : ℕ) : Type 0 where
-  pub within : i ≤ n
-  pub summed : sum +ℤ sum_from g i (n - i) ≡ sum_from g 0 n
-  pub small : nat_abs sum ≤ 1_000_000 * i
+-- With i of n numbers added, the others make up what is missing.
+abbrev pub Summed : (ℕ → ℤ) → ℕ → ℤ → ℕ → Type 0
+Summed g n sum i = sum +ℤ sum_from g i (n - i) ≡ sum_from g 0 n
 
 module _ (g : ℕ → ℤ) (n : ℕ) where
-  pub running_none : Running g n (pos 0) 0
-  running_none = record { within = omega arith; summed = rw (+ℤ_idl _) (ap (sum_from g 0) (omega arith)); small = omega arith }
+  pub summed_none : Summed g n (pos 0) 0
+  summed_none = rw (+ℤ_idl _) (ap (sum_from g 0) (omega arith))
 
-  pub running_more : (sum : ℤ) (i : ℕ) → i < n → nat_abs (g i) ≤ 1_000_000 → Running g n sum i → Running g n (sum +ℤ g i) (i + 1)
+  pub summed_more : (sum : ℤ) (i : ℕ) → i < n → Summed g n sum i → Summed g n (sum +ℤ g i) (i + 1)
   unfolding sum_from
-  running_more sum i h l r =
+  summed_more sum i h r =
       let k : n - i ≡ suc (n - suc i) = omega arith in
-      let e : sum +ℤ (g i +ℤ sum_from g (suc i) (n - suc i)) ≡ sum_from g 0 n = rw (k, sum_from) at r.summed in
-      record { within = omega arith; summed = rw (add-one i) (+ℤ_assoc sum (g i) _ ∙ e); small = omega (arith, r.small, size_sum sum (g i)) }
+      let e : sum +ℤ (g i +ℤ sum_from g (suc i) (n - suc i)) ≡ sum_from g 0 n = rw (k, sum_from) at r in
+      rw (add-one i) (+ℤ_assoc sum (g i) _ ∙ e)
 
-  running_size : (sum : ℤ) (i : ℕ) → i < n → n ≤ 512 → nat_abs (g i) ≤ 1_000_000 → Running g n sum i → nat_abs (sum +ℤ g i) ≤ 512_000_000
-  running_size sum i h m l r = omega (arith, r.small, size_sum sum (g i))
-
-  pub running_all : (sum : ℤ) (i : ℕ) → n ≤ i → Running g n sum i → sum ≡ sum_from g 0 n
+  pub summed_all : (sum : ℤ) (i : ℕ) → n ≤ i → Summed g n sum i → sum ≡ sum_from g 0 n
   unfolding sum_from
-  running_all sum i h r =
+  summed_all sum i h r =
       let k : n - i ≡ 0 = omega arith in
-      sym (+ℤ_idr sum) ∙ (rw (k, sum_from) at r.summed)
+      sym (+ℤ_idr sum) ∙ (rw (k, sum_from) at r)
 
--- One step as the machine takes it: r is the number that was worked out, `sum` the sum's bits.
-module _
-    (g : ℕ → ℤ) (n sum i : ℕ) (r : ℤ) (high : n ≤ 512) (h : i < n) (f : SFits w64 r) (is : r ≡ g i) (small : nat_abs (g i) ≤ 1_000_000)
-    (run : Running g n (to_z w64 sum) i)
-  where
-    added : to_z w64 sum +ℤ to_z w64 (of_z w64 r) ≡ to_z w64 sum +ℤ g i
-    added = ap (λ z. to_z w64 sum +ℤ z) (to_z-of_z f ∙ is)
+-- One step as the machine takes it, with numbers of size a million at most: r is the number that was worked out, `sum` the sum's bits.
+module _ (n sum i : ℕ) (r : ℤ) (high : n ≤ 512) (h : i < n) (f : SFits w64 r) (small : nat_abs r ≤ 1_000_000) (low : nat_abs (to_z w64 sum) ≤ 1_000_000 * i) where
+  added : to_z w64 sum +ℤ to_z w64 (of_z w64 r) ≡ to_z w64 sum +ℤ r
+  added = ap (λ z. to_z w64 sum +ℤ z) (to_z-of_z f)
 
-    pub step_fits : SFits w64 (to_z w64 sum +ℤ to_z w64 (of_z w64 r))
-    step_fits = rw added (small_fits _ (omega (arith, running_size g n (to_z w64 sum) i h high small run)))
+  step_fits : SFits w64 (to_z w64 sum +ℤ to_z w64 (of_z w64 r))
+  step_fits = rw added (small_fits _ (omega (arith, low, small, size_sum (to_z w64 sum) r)))
 
-    pub step_running : Running g n (to_z w64 (of_z w64 (to_z w64 sum +ℤ to_z w64 (of_z w64 r)))) (i + 1)
-    step_running = rw (to_z-of_z step_fits, added) (running_more g n (to_z w64 sum) i h small run)
+  pub step_is : to_z w64 (of_z w64 (to_z w64 sum +ℤ to_z w64 (of_z w64 r))) ≡ to_z w64 sum +ℤ r
+  step_is = to_z-of_z step_fits ∙ added
+
+  pub step_small : nat_abs (to_z w64 (of_z w64 (to_z w64 sum +ℤ to_z w64 (of_z w64 r)))) ≤ 1_000_000 * (i + 1)
+  step_small = rw step_is (omega (arith, low, small, size_sum (to_z w64 sum) r))
 
 -- How large the numbers are.
 pub share_small : (tables bytes : List ℕ) (i : ℕ) → nat_abs (weight_at tables i) ≤ 1_000_000 → nat_abs (share_at tables bytes i) ≤ 1_000_000

@@ -1,27 +1,20 @@
 // What an assignment costs, and l(O), from the coefficients in the table: one pass over the variables.
 #![tactic(auto)]
 
-ghost use Rattle.std.specs.Prelude.{◌≡◌, ◌+◌, ◌*◌, ◌≤◌, ◌<◌, cond, eqb, pos, length};
+ghost use Rattle.std.specs.Prelude.{◌≡◌, ℕ, ℤ, nat_abs, ◌+◌, ◌*◌, ◌≤◌, ◌<◌, cond, eqb, pos, length};
 ghost use Rattle.plpb.specs.Plan.{negative_part};
 ghost use Rattle.words.specs.Words.{word_at};
 ghost use Rattle.format.specs.Assignment.{bits_of};
-ghost use Rattle.format.specs.Limits.{max_variables};
+ghost use Rattle.format.specs.Limits.{max_variables, max_weight};
 ghost use Rattle.format.specs.Layout.{table_size};
-ghost use Rattle.costs.specs.Sums.{cost_in, floor_in, weight_at, share_at, least_by, least_at, Summable};
-
-// A signed number in 64 bits.
-fn wide(v: i32) -> i64
-    ensures { result ≡ v }
-{
-    v as i64
-}
+ghost use Rattle.costs.specs.Sums.{cost_in, floor_in, weight_at, share_at, least_by, least_at, sum_from, Summable};
 
 // The coefficient of variable i + 1, 0 where it has none.
 fn coefficient(tables: &[u8], i: usize) -> i64
     requires { 4 * (4 + i) + 4 ≤ length tables.now }
     ensures { result ≡ weight_at tables.now i }
 {
-    wide(words::read_i32(tables, 4 * (4 + i)))
+    i64::from(words::read_i32(tables, 4 * (4 + i)))
 }
 
 // A weight where its variable's byte is 1. The weight is read first: then the machine chooses without a jump.
@@ -46,17 +39,15 @@ fn negative(weight: i64) -> i64
     if weight < 0 { weight } else { 0 }
 }
 
-// .. or what it costs at the value that it is locked at: 0 for free, 1 for locked at 0, 2 for locked at 1.
+// .. or what it costs at the value that it is locked at: 0 for free, 1 for locked at 0, 2 for locked at 1, a number of the bytes that C lends.
 fn least_by(lock: usize, weight: i64) -> i64
     ensures { result ≡ least_by lock weight }
 {
-    if lock == 0 {
-        return negative(weight);
+    match lock {
+        0 => negative(weight),
+        1 => 0,
+        _ => weight,
     }
-    if lock == 1 {
-        return 0;
-    }
-    weight
 }
 
 fn least(tables: &[u8], i: usize) -> i64
@@ -69,19 +60,32 @@ fn least(tables: &[u8], i: usize) -> i64
     )
 }
 
+// The sum of what each of n variables counts.
+fn total<F: Fn(usize) -> i64>(n: usize, part: F) -> i64
+    requires few { n ≤ max_variables }
+    requires callable { (i : ℕ) → i < n → F.pre part i }
+    requires small { (i : ℕ) (r : ℤ) → i < n → F.post part i r → nat_abs r ≤ max_weight }
+    ensures { (g : ℕ → ℤ) → ((i : ℕ) (r : ℤ) → i < n → F.post part i r → r ≡ g i) → result ≡ sum_from g 0 n }
+{
+    let mut sum: i64 = 0;
+    for i in 0..n {
+        sum += part(i);
+    }
+    sum
+}
+
 // What an assignment costs.
 pub fn cost(tables: &[u8], assignment: &[u8]) -> i64
     requires { Summable tables.now × (word_at tables.now 0 ≤ length assignment.now) }
     ensures { result ≡ cost_in tables.now (bits_of (word_at tables.now 0) assignment.now) }
 {
-    let n = words::index(tables, 0);
-    let mut sum: i64 = 0;
-    let mut i = 0;
-    while i < n {
-        sum += share(tables, assignment, i);
-        i += 1;
-    }
-    sum
+    total(
+        words::index(tables, 0),
+        |i|
+            requires { (4 * (4 + i) + 4 ≤ length tables.now) × (i < length assignment.now) }
+            ensures { result ≡ share_at tables.entry.now assignment.entry.now i }
+        { share(tables, assignment, i) },
+    )
 }
 
 // l(O)
@@ -89,12 +93,11 @@ pub fn floor_cost(tables: &[u8]) -> i64
     requires { Summable tables.now }
     ensures { result ≡ floor_in tables.now }
 {
-    let n = words::index(tables, 0);
-    let mut sum: i64 = 0;
-    let mut i = 0;
-    while i < n {
-        sum += least(tables, i);
-        i += 1;
-    }
-    sum
+    total(
+        words::index(tables, 0),
+        |i|
+            requires { (i < max_variables) × (table_size ≤ length tables.now) }
+            ensures { result ≡ least_at tables.entry.now i }
+        { least(tables, i) },
+    )
 }

@@ -9,9 +9,9 @@ ghost use Rattle.lending.specs.Work.{work};
 ghost use Rattle.progress.specs.Bounds.{basis, Room, Tracks, UnderBound, Descent};
 
 use objective::added::set_bound;
-use progress::{Called, Progress, bound_for, keep_find};
+use progress::{Halt, Progress, bound_for, keep_find};
 use settings::Settings;
-use tries::{Tried, call};
+use tries::{Spent, Unreached, call};
 
 // One call with the added clause O ≤ bound, which replaces the one before.
 fn call_under(
@@ -25,7 +25,7 @@ fn call_under(
     tried: &mut [u8],
     tallies: &mut [u8],
     marks: &mut [u8],
-) -> Called
+) -> Result<Progress, Halt>
     requires { Room (basis tables.old terms.now) tables.old terms.now assignment.old (work tried.old tallies.old marks.old)
         × Tracks (basis tables.old terms.now) numbers.now assignment.old at × (nat_abs bound ≤ max_bound) }
     ensures { UnderBound (settings_of s) bound tables.old terms.now numbers.now at result tables.new
@@ -34,28 +34,23 @@ fn call_under(
         (work tried.new tallies.new marks.new) }
 {
     set_bound(tables, bound);
-    let t = call(
-        tables, terms, numbers, at.used, at.flips, s, tried, tallies, marks,
-    );
-    match t {
-        Tried::Reached(used, flips) => Called::Found(Progress {
+    let begun = Spent {
+        used: at.used,
+        flips: at.flips,
+    };
+    match call(tables, terms, numbers, begun, s, tried, tallies, marks) {
+        Ok(Spent { used, flips }) => Ok(Progress {
             cost: keep_find(tables, tried, assignment),
             finds: at.finds + 1,
             flips,
             used,
         }),
-        Tried::Failed(used, flips) => Called::Failed(Progress {
-            cost: at.cost,
-            finds: at.finds,
-            flips,
-            used,
-        }),
-        Tried::Short(used, flips) => Called::Short(Progress {
-            cost: at.cost,
-            finds: at.finds,
-            flips,
-            used,
-        }),
+        Err(Unreached::Failed(Spent { used, flips })) => {
+            Err(Halt::Failed(Progress { flips, used, ..at }))
+        }
+        Err(Unreached::Short(Spent { used, flips })) => {
+            Err(Halt::Short(Progress { flips, used, ..at }))
+        }
     }
 }
 
@@ -72,7 +67,7 @@ pub fn descend(
     tried: &mut [u8],
     tallies: &mut [u8],
     marks: &mut [u8],
-) -> Called
+) -> Result<Progress, Halt>
     requires { Room (basis tables.old terms.now) tables.old terms.now assignment.old (work tried.old tallies.old marks.old)
         × Tracks (basis tables.old terms.now) numbers.now assignment.old from × (floor ≡ floor_cost (basis tables.old terms.now)) }
     ensures { Descent (settings_of s) (mode_of mode) tables.old terms.now numbers.now from result tables.new
@@ -82,7 +77,7 @@ pub fn descend(
 {
     let mut at = from;
     while floor < at.cost {
-        let c = call_under(
+        at = call_under(
             tables,
             terms,
             numbers,
@@ -93,11 +88,7 @@ pub fn descend(
             tried,
             tallies,
             marks,
-        );
-        let Called::Found(next) = c else {
-            return c;
-        };
-        at = next;
+        )?;
     }
-    Called::Found(at)
+    Ok(at)
 }

@@ -3,11 +3,9 @@
 use Prim.Native.Nat.{ℕ, zero, suc, ◌+◌, ◌-◌, ◌≤◌, ◌<◌}
 use native.Mathlib.Omega.{arith}
 use mathlib.Core.Path.{◌≡◌, refl, sym, ap, ap₂, ◌∙◌, subst}
-use mathlib.Core.Bool.{Bool, true, false, true≢false}
+use mathlib.Core.Bool.{Bool, true, false}
 use mathlib.Core.List.{List, [], ◌∷◌, ◌++◌}
 use lib.Dec.{T}
-use types.Run.{OneOf, miss}
-use denote.Enum.Declared.{tag_of}
 use lib.IntN.{ℤ, nat_abs}
 use lib.ListN.{length, take, drop, length-append}
 use lib.Seq.{length-take-le, drop_at}
@@ -42,14 +40,15 @@ use Rattle.tallies.proofs.Bits.{whole_bytes}
 use Rattle.recount.proofs.Callers.{held_laid}
 use Rattle.numbers.specs.Numbers.{numbers_of}
 use Rattle.numbers.proofs.Runs.{descending_none, descending_floor, search_none, search_found, search_short}
-use Rattle.tries.specs.declared.Tried.{Tried}
-use Rattle.tries.specs.contracts.Tried.{the_type}
-use Rattle.tries.specs.declared.Tried.TheVariants as tried
+use Rattle.std.specs.Prelude.{Result, Ok, Err}
+use Rattle.tries.specs.declared.Spent.{Spent}
+use Rattle.tries.specs.declared.Unreached.{Unreached}
+use Rattle.tries.specs.declared.Unreached.TheVariants as reason
 use Rattle.progress.specs.declared.Progress.{Progress}
 use Rattle.progress.specs.declared.Ending.TheVariants as code
 use Rattle.progress.specs.declared.Searched.{Searched}
 use Rattle.lending.specs.Work.{Work, Beyond}
-use Rattle.tries.specs.Steps.{Startable, tried_of, used_by, flips_by, IfReached, Tries}
+use Rattle.tries.specs.Steps.{Startable, tried_of, spent_by, IfReached, Tries}
 use Rattle.progress.specs.Bounds.{basis, Bounded, Tracks, Room, Leaves, answer_of, ending_of, Concludes}
 use Rattle.finds.specs.Whole.{with_find, CallsFirst, Copyable, Empty, FirstCall, Roomy, FirstFind, FromFind, Searchable, Unfound, Whole}
 use Rattle.progress.proofs.Bounds.{bounded_basis, front_bits, front_are_bits, front_beyond}
@@ -325,30 +324,18 @@ beyond_both : {n : ℕ} {w v u : Work} → Beyond n w v → Beyond n v u → Bey
 beyond_both a b =
     record { assignment = b.assignment ∙ a.assignment; tallies = b.tallies ∙ a.tallies; marks = b.marks ∙ a.marks }
 
-unfoldable pub is_reached : Tried → Bool
-is_reached (tried.Reached used flips) = true
-is_reached (tried.Failed used flips) = false
-is_reached (tried.Short used flips) = false
-
--- What is left where the code has told a find apart.
-pub not_reached : (t : Tried) → OneOf (1 ∷ 2 ∷ []) (tag_of the_type t) → is_reached t ≡ false
-unfolding is_reached
-not_reached (tried.Reached used flips) k = absurd (miss (1 ∷ 2 ∷ []) 0 tt k)
-not_reached (tried.Failed used flips) k = refl
-not_reached (tried.Short used flips) k = refl
-
 -- By what the first call came to.
-module _ {s : Settings} {tables terms numbers : List ℕ} {t : Tried} {assignment : List ℕ} {w : Work} (h : FirstCall s tables terms numbers t assignment w) where
+module _ {s : Settings} {tables terms numbers : List ℕ} {t : Result Spent Unreached} {assignment : List ℕ} {w : Work} (h : FirstCall s tables terms numbers t assignment w) where
   abbrev plan : Plan
   plan = plan_of_tables tables terms
 
-  told_as : (x : Tried) → t ≡ x → FirstCall s tables terms numbers x assignment w
+  told_as : (x : Result Spent Unreached) → t ≡ x → FirstCall s tables terms numbers x assignment w
   told_as x e = subst (λ y. FirstCall s tables terms numbers y assignment w) e h
 
-  pub call_first : {used flips : ℕ} → t ≡ tried.Reached used flips → FirstFind tables terms numbers used flips assignment w
-  unfolding IfReached used_by flips_by tried_of
-  call_first {used} {flips} e =
-      let k = told_as (tried.Reached used flips) e in
+  pub call_first : {d : Spent} → t ≡ Ok d → FirstFind tables terms numbers d.used d.flips assignment w
+  unfolding IfReached spent_by tried_of
+  call_first {d} e =
+      let k = told_as (Ok d) e in
       record {
         lawful = h.lawful;
         holds = h.holds;
@@ -361,24 +348,23 @@ module _ {s : Settings} {tables terms numbers : List ℕ} {t : Tried} {assignmen
         within = k.within;
       }
 
-  pub call_found : {used flips : ℕ} {r : Searched} {exit : List ℕ} {u : Work} → t ≡ tried.Reached used flips
-      → FromFind s tables terms numbers used flips r assignment exit w u → Whole s (plan_of_tables tables terms) numbers r assignment exit w u
+  pub call_found : {d : Spent} {r : Searched} {exit : List ℕ} {u : Work} → t ≡ Ok d
+      → FromFind s tables terms numbers d.used d.flips r assignment exit w u → Whole s (plan_of_tables tables terms) numbers r assignment exit w u
   unfolding tried_of search begin
-  call_found {used} {flips} {r} {exit} {u} e z =
-      let k = told_as (tried.Reached used flips) e in
+  call_found {d} {r} {exit} {u} e z =
+      let k = told_as (Ok d) e in
       let found : search s plan (numbers_of numbers) ≡ answer_of r.ending r.progress (reached (bits_of plan.variables exit)) =
       ap (conclude plan) (search_found s plan (numbers_of numbers) begin (k.outcome [])) ∙ z.answers in
       found_whole s plan numbers r found z.find z.beyond
 
   -- It reached nothing.
-  pub call_empty : {r : Searched} → (x : Tried) → t ≡ x → is_reached x ≡ false → Empty x r → Whole s (plan_of_tables tables terms) numbers r assignment assignment w w
-  unfolding tried_of begin is_reached Empty
-  call_empty (tried.Reached used flips) e n z = absurd (true≢false n)
-  call_empty {r} (tried.Failed used flips) e n z =
-      let k = told_as (tried.Failed used flips) e in
+  pub call_empty : {r : Searched} → (why : Unreached) → t ≡ Err why → Empty why r → Whole s (plan_of_tables tables terms) numbers r assignment assignment w w
+  unfolding tried_of begin Empty
+  call_empty {r} (reason.Failed d) e z =
+      let k = told_as (Err (reason.Failed d)) e in
       empty_whole s plan numbers r (none_answer s plan numbers r (search_none s plan (numbers_of numbers) begin (k.outcome [])) z) unchanged
-  call_empty {r} (tried.Short used flips) e n z =
-      let k = told_as (tried.Short used flips) e in
+  call_empty {r} (reason.Short d) e z =
+      let k = told_as (Err (reason.Short d)) e in
       empty_whole s plan numbers r (short_answer s plan numbers r (search_short s plan (numbers_of numbers) begin (k.outcome [])) z) unchanged
 
 -- The work tables hold the plan once it is copied.
@@ -415,7 +401,7 @@ module _ {plan planTerms tables terms : List ℕ} {w : Work} (h : Copyable plan 
         }
 
 -- What the first call leaves, and the whole from there.
-module _ {s : Settings} {plan planTerms numbers : List ℕ} {t : Tried} {tables tables' terms terms' : List ℕ} {w v : Work} (h : Copyable plan planTerms tables terms w)
+module _ {s : Settings} {plan planTerms numbers : List ℕ} {t : Result Spent Unreached} {tables tables' terms terms' : List ℕ} {w v : Work} (h : Copyable plan planTerms tables terms w)
     (c : CallsFirst s plan planTerms numbers t tables tables' terms terms' w v)
   where
     read_again : plan_of_tables tables' terms' ≡ plan_of_tables plan planTerms

@@ -1,6 +1,6 @@
 -- What the whole search needs of tables that passed its tests, and what it answers and leaves before the work tables are cleared.
 -- Assumes nothing.
-use Rattle.std.specs.Prelude.{ℕ, ◌/◌, ◌≤◌, ◌≡◌, List, [], ◌∷◌, ◌++◌, T, pos, length, take, drop}
+use Rattle.std.specs.Prelude.{ℕ, ◌/◌, ◌≤◌, ◌≡◌, List, [], ◌∷◌, ◌++◌, T, pos, length, take, drop, Result}
 use Rattle.plpb.specs.Lists.{◌or◌}
 use Rattle.plpb.specs.Plan.{Plan, Assignment, obeys}
 use Rattle.plpb.specs.Walk.{run}
@@ -16,8 +16,9 @@ use Rattle.progress.specs.declared.Ending.TheVariants as code
 use Rattle.progress.specs.declared.Searched.{Searched}
 use Rattle.columns.specs.Layout.{column_size, kept_size}
 use Rattle.format.specs.Assignment.{bit_bytes}
-use Rattle.tries.specs.declared.Tried.{Tried}
-use Rattle.tries.specs.declared.Tried.TheVariants as tried
+use Rattle.tries.specs.declared.Spent.{Spent}
+use Rattle.tries.specs.declared.Unreached.{Unreached}
+use Rattle.tries.specs.declared.Unreached.TheVariants as unreached
 use Rattle.lending.specs.Work.{Work, Beyond}
 use Rattle.tries.specs.Steps.{Finds, IfReached, Tries, flips_by, tried_of, used_by}
 use Rattle.moves.specs.Moves.{bits_in}
@@ -37,10 +38,9 @@ pub record Unfound (e : EndingOf) (used flips : ℕ) (r : Searched) : Type 0 whe
   pub numbers_used : r.progress.used ≡ used
 
 -- .. by a first call: it failed, or the numbers were gone before.
-unfoldable pub Empty : Tried → Searched → Type 0
-Empty (tried.Reached used flips) r = Unfound code.None used flips r
-Empty (tried.Failed used flips) r = Unfound code.None used flips r
-Empty (tried.Short used flips) r = Unfound code.ShortNone used flips r
+unfoldable pub Empty : Unreached → Searched → Type 0
+Empty (unreached.Failed t) r = Unfound code.None t.used t.flips r
+Empty (unreached.Short t) r = Unfound code.ShortNone t.used t.flips r
 
 -- The walk's buffers have room for any plan.
 pub record Roomy (w : Work) : Type 0 where
@@ -71,7 +71,7 @@ pub record FromFind (s : Settings) (tables terms numbers : List ℕ) (used flips
   pub beyond : Beyond (plan_of_tables tables terms).variables w v
 
 -- The first call with the plan has been made, and comes to t.
-pub record FirstCall (s : Settings) (tables terms numbers : List ℕ) (t : Tried) (assignment : List ℕ) (w : Work) : Type 0 where
+pub record FirstCall (s : Settings) (tables terms numbers : List ℕ) (t : Result Spent Unreached) (assignment : List ℕ) (w : Work) : Type 0 where
   pub lawful : T (lawful (plan_of_tables tables terms))
   pub holds : Holds (plan_of_tables tables terms) tables terms
   pub room : assignment_size ≤ length assignment
@@ -92,7 +92,7 @@ pub record Copyable (tables terms work_tables work_terms : List ℕ) (w : Work) 
   pub work : Roomy w
 
 -- The plan is copied, and the first call with it comes to t.
-pub record CallsFirst (s : Settings) (plan planTerms numbers : List ℕ) (t : Tried) (tables tables' terms terms' : List ℕ) (w v : Work) : Type 0 where
+pub record CallsFirst (s : Settings) (plan planTerms numbers : List ℕ) (t : Result Spent Unreached) (tables tables' terms terms' : List ℕ) (w v : Work) : Type 0 where
   pub copied : tables' ≡ take table_size plan ++ drop table_size tables
   pub copied_terms : terms' ≡ take term_size planTerms ++ drop term_size terms
   pub called : Tries (call s (plan_of_tables tables' terms')) tables' terms' numbers 0 0 1 t w v

@@ -4,29 +4,28 @@
 ghost use Rattle.finds.specs.Whole.{Empty, Unfound};
 
 use progress::{Ending, Progress, Searched};
-use tries::Tried;
+use tries::{Spent, Unreached};
 
-fn empty(ending: Ending, used: usize, flips: usize) -> Searched
-    ensures { Unfound ending used flips result }
+fn empty(ending: Ending, spent: Spent) -> Searched
+    ensures { Unfound ending spent.used spent.flips result }
 {
     Searched {
         ending,
         progress: Progress {
             cost: 0,
             finds: 0,
-            flips,
-            used,
+            flips: spent.flips,
+            used: spent.used,
         },
     }
 }
 
 // The answer of a first call that found nothing.
-pub fn nothing(t: Tried) -> Searched
-    ensures { Empty t result }
+pub fn nothing(why: Unreached) -> Searched
+    ensures { Empty why result }
 {
-    match t {
-        Tried::Reached(used, flips) => empty(Ending::None, used, flips),
-        Tried::Failed(used, flips) => empty(Ending::None, used, flips),
-        Tried::Short(used, flips) => empty(Ending::ShortNone, used, flips),
+    match why {
+        Unreached::Failed(spent) => empty(Ending::None, spent),
+        Unreached::Short(spent) => empty(Ending::ShortNone, spent),
     }
 }

@@ -6,7 +6,7 @@ ghost use Rattle.lending.specs.Work.{work};
 ghost use Rattle.finds.specs.Whole.{CallsFirst, Copyable};
 
 use settings::Settings;
-use tries::{Tried, call};
+use tries::{Spent, Unreached, call};
 use words::copy;
 
 // The plan is copied to the work tables, and the first call made with it.
@@ -20,7 +20,7 @@ pub fn first_call(
     tried: &mut [u8],
     tallies: &mut [u8],
     marks: &mut [u8],
-) -> Tried
+) -> Result<Spent, Unreached>
     requires { Copyable plan.now plan_terms.now tables.old terms.old (work tried.old tallies.old marks.old) }
     ensures { CallsFirst (settings_of s) plan.now plan_terms.now numbers.now result
         tables.old tables.new terms.old terms.new
@@ -29,5 +29,6 @@ pub fn first_call(
 {
     copy(plan, tables, format::TABLES);
     copy(plan_terms, terms, format::TERMS);
-    call(tables, terms, numbers, 0, 0, s, tried, tallies, marks)
+    let begun = Spent { used: 0, flips: 0 };
+    call(tables, terms, numbers, begun, s, tried, tallies, marks)
 }

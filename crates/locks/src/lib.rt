@@ -6,17 +6,15 @@ ghost use Rattle.format.specs.Limits.{max_variables};
 ghost use Rattle.format.specs.Layout.{table_size};
 ghost use Rattle.locks.specs.Held.{held_by, held_bytes};
 
-// A byte under the word of its variable's lock: 0 for free, 1 for locked at 0, 2 for locked at 1.
+// A byte under the word of its variable's lock: 0 for free, 1 for locked at 0, 2 for locked at 1. The word stays a number of the bytes that C lends.
 fn held(lock: usize, byte: u8) -> u8
     ensures { result ≡ held_by lock byte }
 {
-    if lock == 0 {
-        return byte;
+    match lock {
+        0 => byte,
+        1 => 0,
+        _ => 1,
     }
-    if lock == 1 {
-        return 0;
-    }
-    1
 }
 
 // Gives each locked one of n variables its value.
@@ -24,9 +22,7 @@ pub fn hold_locks(tables: &[u8], n: usize, assignment: &mut [u8])
     requires { (n ≤ max_variables) × (n ≤ length assignment.old) × (table_size ≤ length tables.now) }
     ensures { assignment.new ≡ held_bytes tables.now n assignment.old }
 {
-    let mut i = 0;
-    while i < n {
-        assignment[i] = held(words::index(tables, format::RULES_END + i), assignment[i]);
-        i += 1;
+    for (i, byte) in assignment[..n].iter_mut().enumerate() {
+        *byte = held(words::index(tables, format::RULES_END + i), *byte);
     }
 }

@@ -34,8 +34,9 @@ use Rattle.words.specs.Writes.{Wrote}
 use Rattle.stamps.specs.Stamps.{stamp_in, Stamped}
 use Rattle.stamps.proofs.Stamping.{stamped_more}
 use Rattle.costs.proofs.Costs.{room_of}
-use Rattle.numbers.specs.declared.Picked.{Picked}
-use Rattle.numbers.specs.declared.Picked.TheVariants as picked
+use Rattle.std.specs.Prelude.{Result, Ok, Err, IsErrAnd}
+use Rattle.numbers.specs.declared.Drawn.{Drawn}
+use Rattle.numbers.specs.declared.Short.{Short}
 use Rattle.numbers.specs.Numbers.{numbers_of}
 use Rattle.numbers.specs.Taking.{taken_of}
 use Rattle.numbers.specs.Finding.{zero_words}
@@ -43,15 +44,14 @@ use Rattle.numbers.proofs.Taking.{length_numbers_of, picked_at, picked_short, pl
 use Rattle.numbers.proofs.Finding.{clause_found, clause_within}
 use Rattle.numbers.proofs.Runs.{bind_ends, bind_short, pick_from_taken, pick_from_short, empty_by_length, turning_stuck, turning_made, turning_short}
 use Rattle.picking.specs.declared.Chosen.{Chosen}
-use Rattle.picking.specs.declared.Chosen.TheVariants as chosen
 use Rattle.picking.specs.Outcome.{outcome_of, used_by, Among, Chooses}
 use Rattle.columns.specs.Layout.{column_size, kept_size, list_count_at, hint_at, weight_at}
 use Rattle.columns.proofs.Marks.{Behind, dropped_behind, dropped_more, behind_more, wrote_behind, weighed_behind, listed_behind}
 use Rattle.keeping.specs.Flip.{Keepable, Kept}
 use Rattle.skc.specs.Choosing.{ToChoose}
 use Rattle.picks.specs.Picks.{Noted}
-use Rattle.moves.specs.declared.Moved.{Moved}
-use Rattle.moves.specs.declared.Moved.TheVariants as moved
+use Rattle.moves.specs.declared.Unmoved.{Unmoved}
+use Rattle.moves.specs.declared.Unmoved.TheVariants as unmoved
 use Rattle.lending.specs.Work.{Work}
 use Rattle.moves.specs.Moves.{bits_in, try_in, Prepared, Walking, moved_of, used_in, IfMade, InClause, Moves}
 use Rattle.format.specs.Layout.{clause_room, holding_at, rule_room, unsatisfied_at, stamp_at}
@@ -90,26 +90,26 @@ noted_spared {s} {t} n = record {
 
 -- ---- a variable of the clause is chosen and flipped
 
-module _ {walk : Walk ℕ} {ns : List ℕ} {used n : ℕ} {r : Chosen} (h : Chooses walk ns used n r) where
-  module _ {x after : ℕ} (e : r ≡ chosen.At x after) where
-    pub chosen_among : (1 ≤ x) × (x ≤ n)
+module _ {walk : Walk ℕ} {ns : List ℕ} {used n : ℕ} {r : Result Chosen Short} (h : Chooses walk ns used n r) where
+  module _ {x : Chosen} (e : r ≡ Ok x) where
+    pub chosen_among : (1 ≤ x.variable) × (x.variable ≤ n)
     unfolding Among
     chosen_among = subst (Among n) e h.among
 
-    pub chosen_uses : (used ≤ after) × (after ≤ length ns)
+    pub chosen_uses : (used ≤ x.used) × (x.used ≤ length ns)
     unfolding used_by
-    chosen_uses = let u : used_by r ≡ after = ap used_by e in (omega (arith, h.uses), omega (arith, h.within))
+    chosen_uses = let u : used_by r ≡ x.used = ap used_by e in (omega (arith, h.uses), omega (arith, h.within))
 
-    pub chosen_ends : (f : ℕ) (fs : List Assignment) → run walk ns (at used f fs) ≡ ends x (at after f fs)
+    pub chosen_ends : (f : ℕ) (fs : List Assignment) → run walk ns (at used f fs) ≡ ends x.variable (at x.used f fs)
     unfolding outcome_of
     chosen_ends f fs = h.outcome f fs ∙ ap (λ q. outcome_of q f fs) e
 
-  module _ {after : ℕ} (e : r ≡ chosen.Short after) where
-    pub gone_uses : (used ≤ after) × (after ≤ length ns)
+  module _ {z : Short} (e : r ≡ Err z) where
+    pub gone_uses : (used ≤ z.used) × (z.used ≤ length ns)
     unfolding used_by
-    gone_uses = let u : used_by r ≡ after = ap used_by e in (omega (arith, h.uses), omega (arith, h.within))
+    gone_uses = let u : used_by r ≡ z.used = ap used_by e in (omega (arith, h.uses), omega (arith, h.within))
 
-    pub gone_short : (f : ℕ) (fs : List Assignment) → run walk ns (at used f fs) ≡ short (at after f fs)
+    pub gone_short : (f : ℕ) (fs : List Assignment) → run walk ns (at used f fs) ≡ short (at z.used f fs)
     unfolding outcome_of
     gone_short f fs = h.outcome f fs ∙ ap (λ q. outcome_of q f fs) e
 
@@ -147,7 +147,7 @@ module _ {tables terms : List ℕ} (numbers : List ℕ) (used c : ℕ) {w : Work
   among = choosable q (get_or q.clauses c [])
 
   -- There is none.
-  pub stuck_in : (s : Settings) {turn : ℕ} → used ≤ length numbers / 4 → some ≡ 0 → InClause s tables terms numbers used turn c (moved.Stuck used) w w
+  pub stuck_in : (s : Settings) {turn : ℕ} → used ≤ length numbers / 4 → some ≡ 0 → InClause s tables terms numbers used turn c (Err (unmoved.Stuck used)) w w
   unfolding moved_of used_in IfMade
   stuck_in s l n =
       record {
@@ -164,7 +164,7 @@ module _ {tables terms : List ℕ} (numbers : List ℕ) (used c : ℕ) {w : Work
         beyond = record { assignment = refl; tallies = refl; marks = refl };
       }
 
-  module _ (s : Settings) (n : some ≡ 0 → ⊥) {r : Chosen}
+  module _ (s : Settings) (n : some ≡ 0 → ⊥) {r : Result Chosen Short}
       (h : Chooses (choice_by s.heuristic s (plan_of_tables tables terms) (try_in tables terms [] w) (stamp_in w.marks) (choosable (plan_of_tables tables terms) (get_or (plan_of_tables tables terms).clauses c []))) (numbers_of numbers) used (plan_of_tables tables terms).variables r)
       {marks : List ℕ} (noted : Noted w.marks marks) where
     o : Spared w.marks marks
@@ -187,13 +187,14 @@ module _ {tables terms : List ℕ} (numbers : List ℕ) (used c : ℕ) {w : Work
     behind : Behind w.marks marks
     behind = record { size = o.size; same = o.behind }
 
-    pub turned_in : {x after turn : ℕ} {v : Work} → r ≡ chosen.At x after
-        → v.assignment ≡ turned w.assignment x
-        → Kept (plan_of_tables tables terms) (bits_of (plan_of_tables tables terms).variables (turned w.assignment x)) w.tallies v.tallies
-        → Wrote (stamp_at x) (turn + 1) marks v.marks
-        → InClause s tables terms numbers used turn c (moved.Made after) w v
+    pub turned_in : {z : Chosen} {turn : ℕ} {v : Work} → r ≡ Ok z
+        → v.assignment ≡ turned w.assignment z.variable
+        → Kept (plan_of_tables tables terms) (bits_of (plan_of_tables tables terms).variables (turned w.assignment z.variable)) w.tallies v.tallies
+        → Wrote (stamp_at z.variable) (turn + 1) marks v.marks
+        → InClause s tables terms numbers used turn c (Ok z.used) w v
     unfolding moved_of used_in IfMade turn_over outcome_of
-    turned_in {x} {after} {turn} {v} e a y g =
+    turned_in {z} {turn} {v} e a y g =
+        let x = z.variable in
         let b = chosen_among h e in
         let u = chosen_uses h e in
         let few = (parts tables terms k.ready.laid).high in
@@ -205,8 +206,8 @@ module _ {tables terms : List ℕ} (numbers : List ℕ) (used c : ℕ) {w : Work
           reaches = λ flips t made. record {
             next = x ∷ flips;
             outcome = λ f fs. turning_made s q (try_in tables terms flips w) among (numbers_of numbers) (at used f fs) filled (chose flips t f fs ∙ ap (λ d. outcome_of d f fs) e)
-                ∙ ap (λ d. ends (turnedTo (record { bits = d; flips = x ∷ flips })) (at after (f + 1) fs)) (sym bits);
-            stamped = (stamped_more (record { last = λ y l z. o.stamps y l (omega (arith, z, few)) ∙ t.last y l z }) x g (omega (arith, made)), refl);
+                ∙ ap (λ d. ends (turnedTo (record { bits = d; flips = x ∷ flips })) (at z.used (f + 1) fs)) (sym bits);
+            stamped = (stamped_more (record { last = λ y l m. o.stamps y l (omega (arith, m, few)) ∙ t.last y l m }) x g (omega (arith, made)), refl);
           };
           walking = (
             record {
@@ -228,9 +229,9 @@ module _ {tables terms : List ℕ} (numbers : List ℕ) (used c : ℕ) {w : Work
           };
         }
 
-    pub gone_in : {after turn : ℕ} {v : Work} → r ≡ chosen.Short after
+    pub gone_in : {z : Short} {turn : ℕ} {v : Work} → r ≡ Err z
         → v.assignment ≡ w.assignment → v.tallies ≡ w.tallies → v.marks ≡ marks
-        → InClause s tables terms numbers used turn c (moved.Short after) w v
+        → InClause s tables terms numbers used turn c (Err (unmoved.Short z.used)) w v
     unfolding moved_of used_in IfMade outcome_of
     gone_in {v = v} e a y g =
         let u = gone_uses h e in
@@ -247,14 +248,18 @@ module _ {tables terms : List ℕ} (numbers : List ℕ) (used c : ℕ) {w : Work
           beyond = record { assignment = ap (drop q.variables) a; tallies = ap (drop kept_size) y; marks = ap (drop column_size) g ∙ o.beyond };
         }
 
+-- A `?` tells a lack of numbers on as the reason why no flip was made.
+pub told_on : (r : Result ℕ Unmoved) {z : Short} → IsErrAnd r (λ e. e ≡ unmoved.Short z.used) → r ≡ Err (unmoved.Short z.used)
+told_on (Ok x) h = absurd h
+told_on (Err e) h = ap Err h
+
 -- ---- a clause is picked by the tallies
 
 -- A flip that used no fewer numbers from a later place used more from an earlier one.
-made_more : (q : Moved) (A : Type 0) (used after : ℕ) → used + 1 ≤ after → IfMade q (A × (after + 0 ≤ used_in q)) → IfMade q (A × (used + 1 ≤ used_in q))
+made_more : (q : Result ℕ Unmoved) (A : Type 0) (used after : ℕ) → used + 1 ≤ after → IfMade q (A × (after + 0 ≤ used_in q)) → IfMade q (A × (used + 1 ≤ used_in q))
 unfolding IfMade
-made_more (moved.Made u) A v w l h = (h.0, omega (arith, h.1))
-made_more (moved.Stuck u) A v w l h = tt
-made_more (moved.Short u) A v w l h = tt
+made_more (Ok u) A v w l h = (h.0, omega (arith, h.1))
+made_more (Err e) A v w l h = tt
 
 module _ {tables terms : List ℕ} {w : Work} (k : Walking tables terms w) where
   pub tally_room : tally_size ≤ length w.tallies
@@ -281,35 +286,35 @@ module _ {tables terms : List ℕ} {w : Work} (k : Walking tables terms w) where
       let p = plan_of_tables tables terms in
       omega (arith, unsatisfied_word, count_le (unsatisfied (bits_in tables terms w)) p.clauses, clauses_few tables terms k.ready.laid, clauses_word tables terms k.ready.laid)
 
-  module _ (numbers : List ℕ) (used : ℕ) {m : ℕ} (r : Picked) (total : m ≡ word_at w.tallies unsatisfied_at) (e : taken_of r ≡ take_pick m (numbers_of numbers) used) where
+  module _ (numbers : List ℕ) (used : ℕ) {m : ℕ} (r : Result Drawn Short) (total : m ≡ word_at w.tallies unsatisfied_at) (e : taken_of r ≡ take_pick m (numbers_of numbers) used) where
     drawn_among : take_pick m (numbers_of numbers) used ≡ take_pick (length (keep (unsatisfied (bits_in tables terms w)) (plan_of_tables tables terms).clauses)) (numbers_of numbers) used
     unfolding count
     drawn_among = ap (λ j. take_pick j (numbers_of numbers) used) (total ∙ unsatisfied_word)
 
-    module _ (some : 0 < m) {j after : ℕ} (t' : r ≡ picked.At j after) {n c : ℕ} (few : n ≡ word_at tables 1) (z : c ≡ get_or (zero_words w.tallies rule_room n) j n) where
+    module _ (some : 0 < m) {d : Drawn} (t' : r ≡ Ok d) {n c : ℕ} (few : n ≡ word_at tables 1) (z : c ≡ get_or (zero_words w.tallies rule_room n) d.place n) where
       abbrev clauses : List Clause
       clauses = (plan_of_tables tables terms).clauses
 
-      place_few : j < count (unsatisfied (bits_in tables terms w)) clauses
+      place_few : d.place < count (unsatisfied (bits_in tables terms w)) clauses
       place_few = let b = place_below m (numbers_of numbers) used some (picked_at e t') in omega (arith, total, unsatisfied_word)
 
-      zero_found : c ≡ get_or (zero_words w.tallies rule_room (length clauses)) j n
-      zero_found = z ∙ ap (λ i. get_or (zero_words w.tallies rule_room i) j n) (few ∙ clauses_word tables terms k.ready.laid)
+      zero_found : c ≡ get_or (zero_words w.tallies rule_room (length clauses)) d.place n
+      zero_found = z ∙ ap (λ i. get_or (zero_words w.tallies rule_room i) d.place n) (few ∙ clauses_word tables terms k.ready.laid)
 
       pub picked_within : c < word_at tables 1
       picked_within =
           rw (clauses_word tables terms k.ready.laid)
-          (clause_within (plan_of_tables tables terms) (bits_in tables terms w) w.tallies rule_room holding_word j c n zero_found place_few)
+          (clause_within (plan_of_tables tables terms) (bits_in tables terms w) w.tallies rule_room holding_word d.place c n zero_found place_few)
 
-      pub picked_uses : (used + 1 ≤ after) × (after ≤ length numbers / 4)
+      pub picked_uses : (used + 1 ≤ d.used) × (d.used ≤ length numbers / 4)
       picked_uses = let u = pick_uses m (numbers_of numbers) used (picked_at e t') in (u.0, omega (arith, u.1, length_numbers_of numbers))
 
-      pub picked_moves : (s : Settings) {turn : ℕ} {q : Moved} {v : Work} → InClause s tables terms numbers after turn c q w v → Moves s tables terms numbers used turn q w v
+      pub picked_moves : (s : Settings) {turn : ℕ} {q : Result ℕ Unmoved} {v : Work} → InClause s tables terms numbers d.used turn c q w v → Moves s tables terms numbers used turn q w v
       unfolding move
       picked_moves s {turn} {q} {v} h =
           let p = plan_of_tables tables terms in
           let a = bits_in tables terms w in
-          let found = clause_found p a w.tallies rule_room holding_word j c n zero_found place_few in
+          let found = clause_found p a w.tallies rule_room holding_word d.place c n zero_found place_few in
           record {
             reaches = λ flips t made.
                 let r = h.reaches flips t made in
@@ -318,7 +323,7 @@ module _ {tables terms : List ℕ} {w : Work} (k : Walking tables terms w) where
                   next = r.next;
                   outcome = λ f fs. bind_ends (pick_from [] (keep (unsatisfied a) p.clauses)) (λ c. turning s p now (choosable p c)) (numbers_of numbers) (at used f fs)
                       (pick_from_taken [] (keep (unsatisfied a) p.clauses) (numbers_of numbers) (at used f fs) (sym drawn_among ∙ picked_at e t'))
-                      ∙ ap (λ d. run (turning s p now (choosable p d)) (numbers_of numbers) (at after f fs)) found ∙ r.outcome f fs;
+                      ∙ ap (λ k. run (turning s p now (choosable p k)) (numbers_of numbers) (at d.used f fs)) found ∙ r.outcome f fs;
                   stamped = r.stamped;
                 };
             walking = made_more q _ _ _ picked_uses.0 h.walking;
@@ -328,15 +333,15 @@ module _ {tables terms : List ℕ} {w : Work} (k : Walking tables terms w) where
             beyond = h.beyond;
           }
 
-    pub gone_moves : (s : Settings) {after turn : ℕ} → used ≤ length numbers / 4 → r ≡ picked.Short after
-        → Moves s tables terms numbers used turn (moved.Short after) w w
+    pub gone_moves : (s : Settings) {z : Short} {turn : ℕ} → used ≤ length numbers / 4 → r ≡ Err z
+        → Moves s tables terms numbers used turn (Err (unmoved.Short z.used)) w w
     unfolding move moved_of used_in IfMade
     gone_moves s l t =
         let p = plan_of_tables tables terms in
         let b = bits_in tables terms w in
         let u = pick_gone _ (numbers_of numbers) used (picked_short e t) in
         record {
-          reaches = λ flips z made. record {
+          reaches = λ flips stamped made. record {
             next = flips;
             outcome = λ f fs. bind_short (pick_from [] (keep (unsatisfied b) p.clauses)) _ (numbers_of numbers) (at used f fs)
                 (pick_from_short [] (keep (unsatisfied b) p.clauses) (numbers_of numbers) (at used f fs) (sym drawn_among ∙ picked_short e t));

@@ -1,6 +1,6 @@
 -- What one step of the walk answers and leaves, as the walk's definitions have it.
 -- Assumes nothing.
-use Rattle.std.specs.Prelude.{ℕ, suc, ◌+◌, ◌/◌, ◌≤◌, ◌≡◌, List, [], T, length, get_or, take}
+use Rattle.std.specs.Prelude.{ℕ, suc, ◌+◌, ◌/◌, ◌≤◌, ◌≡◌, List, [], T, length, get_or, take, Result, Ok, Err}
 use Rattle.plpb.specs.Plan.{Assignment}
 use Rattle.plpb.specs.Tallies.{fresh_count}
 use Rattle.plpb.specs.Walk.{Walk, at, Outcome, ends, short, run}
@@ -15,8 +15,8 @@ use Rattle.tallies.specs.Layout.{tally_size, bits_of, are_bits, tally_bytes}
 use Rattle.recount.specs.Core.{Ready}
 use Rattle.columns.specs.Columns.{Listed, Needed, Sized, Weighed}
 use Rattle.numbers.specs.Numbers.{numbers_of}
-use Rattle.moves.specs.declared.Moved.{Moved}
-use Rattle.moves.specs.declared.Moved.TheVariants as moved
+use Rattle.moves.specs.declared.Unmoved.{Unmoved}
+use Rattle.moves.specs.declared.Unmoved.TheVariants as unmoved
 
 -- The variables of the plan that two tables hold, as an assignment gives them.
 abbrev pub bits_in : List ℕ → List ℕ → Work → Assignment
@@ -41,24 +41,23 @@ pub record Walking (tables terms : List ℕ) (w : Work) : Type 0 where
   pub needed : Needed (plan_of_tables tables terms) w.tallies
 
 -- A move's outcome, with the try that it reaches and the flips and finds before it.
-unfoldable pub moved_of : Moved → Try → ℕ → List Assignment → Outcome Turn
-moved_of (moved.Made used) t f fs = ends (turned t) (at used (f + 1) fs)
-moved_of (moved.Stuck used) t f fs = ends stuck (at used f fs)
-moved_of (moved.Short used) t f fs = short (at used f fs)
+unfoldable pub moved_of : Result ℕ Unmoved → Try → ℕ → List Assignment → Outcome Turn
+moved_of (Ok used) t f fs = ends (turned t) (at used (f + 1) fs)
+moved_of (Err (unmoved.Stuck used)) t f fs = ends stuck (at used f fs)
+moved_of (Err (unmoved.Short used)) t f fs = short (at used f fs)
 
-unfoldable pub used_in : Moved → ℕ
-used_in (moved.Made used) = used
-used_in (moved.Stuck used) = used
-used_in (moved.Short used) = used
+unfoldable pub used_in : Result ℕ Unmoved → ℕ
+used_in (Ok used) = used
+used_in (Err (unmoved.Stuck used)) = used
+used_in (Err (unmoved.Short used)) = used
 
 -- Something holds if a flip was made.
-unfoldable pub IfMade : Moved → Type 0 → Type 0
-IfMade (moved.Made used) A = A
-IfMade (moved.Stuck used) A = Unit {0}
-IfMade (moved.Short used) A = Unit {0}
+unfoldable pub IfMade : Result ℕ Unmoved → Type 0 → Type 0
+IfMade (Ok used) A = A
+IfMade (Err e) A = Unit {0}
 
 -- A walk from the try that w holds after some flips comes to this move, and v holds the try then. The stamps go on to be those of its flips.
-pub record Reaches (walk : Try → Walk Turn) (tables terms numbers : List ℕ) (used : ℕ) (flips : List ℕ) (r : Moved) (w v : Work) : Type 0 where
+pub record Reaches (walk : Try → Walk Turn) (tables terms numbers : List ℕ) (used : ℕ) (flips : List ℕ) (r : Result ℕ Unmoved) (w v : Work) : Type 0 where
   pub next : List ℕ
   pub outcome : (f : ℕ) (fs : List Assignment)
       → run (walk (try_in tables terms flips w)) (numbers_of numbers) (at used f fs) ≡ moved_of r (try_in tables terms next v) f fs
@@ -66,7 +65,7 @@ pub record Reaches (walk : Try → Walk Turn) (tables terms numbers : List ℕ) 
 
 -- A walk from a try comes to this move and leaves v, whatever flips the try has made, `turn` of them, if the stamps are theirs. It uses `least` numbers
 -- at least, if it makes a flip.
-pub record Turns (walk : Try → Walk Turn) (tables terms numbers : List ℕ) (used least turn : ℕ) (r : Moved) (w v : Work) : Type 0 where
+pub record Turns (walk : Try → Walk Turn) (tables terms numbers : List ℕ) (used least turn : ℕ) (r : Result ℕ Unmoved) (w v : Work) : Type 0 where
   pub reaches : (flips : List ℕ) → Stamped (plan_of_tables tables terms).variables flips w.marks → length flips ≡ turn
       → Reaches walk tables terms numbers used flips r w v
   pub walking : IfMade r (Walking tables terms v × (used + least ≤ used_in r))
@@ -76,10 +75,10 @@ pub record Turns (walk : Try → Walk Turn) (tables terms numbers : List ℕ) (u
   pub beyond : Beyond (plan_of_tables tables terms).variables w v
 
 -- A clause has been picked: a variable of it is chosen and flipped.
-abbrev pub InClause : Settings → List ℕ → List ℕ → List ℕ → ℕ → ℕ → ℕ → Moved → Work → Work → Type 0
+abbrev pub InClause : Settings → List ℕ → List ℕ → List ℕ → ℕ → ℕ → ℕ → Result ℕ Unmoved → Work → Work → Type 0
 InClause s tables terms numbers used turn c r w v =
     let p = plan_of_tables tables terms in
     Turns (λ t. turning s p t (choosable p (get_or p.clauses c []))) tables terms numbers used 0 turn r w v
 
-abbrev pub Moves : Settings → List ℕ → List ℕ → List ℕ → ℕ → ℕ → Moved → Work → Work → Type 0
+abbrev pub Moves : Settings → List ℕ → List ℕ → List ℕ → ℕ → ℕ → Result ℕ Unmoved → Work → Work → Type 0
 Moves s tables terms numbers used turn r w v = Turns (move s (plan_of_tables tables terms)) tables terms numbers used 1 turn r w v

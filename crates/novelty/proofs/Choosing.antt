@@ -18,14 +18,14 @@ use Rattle.plpb.specs.Choice.{choosable, pick_from, ranked_choice, novelty_choic
 use Rattle.plpb.proofs.Lists.{and_left, and_right, and_both, all_still, T_true, is_true}
 use Rattle.plpb.proofs.Locks.{all_in_row, variable_range}
 use Rattle.plpb.proofs.Novelty.{length_ranked, all_ranked}
-use Rattle.numbers.specs.declared.Picked.{Picked}
-use Rattle.numbers.specs.declared.Picked.TheVariants as picked
+use Rattle.std.specs.Prelude.{Result, Ok, Err}
+use Rattle.numbers.specs.declared.Drawn.{Drawn}
+use Rattle.numbers.specs.declared.Short.{Short}
 use Rattle.numbers.specs.Numbers.{numbers_of}
 use Rattle.numbers.specs.Taking.{taken_of}
 use Rattle.numbers.proofs.Taking.{length_numbers_of, picked_at, picked_short, pick_uses, pick_gone}
 use Rattle.numbers.proofs.Runs.{bind_ends, bind_short, run_pick_taken, run_pick_short, run_true, run_false}
 use Rattle.picking.specs.declared.Chosen.{Chosen}
-use Rattle.picking.specs.declared.Chosen.TheVariants as chosen
 use Rattle.picking.specs.Outcome.{outcome_of, used_by, Among, Chooses}
 use Rattle.picking.proofs.Picking.{later}
 use Rattle.ranking.specs.declared.Top.{Top}
@@ -41,23 +41,23 @@ follows s p a last xs k = cond (ltb k s.chance) (pick_from 0 xs) (ranked_choice 
 pub listed_after : (numbers : List ℕ) (used : ℕ) {k after : ℕ} → take_pick 1_000 (numbers_of numbers) used ≡ taken k after → after ≤ length numbers / 4
 listed_after numbers used e = let u = pick_uses 1_000 (numbers_of numbers) used e in omega (arith, u.1, length_numbers_of numbers)
 
-module _ (s : Settings) (p : Plan) (a : Assignment) (last : ℕ → ℕ) (xs numbers : List ℕ) (used : ℕ) (r : Picked) (e : taken_of r ≡ take_pick 1_000 (numbers_of numbers) used) where
-  module _ {k after : ℕ} (t : r ≡ picked.At k after) where
-    drew : (f : ℕ) (fs : List Assignment) → run (novelty_choice s p a last xs) (numbers_of numbers) (at used f fs) ≡ run (follows s p a last xs k) (numbers_of numbers) (at after f fs)
+module _ (s : Settings) (p : Plan) (a : Assignment) (last : ℕ → ℕ) (xs numbers : List ℕ) (used : ℕ) (r : Result Drawn Short) (e : taken_of r ≡ take_pick 1_000 (numbers_of numbers) used) where
+  module _ {d : Drawn} (t : r ≡ Ok d) where
+    drew : (f : ℕ) (fs : List Assignment) → run (novelty_choice s p a last xs) (numbers_of numbers) (at used f fs) ≡ run (follows s p a last xs d.place) (numbers_of numbers) (at d.used f fs)
     unfolding novelty_choice run
     drew f fs = bind_ends (pick 1_000 done) (follows s p a last xs) (numbers_of numbers) (at used f fs) (run_pick_taken 1_000 done (numbers_of numbers) (at used f fs) (picked_at e t))
 
-    uses_one : used ≤ after
+    uses_one : used ≤ d.used
     uses_one = let u = pick_uses 1_000 (numbers_of numbers) used (picked_at e t) in omega (arith, u.0)
 
-    module _ {b : Bool} (l : b ≡ ltb k s.chance) {n : ℕ} {q : Chosen} where
-      pub by_walk : b ≡ true → Chooses (pick_from 0 xs) (numbers_of numbers) after n q → Chooses (novelty_choice s p a last xs) (numbers_of numbers) used n q
-      by_walk g = later (λ f fs. drew f fs ∙ run_true (pick_from 0 xs) _ (numbers_of numbers) (at after f fs) (sym l ∙ g)) uses_one
+    module _ {b : Bool} (l : b ≡ ltb d.place s.chance) {n : ℕ} {q : Result Chosen Short} where
+      pub by_walk : b ≡ true → Chooses (pick_from 0 xs) (numbers_of numbers) d.used n q → Chooses (novelty_choice s p a last xs) (numbers_of numbers) used n q
+      by_walk g = later (λ f fs. drew f fs ∙ run_true (pick_from 0 xs) _ (numbers_of numbers) (at d.used f fs) (sym l ∙ g)) uses_one
 
-      pub by_rank : b ≡ false → Chooses (ranked_choice s last xs (ranked p a last xs)) (numbers_of numbers) after n q → Chooses (novelty_choice s p a last xs) (numbers_of numbers) used n q
-      by_rank g = later (λ f fs. drew f fs ∙ run_false (pick_from 0 xs) _ (numbers_of numbers) (at after f fs) (sym l ∙ g)) uses_one
+      pub by_rank : b ≡ false → Chooses (ranked_choice s last xs (ranked p a last xs)) (numbers_of numbers) d.used n q → Chooses (novelty_choice s p a last xs) (numbers_of numbers) used n q
+      by_rank g = later (λ f fs. drew f fs ∙ run_false (pick_from 0 xs) _ (numbers_of numbers) (at d.used f fs) (sym l ∙ g)) uses_one
 
-  pub chance_gone : {n after : ℕ} → r ≡ picked.Short after → used ≤ length numbers / 4 → Chooses (novelty_choice s p a last xs) (numbers_of numbers) used n (chosen.Short after)
+  pub chance_gone : {n : ℕ} {z : Short} → r ≡ Err z → used ≤ length numbers / 4 → Chooses (novelty_choice s p a last xs) (numbers_of numbers) used n (Err z)
   unfolding outcome_of used_by Among novelty_choice
   chance_gone t h =
       let u = pick_gone 1_000 (numbers_of numbers) used (picked_short e t) in
@@ -81,7 +81,7 @@ second_within p x y ys v = first_within p y ys (and_right _ _ v)
 
 -- Where a variable is chosen without a number.
 chosen_now : {x n : ℕ} (w : Walk ℕ) (numbers : List ℕ) (used : ℕ) → ((f : ℕ) (fs : List Assignment) → run w (numbers_of numbers) (at used f fs) ≡ ends x (at used f fs))
-    → (1 ≤ x) × (x ≤ n) → used ≤ length numbers / 4 → Chooses w (numbers_of numbers) used n (chosen.At x used)
+    → (1 ≤ x) × (x ≤ n) → used ≤ length numbers / 4 → Chooses w (numbers_of numbers) used n (Ok (record { variable = x; used = used }))
 unfolding outcome_of used_by Among
 chosen_now w numbers used o m l = record { outcome = o; among = m; uses = omega arith; within = rw (length_numbers_of numbers) l }
 
@@ -101,7 +101,7 @@ module _ (s : Settings) (p : Plan) (a : Assignment) (last : ℕ → ℕ) (xs : L
   asks_is x y ys k = rw (k.0, newest, k.1.last_flip)
 
   first_now : (ys : List ℕ) → Tops p a last ys t → 0 < length ys → T (all (is_variable p) ys) → used ≤ length numbers / 4 → asks_noise t ≡ false
-      → Chooses (ranked_choice s last xs ys) (numbers_of numbers) used p.variables (chosen.At t.first.variable used)
+      → Chooses (ranked_choice s last xs ys) (numbers_of numbers) used p.variables (Ok (record { variable = t.first.variable; used = used }))
   unfolding Tops ranked_choice run
   first_now [] k h v l e = absurd (omega arith)
   first_now (x ∷ []) k h v l e =
@@ -113,7 +113,7 @@ module _ (s : Settings) (p : Plan) (a : Assignment) (last : ℕ → ℕ) (xs : L
   drawn_two : (ys : List ℕ) → Tops p a last ys t → T (all (is_variable p) ys) → asks_noise t ≡ true
       → {i after : ℕ} → take_pick 1_000 (numbers_of numbers) used ≡ taken i after
       → {z : ℕ} → z ≡ cond (ltb i s.noise) t.second.variable t.first.variable
-      → Chooses (ranked_choice s last xs ys) (numbers_of numbers) used p.variables (chosen.At z after)
+      → Chooses (ranked_choice s last xs ys) (numbers_of numbers) used p.variables (Ok (record { variable = z; used = after }))
   unfolding Tops ranked_choice run outcome_of used_by Among
   drawn_two [] k v e d z = absurd (omega (arith, k, two_asked t e))
   drawn_two (x ∷ []) k v e d z = absurd (omega (arith, k.0, two_asked t e))
@@ -131,7 +131,7 @@ module _ (s : Settings) (p : Plan) (a : Assignment) (last : ℕ → ℕ) (xs : L
 
   gone_two : (ys : List ℕ) → Tops p a last ys t → asks_noise t ≡ true → used ≤ length numbers / 4
       → {after : ℕ} → take_pick 1_000 (numbers_of numbers) used ≡ too_few after
-      → Chooses (ranked_choice s last xs ys) (numbers_of numbers) used p.variables (chosen.Short after)
+      → Chooses (ranked_choice s last xs ys) (numbers_of numbers) used p.variables (Err (record { used = after }))
   unfolding Tops ranked_choice outcome_of used_by Among
   gone_two [] k e l d = absurd (omega (arith, k, two_asked t e))
   gone_two (x ∷ []) k e l d = absurd (omega (arith, k.0, two_asked t e))
@@ -147,16 +147,16 @@ module _ (s : Settings) (p : Plan) (a : Assignment) (last : ℕ → ℕ) (xs : L
 
 module _ (s : Settings) {p : Plan} {a : Assignment} {last : ℕ → ℕ} {xs : List ℕ} {t : Top} (r : Ranks p a last xs t) (v : T (all (is_variable p) xs)) (numbers : List ℕ) (used : ℕ) where
   pub ranked_first : 0 < length xs → used ≤ length numbers / 4 → asks_noise t ≡ false
-      → Chooses (ranked_choice s last xs (ranked p a last xs)) (numbers_of numbers) used p.variables (chosen.At t.first.variable used)
+      → Chooses (ranked_choice s last xs (ranked p a last xs)) (numbers_of numbers) used p.variables (Ok (record { variable = t.first.variable; used = used }))
   ranked_first h = first_now s p a last xs t r.newest numbers used (ranked p a last xs) r.tops (rw length_ranked h) (all_ranked p a last (is_variable p) xs v)
 
   pub ranked_drawn : asks_noise t ≡ true → {k after : ℕ} → take_pick 1_000 (numbers_of numbers) used ≡ taken k after
       → {z : ℕ} → z ≡ cond (ltb k s.noise) t.second.variable t.first.variable
-      → Chooses (ranked_choice s last xs (ranked p a last xs)) (numbers_of numbers) used p.variables (chosen.At z after)
+      → Chooses (ranked_choice s last xs (ranked p a last xs)) (numbers_of numbers) used p.variables (Ok (record { variable = z; used = after }))
   ranked_drawn = drawn_two s p a last xs t r.newest numbers used (ranked p a last xs) r.tops (all_ranked p a last (is_variable p) xs v)
 
   pub ranked_gone : asks_noise t ≡ true → used ≤ length numbers / 4 → {after : ℕ} → take_pick 1_000 (numbers_of numbers) used ≡ too_few after
-      → Chooses (ranked_choice s last xs (ranked p a last xs)) (numbers_of numbers) used p.variables (chosen.Short after)
+      → Chooses (ranked_choice s last xs (ranked p a last xs)) (numbers_of numbers) used p.variables (Err (record { used = after }))
   ranked_gone = gone_two s p a last xs t r.newest numbers used (ranked p a last xs) r.tops
 
 -- ---- those to choose from are variables of the plan

@@ -17,7 +17,7 @@ ghost use Rattle.picking.specs.Outcome.{Chooses};
 ghost use Rattle.skc.specs.Choosing.{of_clause, ToChoose};
 ghost use Rattle.novelty.specs.Noise.{asks_noise};
 
-use numbers::{Picked, pick};
+use numbers::{Short, pick};
 use picking::{Chosen, is_below};
 use ranking::{Top, rank_clause};
 use settings::Settings;
@@ -46,7 +46,7 @@ fn either(yes: bool, x: u32, y: u32) -> u32
 
 // "If the first is not the one most recently flipped in this try among them, or it is alone, flip it. Otherwise a number under noise takes the second,
 // else the first."
-fn choose_ranked(top: Top, numbers: &[u8], used: usize, noise: u32) -> Chosen
+fn choose_ranked(top: Top, numbers: &[u8], used: usize, noise: u32) -> Result<Chosen, Short>
     requires { used ≤ length numbers.now / 4 }
     ensures { (s : Set) (p : Plan) (a : Assignment) (last : ℕ → ℕ) (xs : List ℕ) → noise ≡ s.noise → Ranks p a last xs top → 0 < length xs
         → T (all (is_variable p) xs)
@@ -55,16 +55,17 @@ fn choose_ranked(top: Top, numbers: &[u8], used: usize, noise: u32) -> Chosen
     let first = top.first;
     let second = top.second;
     if !asks_noise(top) {
-        return Chosen::At(first.variable, used);
+        return Ok(Chosen {
+            variable: first.variable,
+            used,
+        });
     }
-    let p = pick(numbers, used, 1000);
-    match p {
-        Picked::At(r, after) => Chosen::At(
-            either(is_below(r, noise), second.variable, first.variable),
-            after,
-        ),
-        Picked::Short(after) => Chosen::Short(after),
-    }
+    let drawn = pick(numbers, used, 1000)?;
+    let second_taken = is_below(drawn.place, noise);
+    Ok(Chosen {
+        variable: either(second_taken, second.variable, first.variable),
+        used: drawn.used,
+    })
 }
 
 // "One number under the walk chance, per 1,000, leads to a pick among the clause's unlocked variables. Otherwise rank them"
@@ -78,7 +79,7 @@ pub fn choose_novelty(
     numbers: &[u8],
     used: usize,
     s: Settings,
-) -> Chosen
+) -> Result<Chosen, Short>
     requires { ToChoose tables.now terms.now assignment.now tallies.now marks.now c numbers.now used }
     ensures { Chooses
         (novelty_choice (settings_of s) (plan_of_tables tables.now terms.now)
@@ -86,20 +87,16 @@ pub fn choose_novelty(
         (of_clause tables.now terms.now c)) (numbers_of numbers.now) used
         (plan_of_tables tables.now terms.now).variables result }
 {
-    let p = pick(numbers, used, 1000);
-    match p {
-        Picked::At(r, after) => {
-            if is_below(r, s.chance) {
-                choose_any(tables, terms, assignment, tallies, marks, c, numbers, after)
-            } else {
-                choose_ranked(
-                    rank_clause(tables, terms, assignment, tallies, marks, c),
-                    numbers,
-                    after,
-                    s.noise,
-                )
-            }
-        }
-        Picked::Short(after) => Chosen::Short(after),
+    let drawn = pick(numbers, used, 1000)?;
+    if is_below(drawn.place, s.chance) {
+        return choose_any(
+            tables, terms, assignment, tallies, marks, c, numbers, drawn.used,
+        );
     }
+    choose_ranked(
+        rank_clause(tables, terms, assignment, tallies, marks, c),
+        numbers,
+        drawn.used,
+        s.noise,
+    )
 }

@@ -11,7 +11,8 @@ use mathlib.Core.List.{List, [], ◌∷◌, ◌++◌}
 use borrow.Author.Tests.{lt-ltb, le-ltb, le-leb, lt-leb}
 use lib.Dec.{ltb, eqb}
 use lib.ListN.{length, get_or, set, take, drop, length-map}
-use lib.Seq.{drop-cons, take-suc, append_snoc, set_at, length-take-le, get_or-take, get_or-drop}
+use lib.Seq.{drop-cons, take-suc, append_snoc, set_at, take_all, length-take-le, get_or-take, get_or-drop}
+use Rattle.std.proofs.lemmas.List.{append-nil, drop_all}
 use Rattle.plpb.specs.Lists.{row}
 use Rattle.plpb.specs.Numbers.{Taken, taken, too_few, take_words, range, fair, pick_among, take_pick, start_words, start_of, bit}
 use Rattle.plpb.proofs.Picks.{kept_within, within_kept}
@@ -20,10 +21,9 @@ use Rattle.plpb.proofs.Walks.{Spends, words_spend, pick_spends}
 use Rattle.words.specs.Words.{word_at}
 use Rattle.format.specs.Assignment.{bit_bytes}
 use Rattle.format.proofs.Assignment.{length_bit_bytes}
-use Rattle.numbers.specs.declared.Picked.{Picked}
-use Rattle.numbers.specs.declared.Picked.TheVariants as picked
-use Rattle.numbers.specs.declared.Started.{Started}
-use Rattle.numbers.specs.declared.Started.TheVariants as started
+use Rattle.std.specs.Prelude.{Result, Ok, Err, IsErrAnd}
+use Rattle.numbers.specs.declared.Drawn.{Drawn}
+use Rattle.numbers.specs.declared.Short.{Short}
 use Rattle.numbers.specs.Numbers.{numbers_of}
 use Rattle.numbers.specs.Taking.{taken_of, started_of, start_bytes, Starts}
 use Rattle.numbers.proofs.Keep.{get_d_map}
@@ -41,13 +41,6 @@ numbers_of_at s i h =
     ∙ ap (word_at s) (row_at 0 (length s / 4) i 0 h ∙ zero-add i)
 
 -- ---- picks
-
--- Nothing stands past the end.
-drop_past : (n : ℕ) (xs : List ℕ) → length xs ≤ n → drop n xs ≡ []
-drop_past zero [] h = refl
-drop_past zero (x ∷ xs) h = absurd (omega arith)
-drop_past (suc n) [] h = refl
-drop_past (suc n) (x ∷ xs) h = drop_past n xs (omega arith)
 
 -- What a pick comes to from a place on: the number there is kept, or discarded, or there is none.
 module _ (s : List ℕ) (m at : ℕ) where
@@ -69,17 +62,22 @@ module _ (s : List ℕ) (m at : ℕ) where
 
   pub pick_ends : length s / 4 ≤ at → pick_among m (drop at (numbers_of s)) at ≡ too_few at
   unfolding pick_among
-  pick_ends h = rw (drop_past at (numbers_of s) (rw length_numbers_of h)) refl
+  pick_ends h = rw (drop_all at (numbers_of s) (rw length_numbers_of h)) refl
 
 -- What a caller learns of an answer, whatever a pick does with the numbers: the need's outcome, a place below m, and how many are used.
-module _ {r : Picked} {t : Taken ℕ} {v : ℕ} (e : taken_of r ≡ t) where
-  pub picked_at : {place : ℕ} → r ≡ picked.At place v → t ≡ taken place v
+module _ {r : Result Drawn Short} {t : Taken ℕ} (e : taken_of r ≡ t) where
+  pub picked_at : {d : Drawn} → r ≡ Ok d → t ≡ taken d.place d.used
   unfolding taken_of
   picked_at a = sym e ∙ ap taken_of a
 
-  pub picked_short : r ≡ picked.Short v → t ≡ too_few v
+  pub picked_short : {s : Short} → r ≡ Err s → t ≡ too_few s.used
   unfolding taken_of
   picked_short a = sym e ∙ ap taken_of a
+
+-- A `?` hands the error on as it is.
+pub handed_on : {A : Type 0} (r : Result A Short) {s : Short} → IsErrAnd r (λ e. e ≡ s) → r ≡ Err s
+handed_on (Ok x) h = absurd h
+handed_on (Err e) h = ap Err h
 
 unfoldable pub Placed : ℕ → Taken ℕ → Type 0
 Placed m (taken place used) = place < m
@@ -139,6 +137,10 @@ write_more xs d i v h l e =
     rw (add-one i, e, drop-cons d i 0 l, set_at (take i xs) (get_or d i 0) (drop (suc i) d) (get_or xs i 0) i (length-take-le i xs (omega arith)), take-suc xs i 0 h)
     (sym (append_snoc (take i xs) (get_or xs i 0) (drop (suc i) d)))
 
+-- A list that is written whole is all that is left.
+pub written_all : (xs d : List ℕ) (i : ℕ) → length xs ≤ i → length d ≤ i → take i xs ++ drop i d ≡ xs
+written_all xs d i h l = rw (take_all i xs h, drop_all i d l) (append-nil xs)
+
 module _ (s : List ℕ) (used n : ℕ) where
   pub start_bit : (i v : ℕ) → i < n → v ≡ cond (bit (i % 32) (get_or (numbers_of s) (used + i / 32) 0)) 1 0
       → v ≡ get_or (bit_bytes (start_of n (take (start_words n) (drop used (numbers_of s))))) i 0
@@ -160,37 +162,37 @@ module _ (s : List ℕ) (used n : ℕ) where
   -- The two answers of a start.
   module _ (entry exit : List ℕ) where
     pub starts_taken : used + start_words n ≤ length s / 4 → exit ≡ bit_bytes (start_of n (take (start_words n) (drop used (numbers_of s)))) ++ drop n entry
-        → Starts n (take_words (start_words n) (numbers_of s) used) entry (started.Taken (used + start_words n)) exit
+        → Starts n (take_words (start_words n) (numbers_of s) used) entry (Ok (used + start_words n)) exit
     unfolding started_of start_bytes
     starts_taken h e = rw (words_taken h) (record { answers = refl; leaves = e })
 
-    pub starts_short : length s / 4 < used + start_words n → exit ≡ entry → Starts n (take_words (start_words n) (numbers_of s) used) entry (started.Short used) exit
+    pub starts_short : length s / 4 < used + start_words n → exit ≡ entry → Starts n (take_words (start_words n) (numbers_of s) used) entry (Err (record { used = used })) exit
     unfolding started_of start_bytes
     starts_short h e = rw (words_short h) (record { answers = refl; leaves = e })
 
 -- What a caller learns of an answer: which numbers were taken and what the assignment is; or that nothing changed.
-module _ {n : ℕ} {entry exit : List ℕ} {r : Started} {v : ℕ} where
-  pub started_taken : (t : Taken (List ℕ)) → Starts n t entry r exit → r ≡ started.Taken v → (ws : List ℕ) × (t ≡ taken ws v) × (exit ≡ bit_bytes (start_of n ws) ++ drop n entry)
+module _ {n : ℕ} {entry exit : List ℕ} {r : Result ℕ Short} where
+  pub started_taken : {v : ℕ} (t : Taken (List ℕ)) → Starts n t entry r exit → r ≡ Ok v → (ws : List ℕ) × (t ≡ taken ws v) × (exit ≡ bit_bytes (start_of n ws) ++ drop n entry)
   unfolding started_of start_bytes
-  started_taken (taken ws u) h e =
-      let k : started.Taken u ≡ started.Taken v = sym h.answers ∙ e in
+  started_taken {v} (taken ws u) h e =
+      let k : ◌≡◌ {A = Result ℕ Short} (Ok u) (Ok v) = sym h.answers ∙ e in
       let w : u ≡ v = cc in
       (ws, ap (taken ws) w, h.leaves)
-  started_taken (too_few u) h e =
-      let k : started.Short u ≡ started.Taken v = sym h.answers ∙ e in
+  started_taken {v} (too_few u) h e =
+      let k : ◌≡◌ {A = Result ℕ Short} (Err (record { used = u })) (Ok v) = sym h.answers ∙ e in
       let z : ◌≡◌ {A = ℕ} 0 1 = cc in
       absurd (omega arith)
 
-  pub started_short : (t : Taken (List ℕ)) → Starts n t entry r exit → r ≡ started.Short v → (t ≡ too_few v) × (exit ≡ entry)
+  pub started_short : {s : Short} (t : Taken (List ℕ)) → Starts n t entry r exit → r ≡ Err s → (t ≡ too_few s.used) × (exit ≡ entry)
   unfolding started_of start_bytes
-  started_short (taken ws u) h e =
-      let k : started.Taken u ≡ started.Short v = sym h.answers ∙ e in
+  started_short {s} (taken ws u) h e =
+      let k : ◌≡◌ {A = Result ℕ Short} (Ok u) (Err s) = sym h.answers ∙ e in
       let z : ◌≡◌ {A = ℕ} 0 1 = cc in
       absurd (omega arith)
-  started_short (too_few u) h e =
-      let k : started.Short u ≡ started.Short v = sym h.answers ∙ e in
-      let w : u ≡ v = cc in
-      (ap too_few w, h.leaves)
+  started_short {s} (too_few u) h e =
+      let k : ◌≡◌ {A = Result ℕ Short} (Err (record { used = u })) (Err s) = sym h.answers ∙ e in
+      let w : ◌≡◌ {A = Short} (record { used = u }) s = cc in
+      (ap (λ (q : Short). too_few q.used) w, h.leaves)
 
 -- How many are used after a start.
 module _ (k : ℕ) (ns : List ℕ) (used : ℕ) where

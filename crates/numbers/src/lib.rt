@@ -9,18 +9,17 @@ ghost use Rattle.numbers.specs.Numbers.{numbers_of};
 ghost use Rattle.numbers.specs.Taking.{taken_of, Starts};
 ghost use Rattle.numbers.specs.Finding.{zero_words};
 
-// A pick's place and how many numbers are used after it; or how many are used where too few are left.
-#[derive(Clone, Copy)]
-pub enum Picked {
-    At(usize, usize),
-    Short(usize),
+// What a pick came to: a place, and how many numbers are used after it.
+#[derive(Clone, Copy, Debug, PartialEq, Eq)]
+pub struct Drawn {
+    pub place: usize,
+    pub used: usize,
 }
 
-// How many numbers are used after a try's start; or where too few are left for one.
-#[derive(Clone, Copy)]
-pub enum Started {
-    Taken(usize),
-    Short(usize),
+// Too few numbers are left, and so many are used.
+#[derive(Clone, Copy, Debug, PartialEq, Eq)]
+pub struct Short {
+    pub used: usize,
 }
 
 // A number of the list is below this.
@@ -28,20 +27,22 @@ const RANGE: usize = 4294967296;
 
 // A pick among m: numbers at or above the largest multiple of m up to RANGE are discarded. A number is below it exactly where the next multiple of m
 // above it is no more than RANGE, so that each number takes one division.
-pub fn pick(numbers: &[u8], used: usize, m: usize) -> Picked
+pub fn pick(numbers: &[u8], used: usize, m: usize) -> Result<Drawn, Short>
     requires { (0 < m) × (m ≤ range) × (used ≤ length numbers.now / 4) }
     ensures { taken_of result ≡ take_pick m (numbers_of numbers.now) used }
 {
-    let mut at = used;
-    while at < numbers.len() / 4 {
+    let end = numbers.len() / 4;
+    for at in used..end {
         let r = words::word(numbers, at) as usize;
         let place = r % m;
-        at += 1;
         if r - place + m <= RANGE {
-            return Picked::At(place, at);
+            return Ok(Drawn {
+                place,
+                used: at + 1,
+            });
         }
     }
-    Picked::Short(at)
+    Err(Short { used: end })
 }
 
 // A bit of a number, 0 being the lowest.
@@ -66,25 +67,23 @@ fn write_start(numbers: &[u8], used: usize, n: usize, assignment: &mut [u8])
     ensures { assignment.new
         ≡ bit_bytes (start_of n (take (start_words n) (drop used (numbers_of numbers.now)))) ++ drop n assignment.old }
 {
-    let mut i = 0;
-    while i < n {
-        assignment[i] = start_bit(numbers, used, i);
-        i += 1;
+    for (i, byte) in assignment[..n].iter_mut().enumerate() {
+        *byte = start_bit(numbers, used, i);
     }
 }
 
-// A try's start for n variables. The numbers are counted first, so that none is taken and no byte changes where too few are left.
-pub fn start(numbers: &[u8], used: usize, n: usize, assignment: &mut [u8]) -> Started
+// A try's start for n variables; how many numbers are used after it. The numbers are counted first, so that none is taken and no byte changes where too few
+// are left.
+pub fn start(numbers: &[u8], used: usize, n: usize, assignment: &mut [u8]) -> Result<usize, Short>
     requires { (used ≤ length numbers.now / 4) × (n ≤ length assignment.old) }
     ensures { Starts n (take_words (start_words n) (numbers_of numbers.now) used) assignment.old result assignment.new }
 {
     let after = used + (n + 31) / 32;
-    if after <= numbers.len() / 4 {
-        write_start(numbers, used, n, assignment);
-        Started::Taken(after)
-    } else {
-        Started::Short(used)
+    if numbers.len() / 4 < after {
+        return Err(Short { used });
     }
+    write_start(numbers, used, n, assignment);
+    Ok(after)
 }
 
 // 1 for a word that is 0.
@@ -92,7 +91,7 @@ fn zero(table: &[u8], i: usize) -> usize
     requires { 4 * i + 4 ≤ length table.now }
     ensures { result ≡ cond (eqb (word_at table.now i) 0) 1 0 }
 {
-    if words::word(table, i) == 0 { 1 } else { 0 }
+    usize::from(words::word(table, i) == 0)
 }
 
 // The k-th, from 0, of the indices below count whose word, behind base others, is 0; or count where there are not so many.
@@ -101,14 +100,12 @@ pub fn nth_zero(table: &[u8], base: usize, count: usize, k: usize) -> usize
     ensures { result ≡ get_or (zero_words table.now base count) k count }
 {
     let mut left = k;
-    let mut i = 0;
-    while i < count {
+    for i in 0..count {
         let here = zero(table, base + i);
         if left < here {
             return i;
         }
         left -= here;
-        i += 1;
     }
     count
 }

@@ -42,10 +42,8 @@ fn add_terms(tables: &[u8], terms: &mut [u8], first: usize) -> usize
 {
     let n = words::index(tables, 0);
     let mut at = first;
-    let mut v = 0;
-    while v < n {
+    for v in 0..n {
         at = add_term(tables, terms, v, at);
-        v += 1;
     }
     at
 }

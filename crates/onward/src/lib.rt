@@ -12,13 +12,13 @@ use objective::added::add_bound;
 use progress::{Ending, Progress, Searched, keep_find};
 use settings::Settings;
 use tighten::tighten;
+use tries::Spent;
 
 // From the first find on: the clause is added to the tables, and each call sets its own bound.
 pub fn from_find(
     numbers: &[u8],
     s: Settings,
-    used: usize,
-    flips: usize,
+    spent: Spent,
     assignment: &mut [u8],
     tables: &mut [u8],
     terms: &mut [u8],
@@ -26,8 +26,8 @@ pub fn from_find(
     tallies: &mut [u8],
     marks: &mut [u8],
 ) -> Searched
-    requires { FirstFind tables.old terms.old numbers.now used flips assignment.old (work tried.old tallies.old marks.old) }
-    ensures { FromFind (settings_of s) tables.old terms.old numbers.now used flips result assignment.old
+    requires { FirstFind tables.old terms.old numbers.now spent.used spent.flips assignment.old (work tried.old tallies.old marks.old) }
+    ensures { FromFind (settings_of s) tables.old terms.old numbers.now spent.used spent.flips result assignment.old
         assignment.new (work tried.old tallies.old marks.old)
         (work tried.new tallies.new marks.new)
         × (drop table_size tables.new ≡ drop table_size tables.old)
@@ -38,8 +38,8 @@ pub fn from_find(
     let at = Progress {
         cost: v,
         finds: 1,
-        flips,
-        used,
+        flips: spent.flips,
+        used: spent.used,
     };
     if v <= floor {
         return Searched {

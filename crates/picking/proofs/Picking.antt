@@ -15,14 +15,14 @@ use Rattle.plpb.proofs.Lists.{and_left, and_right, all_at, length_row}
 use Rattle.words.specs.Words.{word_at}
 use Rattle.format.proofs.Placed.{get_d_row}
 use Rattle.columns.specs.Columns.{words_from}
-use Rattle.numbers.specs.declared.Picked.{Picked}
-use Rattle.numbers.specs.declared.Picked.TheVariants as picked
+use Rattle.std.specs.Prelude.{Result, Ok, Err}
+use Rattle.numbers.specs.declared.Drawn.{Drawn}
+use Rattle.numbers.specs.declared.Short.{Short}
 use Rattle.numbers.specs.Numbers.{numbers_of}
 use Rattle.numbers.specs.Taking.{taken_of}
 use Rattle.numbers.proofs.Taking.{length_numbers_of, picked_at, picked_short, place_below, pick_uses, pick_gone}
 use Rattle.numbers.proofs.Runs.{pick_from_taken, pick_from_short}
 use Rattle.picking.specs.declared.Chosen.{Chosen}
-use Rattle.picking.specs.declared.Chosen.TheVariants as chosen
 use Rattle.picking.specs.Outcome.{outcome_of, used_by, Among, Chooses, is_one, PickListed}
 
 pub length_words : (f : ℕ → ℕ) (i k : ℕ) → length (words_from f i k) ≡ k
@@ -33,28 +33,28 @@ pub words_at : (f : ℕ → ℕ) (i k j d : ℕ) → j < k → get_or (words_fro
 unfolding words_from
 words_at f i k j d h = get_d_row f i k j d h
 
-module _ {numbers marks : List ℕ} {used from m : ℕ} (h : PickListed numbers used marks from m) {r : Picked} (e : taken_of r ≡ take_pick m (numbers_of numbers) used) where
-  module _ {k after : ℕ} (t : r ≡ picked.At k after) where
-    pub place_found : k < m
+module _ {numbers marks : List ℕ} {used from m : ℕ} (h : PickListed numbers used marks from m) {r : Result Drawn Short} (e : taken_of r ≡ take_pick m (numbers_of numbers) used) where
+  module _ {d : Drawn} (t : r ≡ Ok d) where
+    pub place_found : d.place < m
     place_found = place_below m (numbers_of numbers) used h.some (picked_at e t)
 
-    pub word_picked : {x : ℕ} → x ≡ word_at marks (from + k) → (n : ℕ) → T (all (is_one n) (words_from (word_at marks) from m)) → Chooses (pick_from 0 (words_from (word_at marks) from m)) (numbers_of numbers) used n (chosen.At x after)
+    pub word_picked : {x : ℕ} → x ≡ word_at marks (from + d.place) → (n : ℕ) → T (all (is_one n) (words_from (word_at marks) from m)) → Chooses (pick_from 0 (words_from (word_at marks) from m)) (numbers_of numbers) used n (Ok (record { variable = x; used = d.used }))
     unfolding outcome_of used_by Among is_one
     word_picked {x} s n each =
         let ns = numbers_of numbers in
         let xs = words_from (word_at marks) from m in
         let long = length_words (word_at marks) from m in
         let u = pick_uses m ns used (picked_at e t) in
-        let z : get_or xs k 0 ≡ x = words_at (word_at marks) from m k 0 place_found ∙ sym s in
-        let one = rw z at (all_at (is_one n) xs k 0 each (rw long place_found)) in
+        let z : get_or xs d.place 0 ≡ x = words_at (word_at marks) from m d.place 0 place_found ∙ sym s in
+        let one = rw z at (all_at (is_one n) xs d.place 0 each (rw long place_found)) in
         record {
-          outcome = λ f fs. pick_from_taken 0 xs ns (at used f fs) (rw (← long) at (picked_at e t)) ∙ ap (λ y. ends y (at after f fs)) z;
+          outcome = λ f fs. pick_from_taken 0 xs ns (at used f fs) (rw (← long) at (picked_at e t)) ∙ ap (λ y. ends y (at d.used f fs)) z;
           among = (leb→le 1 x (and_left (leb 1 x) (leb x n) one), leb→le x n (and_right (leb 1 x) (leb x n) one));
           uses = omega (arith, u);
           within = u.1;
         }
 
-  pub words_gone : {after : ℕ} → r ≡ picked.Short after → (n : ℕ) → Chooses (pick_from 0 (words_from (word_at marks) from m)) (numbers_of numbers) used n (chosen.Short after)
+  pub words_gone : {s : Short} → r ≡ Err s → (n : ℕ) → Chooses (pick_from 0 (words_from (word_at marks) from m)) (numbers_of numbers) used n (Err s)
   unfolding outcome_of used_by Among
   words_gone t n =
       let ns = numbers_of numbers in
@@ -69,5 +69,5 @@ module _ {numbers marks : List ℕ} {used from m : ℕ} (h : PickListed numbers 
       }
 
 -- A walk that comes to another from a later place in the list.
-pub later : {w v : Walk ℕ} {ns : List ℕ} {used after n : ℕ} {q : Chosen} → ((f : ℕ) (fs : List Assignment) → run w ns (at used f fs) ≡ run v ns (at after f fs)) → used ≤ after → Chooses v ns after n q → Chooses w ns used n q
+pub later : {w v : Walk ℕ} {ns : List ℕ} {used after n : ℕ} {q : Result Chosen Short} → ((f : ℕ) (fs : List Assignment) → run w ns (at used f fs) ≡ run v ns (at after f fs)) → used ≤ after → Chooses v ns after n q → Chooses w ns used n q
 later e h c = record { outcome = λ f fs. e f fs ∙ c.outcome f fs; among = c.among; uses = omega (arith, c.uses); within = c.within }

@@ -1,29 +1,29 @@
 -- What a choice answers, as the walk has it, and what a pick needs.
 -- Assumes nothing.
-use Rattle.std.specs.Prelude.{ℕ, ◌+◌, ◌/◌, ◌≤◌, ◌<◌, ◌≡◌, Bool, List, leb, length}
+use Rattle.std.specs.Prelude.{ℕ, ◌+◌, ◌/◌, ◌≤◌, ◌<◌, ◌≡◌, Bool, List, leb, length, Result, Ok, Err}
 use Rattle.plpb.specs.Lists.{◌and◌}
 use Rattle.plpb.specs.Plan.{Assignment}
 use Rattle.plpb.specs.Walk.{Walk, at, Outcome, ends, short, run}
 use Rattle.columns.specs.Layout.{column_size, column_word_count}
+use Rattle.numbers.specs.declared.Short.{Short}
 use Rattle.picking.specs.declared.Chosen.{Chosen}
-use Rattle.picking.specs.declared.Chosen.TheVariants as chosen
 
--- The outcome that a Chosen of the code says, with the flips and finds before it.
-unfoldable pub outcome_of : Chosen → ℕ → List Assignment → Outcome ℕ
-outcome_of (chosen.At x used) f fs = ends x (at used f fs)
-outcome_of (chosen.Short used) f fs = short (at used f fs)
+-- The outcome that an answer of the code says, with the flips and finds before it.
+unfoldable pub outcome_of : Result Chosen Short → ℕ → List Assignment → Outcome ℕ
+outcome_of (Ok c) f fs = ends c.variable (at c.used f fs)
+outcome_of (Err e) f fs = short (at e.used f fs)
 
-unfoldable pub used_by : Chosen → ℕ
-used_by (chosen.At x used) = used
-used_by (chosen.Short used) = used
+unfoldable pub used_by : Result Chosen Short → ℕ
+used_by (Ok c) = c.used
+used_by (Err e) = e.used
 
 -- A variable that is chosen is one of n.
-unfoldable pub Among : ℕ → Chosen → Type 0
-Among n (chosen.At x used) = (1 ≤ x) × (x ≤ n)
-Among n (chosen.Short used) = Unit {0}
+unfoldable pub Among : ℕ → Result Chosen Short → Type 0
+Among n (Ok c) = (1 ≤ c.variable) × (c.variable ≤ n)
+Among n (Err e) = Unit {0}
 
 -- A walk comes to this answer, whatever flips and finds were made before it.
-pub record Chooses (w : Walk ℕ) (ns : List ℕ) (used n : ℕ) (r : Chosen) : Type 0 where
+pub record Chooses (w : Walk ℕ) (ns : List ℕ) (used n : ℕ) (r : Result Chosen Short) : Type 0 where
   pub outcome : (f : ℕ) (fs : List Assignment) → run w ns (at used f fs) ≡ outcome_of r f fs
   pub among : Among n r
   pub uses : used ≤ used_by r

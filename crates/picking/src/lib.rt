@@ -9,14 +9,14 @@ ghost use Rattle.columns.specs.Columns.{words_from};
 ghost use Rattle.numbers.specs.Numbers.{numbers_of};
 ghost use Rattle.picking.specs.Outcome.{Chooses, PickListed, is_one};
 
-use numbers::{Picked, pick};
+use numbers::{Short, pick};
 use words::word;
 
-// The variable, and how many numbers are used after the choice; or how many are used where too few are left for it.
-#[derive(Clone, Copy)]
-pub enum Chosen {
-    At(u32, usize),
-    Short(usize),
+// The variable that is chosen, and how many numbers are used after the choice.
+#[derive(Clone, Copy, Debug, PartialEq, Eq)]
+pub struct Chosen {
+    pub variable: u32,
+    pub used: usize,
 }
 
 // Whether a number drawn among 1,000 is under a chance.
@@ -27,14 +27,20 @@ pub fn is_below(r: usize, chance: u32) -> bool
 }
 
 // A pick among the m variables in the words from one on.
-pub fn pick_listed(numbers: &[u8], used: usize, marks: &[u8], at: usize, m: usize) -> Chosen
+pub fn pick_listed(
+    numbers: &[u8],
+    used: usize,
+    marks: &[u8],
+    at: usize,
+    m: usize,
+) -> Result<Chosen, Short>
     requires { PickListed numbers.now used marks.now at m }
     ensures { (n : ℕ) → T (all (is_one n) (words_from (word_at marks.now) at m))
         → Chooses (pick_from 0 (words_from (word_at marks.now) at m)) (numbers_of numbers.now) used n result }
 {
-    let p = pick(numbers, used, m);
-    match p {
-        Picked::At(k, after) => Chosen::At(word(marks, at + k), after),
-        Picked::Short(after) => Chosen::Short(after),
-    }
+    let drawn = pick(numbers, used, m)?;
+    Ok(Chosen {
+        variable: word(marks, at + drawn.place),
+        used: drawn.used,
+    })
 }

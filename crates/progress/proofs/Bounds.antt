@@ -36,12 +36,14 @@ use Rattle.tallies.specs.Layout.{bits_of, are_bits}
 use Rattle.recount.specs.Core.{Laid}
 use Rattle.recount.proofs.Callers.{held_laid}
 use Rattle.numbers.specs.Numbers.{numbers_of}
-use Rattle.tries.specs.declared.Tried.{Tried}
-use Rattle.tries.specs.declared.Tried.TheVariants as tried
+use Rattle.std.specs.Prelude.{Result, Ok, Err}
+use Rattle.tries.specs.declared.Spent.{Spent}
+use Rattle.tries.specs.declared.Unreached.{Unreached}
+use Rattle.tries.specs.declared.Unreached.TheVariants as unreached
 use Rattle.progress.specs.declared.Progress.{Progress}
-use Rattle.progress.specs.declared.Called.TheVariants as called
+use Rattle.progress.specs.declared.Halt.TheVariants as halt
 use Rattle.lending.specs.Work.{Work, Beyond}
-use Rattle.tries.specs.Steps.{Startable, tried_of, used_by, flips_by, IfReached, Finds, Tries}
+use Rattle.tries.specs.Steps.{Startable, tried_of, spent_by, used_by, flips_by, IfReached, Finds, Tries}
 use Rattle.progress.specs.Bounds.{untightened, basis, Bounded, Tracks, Room, Leaves, called_of, progress_in, FindOr, CallsUnder}
 use Rattle.format.specs.Layout.{rule_room}
 
@@ -141,7 +143,7 @@ module _ (n : ℕ) (x y : List ℕ) (h : n ≤ length x) where
 
 -- ---- a call under a bound
 
-abbrev pub TriesUnder : Settings → List ℕ → List ℕ → List ℕ → Progress → Work → Work → Tried → Type 0
+abbrev pub TriesUnder : Settings → List ℕ → List ℕ → List ℕ → Progress → Work → Work → Result Spent Unreached → Type 0
 TriesUnder s tables terms numbers from w v r = Tries (call s (plan_of_tables tables terms)) tables terms numbers from.used from.flips (from.used + 1) r w v
 
 module _ {p : Plan} {tables terms assignment : List ℕ} {w : Work} (room : Room p tables terms assignment w) (m : ℤ) (within : nat_abs m ≤ 1_000_000_000)
@@ -169,30 +171,30 @@ module _ {p : Plan} {tables terms assignment : List ℕ} {w : Work} (room : Room
         }
 
     module _ (s : Settings) {numbers : List ℕ} {from : Progress} (st : Tracks p numbers assignment from) {v : Work} where
-      under_outcome : {r : Tried} → TriesUnder s after terms numbers from w v r → (fs : List Assignment)
+      under_outcome : {r : Result Spent Unreached} → TriesUnder s after terms numbers from w v r → (fs : List Assignment)
           → run (call s (tightened p m)) (numbers_of numbers) (at from.used from.flips fs) ≡ tried_of r (bits_of p.variables v.assignment) fs
       unfolding tightened
       under_outcome {r} t fs =
           subst (λ q. run (call s q) (numbers_of numbers) (at from.used from.flips fs) ≡ tried_of r (bits_of q.variables v.assignment) fs) under_back (t.outcome fs)
 
-      under_beyond : {r : Tried} → TriesUnder s after terms numbers from w v r → Beyond p.variables w v
+      under_beyond : {r : Result Spent Unreached} → TriesUnder s after terms numbers from w v r → Beyond p.variables w v
       under_beyond t = rw (← bounded_variables under_bounded) t.beyond
 
-      still_leaves : {r : Tried} → TriesUnder s after terms numbers from w v r → Leaves p tables terms after assignment assignment w v
+      still_leaves : {r : Result Spent Unreached} → TriesUnder s after terms numbers from w v r → Leaves p tables terms after assignment assignment w v
       still_leaves t =
           record { bounded = under_bounded; table = ap (drop table_size) e ∙ rebound_beyond room.bounded m within; find = refl; beyond = under_beyond t }
 
-      module _ {r : Tried} {u f : ℕ} where
+      module _ {r : Result Spent Unreached} {d : Spent} where
         -- A find.
-        module _ (k : r ≡ tried.Reached u f) (t : TriesUnder s after terms numbers from w v r) (long : p.variables ≤ length v.assignment) {z : ℤ} {exit : List ℕ}
+        module _ (k : r ≡ Ok d) (t : TriesUnder s after terms numbers from w v r) (long : p.variables ≤ length v.assignment) {z : ℤ} {exit : List ℕ}
             (c : z ≡ cost_in after (bits_of (word_at after 0) v.assignment))
             (x : exit ≡ take (word_at after 0) v.assignment ++ drop (word_at after 0) assignment)
           where
-            reached_by_lem : TriesUnder s after terms numbers from w v (tried.Reached u f)
+            reached_by_lem : TriesUnder s after terms numbers from w v (Ok d)
             reached_by_lem = subst (TriesUnder s after terms numbers from w v) k t
 
-            reached_finds : Finds after terms (from.used + 1) u v
-            unfolding IfReached used_by
+            reached_finds : Finds after terms (from.used + 1) d.used v
+            unfolding IfReached spent_by
             reached_finds = reached_by_lem.finds
 
             exit_is : exit ≡ take p.variables v.assignment ++ drop p.variables assignment
@@ -224,12 +226,12 @@ module _ {p : Plan} {tables terms assignment : List ℕ} {w : Work} (room : Room
                 (subst T (tightened_obeys p m _) (call_obeys s (tightened p m) (numbers_of numbers) from.used from.flips [] st.flips (under_outcome reached_by_lem [])))
 
             pub called_found :
-                CallsUnder s p m numbers from (called.Found (record { cost = z; finds = from.finds + 1; flips = f; used = u })) assignment exit
+                CallsUnder s p m numbers from (Ok (record { cost = z; finds = from.finds + 1; flips = d.flips; used = d.used })) assignment exit
                 × Leaves p tables terms after assignment exit w v
-            unfolding tried_of called_of progress_in FindOr used_by flips_by
+            unfolding tried_of called_of progress_in FindOr spent_by
             called_found = (
               record {
-                outcome = λ fs. under_outcome reached_by_lem fs ∙ ap (λ a. ends (reached a) (at u f fs)) (sym exit_bits);
+                outcome = λ fs. under_outcome reached_by_lem fs ∙ ap (λ a. ends (reached a) (at d.used d.flips fs)) (sym exit_bits);
                 find = (refl, exit_satisfies);
                 tracks = record {
                   bits = exit_are_bits;
@@ -250,8 +252,10 @@ module _ {p : Plan} {tables terms assignment : List ℕ} {w : Work} (room : Room
 
         -- None.
         module _ (t : TriesUnder s after terms numbers from w v r) where
-          still_tracks : used_by r ≡ u → flips_by r ≡ f → Tracks p numbers assignment (record { cost = to_z w64 (of_z w64 from.cost); finds = from.finds; flips = f; used = u })
-          still_tracks k l =
+          still_tracks : spent_by r ≡ d → Tracks p numbers assignment (record { cost = to_z w64 (of_z w64 from.cost); finds = from.finds; flips = d.flips; used = d.used })
+          still_tracks k =
+              let l : used_by r ≡ d.used = ap (λ (q : Spent). q.used) k in
+              let m : flips_by r ≡ d.flips = ap (λ (q : Spent). q.flips) k in
               record {
                 bits = st.bits;
                 obeyed = st.obeyed;
@@ -261,28 +265,28 @@ module _ {p : Plan} {tables terms assignment : List ℕ} {w : Work} (room : Room
                 within = omega (arith, t.within);
               }
 
-          pub called_failed : r ≡ tried.Failed u f →
-              CallsUnder s p m numbers from (called.Failed (record { cost = to_z w64 (of_z w64 from.cost); finds = from.finds; flips = f; used = u })) assignment assignment
+          pub called_failed : r ≡ Err (unreached.Failed d) →
+              CallsUnder s p m numbers from (Err (halt.Failed (record { cost = to_z w64 (of_z w64 from.cost); finds = from.finds; flips = d.flips; used = d.used }))) assignment assignment
               × Leaves p tables terms after assignment assignment w v
-          unfolding tried_of called_of progress_in FindOr used_by flips_by
+          unfolding tried_of called_of progress_in FindOr spent_by
           called_failed k = (
             record {
               outcome = λ fs. under_outcome t fs ∙ ap (λ q. tried_of q (bits_of p.variables v.assignment) fs) k;
               find = (refl, refl);
-              tracks = still_tracks (ap used_by k) (ap flips_by k);
+              tracks = still_tracks (ap spent_by k);
             },
             still_leaves t,
           )
 
-          pub called_short : r ≡ tried.Short u f →
-              CallsUnder s p m numbers from (called.Short (record { cost = to_z w64 (of_z w64 from.cost); finds = from.finds; flips = f; used = u })) assignment assignment
+          pub called_short : r ≡ Err (unreached.Short d) →
+              CallsUnder s p m numbers from (Err (halt.Short (record { cost = to_z w64 (of_z w64 from.cost); finds = from.finds; flips = d.flips; used = d.used }))) assignment assignment
               × Leaves p tables terms after assignment assignment w v
-          unfolding tried_of called_of progress_in FindOr used_by flips_by
+          unfolding tried_of called_of progress_in FindOr spent_by
           called_short k = (
             record {
               outcome = λ fs. under_outcome t fs ∙ ap (λ q. tried_of q (bits_of p.variables v.assignment) fs) k;
               find = (refl, refl);
-              tracks = still_tracks (ap used_by k) (ap flips_by k);
+              tracks = still_tracks (ap spent_by k);
             },
             still_leaves t,
           )

@@ -5,14 +5,11 @@ use native.Mathlib.Omega.{arith}
 use mathlib.Core.Path.{◌≡◌, refl, sym, ap, ap₂, ◌∙◌, subst}
 use mathlib.Core.Bool.{true, false}
 use mathlib.Core.List.{List, [], ◌∷◌}
-use mathlib.Core.Logic.{inl, inr}
 use lib.Dec.{T}
 use lib.IntN.{ℤ, pos, negsuc, nat_abs}
 use lib.ListN.{length}
 use lib.Signed.{le_z, lt_z}
 use borrow.Author.Tests.{ltb-true, ltb-false, lt-leb, le-leb}
-use denote.Enum.Declared.{tag_of}
-use types.Run.{OneOf}
 use mir.Facts.{to_z-of_z}
 use mir.Syntax.{w64}
 use mir.Val.{to_z, of_z, SFits}
@@ -31,12 +28,12 @@ use Rattle.tallies.specs.Layout.{bits_of}
 use Rattle.numbers.specs.Numbers.{numbers_of}
 use Rattle.numbers.proofs.Runs.{descending_none, descending_floor, descending_failed, descending_found, descending_short}
 use Rattle.progress.specs.declared.Progress.{Progress}
-use Rattle.progress.specs.declared.Called.{Called}
-use Rattle.progress.specs.declared.Called.TheVariants as called
+use Rattle.std.specs.Prelude.{Result, Ok, Err, IsErrAnd}
+use Rattle.progress.specs.declared.Halt.{Halt}
+use Rattle.progress.specs.declared.Halt.TheVariants as halt
 use Rattle.progress.specs.declared.Ending.{Ending as EndingOf}
 use Rattle.progress.specs.declared.Ending.TheVariants as code
 use Rattle.progress.specs.declared.Searched.{Searched}
-use Rattle.progress.specs.contracts.Called.{the_type}
 use Rattle.settings.specs.Settings.{mode_of}
 use Rattle.lending.specs.Work.{Work}
 use Rattle.progress.specs.Bounds.{basis, Bounded, Tracks, Room, Leaves, called_of, progress_in, FindOr, CallsUnder, UnderBound, answer_of, ending_of, Concludes, Descends, Descent, StoppedAt}
@@ -137,12 +134,12 @@ module _ (p : Plan) (t : Progress) (a : Assignment) (fs : List Assignment) (c : 
 
 -- ---- what follows the next call
 
-module _ {s : Settings} {p : Plan} {numbers : List ℕ} {t : Progress} {m : ℤ} {r : Called} {entry exit : List ℕ} (c : CallsUnder s p m numbers t r entry exit) {k : ℤ} (e : m ≡ k) where
+module _ {s : Settings} {p : Plan} {numbers : List ℕ} {t : Progress} {m : ℤ} {r : Result Progress Halt} {entry exit : List ℕ} (c : CallsUnder s p m numbers t r entry exit) {k : ℤ} (e : m ≡ k) where
   called_under : (fs : List Assignment) → run (call s (tightened p k)) (numbers_of numbers) (at t.used t.flips fs) ≡ called_of r (held p exit) fs
   called_under fs = subst (λ n. run (call s (tightened p n)) (numbers_of numbers) (at t.used t.flips fs) ≡ called_of r (held p exit) fs) e (c.outcome fs)
 
 -- A find costs less, so that fewer can follow.
-pub falls : {s : Settings} {p : Plan} {numbers : List ℕ} {t u : Progress} {m : ℤ} {entry exit : List ℕ} → CallsUnder s p m numbers t (called.Found u) entry exit
+pub falls : {s : Settings} {p : Plan} {numbers : List ℕ} {t u : Progress} {m : ℤ} {entry exit : List ℕ} → CallsUnder s p m numbers t (Ok u) entry exit
     → T (lt_z m (cost p (held p entry))) → gap p (held p exit) < gap p (held p entry)
 unfolding FindOr tightened
 falls {p = p} {m = m} {entry = entry} {exit = exit} c h =
@@ -170,7 +167,7 @@ module _ (s : Settings) (mode : Mode) (o : Plan → ℕ → Assignment → Walk 
       ap (conclude p) (descending_floor s p mode (o p) ns a (at t.used t.flips (a ∷ fs)) left h) ∙ concluded p t a fs c n code.Floor
 
   module _ (w : T (obeys (held p entry) p)) (h : at_floor p (held p entry) ≡ false) {m : ℤ} (e : m ≡ bound_in mode (floor_cost p) (cost p (held p entry))) {u : Progress} {exit : List ℕ} where
-    on_a_find : CallsUnder s p m numbers t (called.Found u) entry exit → (r : Answer) → Concludes walk p numbers u (held p exit) r → Concludes walk p numbers t (held p entry) r
+    on_a_find : CallsUnder s p m numbers t (Ok u) entry exit → (r : Answer) → Concludes walk p numbers u (held p exit) r → Concludes walk p numbers t (held p entry) r
     unfolding called_of FindOr
     on_a_find c r f zero fs g n = absurd (omega (arith, some_gap p a w h))
     on_a_find c r f (suc left) fs g n =
@@ -179,7 +176,7 @@ module _ (s : Settings) (mode : Mode) (o : Plan → ℕ → Assignment → Walk 
         ∙ f left (a ∷ fs) (omega arith) (omega (arith, c.find.0))
 
     -- What follows the first failure.
-    on_a_failure : CallsUnder s p m numbers t (called.Failed u) entry exit → (r : Answer) → Concludes o p numbers u (held p exit) r → Concludes walk p numbers t (held p entry) r
+    on_a_failure : CallsUnder s p m numbers t (Err (halt.Failed u)) entry exit → (r : Answer) → Concludes o p numbers u (held p exit) r → Concludes walk p numbers t (held p entry) r
     unfolding called_of FindOr
     on_a_failure c r f zero fs g n = absurd (omega (arith, some_gap p a w h))
     on_a_failure c r f (suc left) fs g n =
@@ -188,7 +185,7 @@ module _ (s : Settings) (mode : Mode) (o : Plan → ℕ → Assignment → Walk 
         ap (conclude p) (descending_failed s p mode (o p) ns a (at t.used t.flips (a ∷ fs)) left h (called_under c e (a ∷ fs)))
         ∙ l (suc left) fs g (n ∙ sym c.find.0)
 
-    where_short : CallsUnder s p m numbers t (called.Short u) entry exit → Concludes walk p numbers t (held p entry) (answer_of code.ShortFound u (reached (held p exit)))
+    where_short : CallsUnder s p m numbers t (Err (halt.Short u)) entry exit → Concludes walk p numbers t (held p entry) (answer_of code.ShortFound u (reached (held p exit)))
     unfolding called_of FindOr progress_in
     where_short c zero fs g n = absurd (omega (arith, some_gap p a w h))
     where_short c (suc left) fs g n =
@@ -211,7 +208,6 @@ pub record Since (s : Settings) (mode : Mode) (p : Plan) (terms numbers tables�
   pub room : Room p tables terms assignment v
   pub tracks : Tracks p numbers assignment t
   pub leaves : Leaves p tables₀ terms tables assignment₀ assignment w v
-  pub long : Long tables₀ tables assignment₀ assignment w v
   pub comes : (o : Plan → ℕ → Assignment → Walk Ending) (r : Answer)
       → Concludes (λ q. descending s q mode (o q)) p numbers t (bits_of p.variables assignment) r
       → Concludes (λ q. descending s q mode (o q)) p numbers from (bits_of p.variables assignment₀) r
@@ -223,7 +219,6 @@ since_first room tracks =
       room = room;
       tracks = tracks;
       leaves = record { bounded = room.bounded; table = refl; find = refl; beyond = record { assignment = refl; tallies = refl; marks = refl } };
-      long = record { tables = refl; assignment = refl; tried = refl; tallies = refl; marks = refl };
       comes = λ o r c. c;
     }
 
@@ -240,17 +235,6 @@ leaves_then l k =
         tallies = k.beyond.tallies ∙ l.beyond.tallies;
         marks = k.beyond.marks ∙ l.beyond.marks;
       };
-    }
-
-pub long_then : {tables tables' tables'' assignment assignment' assignment'' : List ℕ} {w v u : Work}
-    → Long tables tables' assignment assignment' w v → Long tables' tables'' assignment' assignment'' v u → Long tables tables'' assignment assignment'' w u
-long_then l k =
-    record {
-      tables = k.tables ∙ l.tables;
-      assignment = k.assignment ∙ l.assignment;
-      tried = k.tried ∙ l.tried;
-      tallies = k.tallies ∙ l.tallies;
-      marks = k.marks ∙ l.marks;
     }
 
 pub room_after : {p : Plan} {terms tables tables' assignment assignment' : List ℕ} {w v : Work}
@@ -272,36 +256,24 @@ module _ {p : Plan} {tables terms : List ℕ} (b : Bounded p tables terms) {assi
   pub tracks_here : {numbers : List ℕ} {t : Progress} → Tracks p numbers assignment t → Tracks (basis tables terms) numbers assignment t
   tracks_here st = rw (bounded_basis b) st
 
-  calls_here : {s : Settings} {m : ℤ} {numbers exit : List ℕ} {t : Progress} {r : Called}
+  calls_here : {s : Settings} {m : ℤ} {numbers exit : List ℕ} {t : Progress} {r : Result Progress Halt}
       → CallsUnder s (basis tables terms) m numbers t r assignment exit → CallsUnder s p m numbers t r assignment exit
   calls_here c = rw (bounded_basis b) at c
 
   leaves_here : {tables' exit : List ℕ} {w v : Work} → Leaves (basis tables terms) tables terms tables' assignment exit w v → Leaves p tables terms tables' assignment exit w v
   leaves_here l = rw (bounded_basis b) at l
 
--- What a call that is no find says by its tag.
-abbrev Unfound : Called → Type 0
-Unfound (called.Found t) = ⊥
-Unfound (called.Failed t) = Unit {0}
-Unfound (called.Short t) = Unit {0}
-
-unfound : (r : Called) → OneOf (1 ∷ 2 ∷ []) (tag_of the_type r) → Unfound r
-unfound (called.Found t) (inl e) = absurd (omega arith)
-unfound (called.Found t) (inr e) = absurd (omega arith)
-unfound (called.Failed t) k = tt
-unfound (called.Short t) k = tt
-
 -- One turn of the loop.
 module _ {s : Settings} {mode : Mode} {p : Plan} {terms numbers tables₀ assignment₀ : List ℕ} {w : Work} {from : Progress} {tables assignment : List ℕ} {v : Work} {t : Progress}
     (i : Since s mode p terms numbers tables₀ assignment₀ w from tables assignment v t)
   where
     pub descent_ends : at_floor p (bits_of p.variables assignment) ≡ true
-        → Descends s mode p numbers from (bits_of p.variables assignment₀) (bits_of p.variables assignment) (called.Found t)
-        × Tracks p numbers assignment (progress_in (called.Found t)) × Leaves p tables₀ terms tables assignment₀ assignment w v
+        → Descends s mode p numbers from (bits_of p.variables assignment₀) (bits_of p.variables assignment) (Ok t)
+        × Tracks p numbers assignment (progress_in (Ok t)) × Leaves p tables₀ terms tables assignment₀ assignment w v
     unfolding Descends progress_in
     descent_ends h = (λ o. i.comes o _ (at_the_floor s mode o p numbers t assignment i.tracks.costs h), i.tracks, i.leaves)
 
-    module _ {m : ℤ} {r : Called} {tables' assignment' : List ℕ} {v' : Work} (c : UnderBound s m tables terms numbers t r tables' assignment assignment' v v')
+    module _ {m : ℤ} {r : Result Progress Halt} {tables' assignment' : List ℕ} {v' : Work} (c : UnderBound s m tables terms numbers t r tables' assignment assignment' v v')
         (h : at_floor p (bits_of p.variables assignment) ≡ false) (e : m ≡ bound_in mode (floor_cost p) (cost p (bits_of p.variables assignment)))
       where
         turn_calls : CallsUnder s p m numbers t r assignment assignment'
@@ -310,13 +282,13 @@ module _ {s : Settings} {mode : Mode} {p : Plan} {terms numbers tables₀ assign
         turn_leaves : Leaves p tables₀ terms tables' assignment₀ assignment' w v'
         turn_leaves = leaves_then i.leaves (leaves_here i.room.bounded c.1)
 
-        turn_found : {u : Progress} → r ≡ called.Found u → CallsUnder s p m numbers t (called.Found u) assignment assignment'
+        turn_found : {u : Progress} → r ≡ Ok u → CallsUnder s p m numbers t (Ok u) assignment assignment'
         turn_found k = subst (λ q. CallsUnder s p m numbers t q assignment assignment') k turn_calls
 
-        pub descent_falls : {u : Progress} → r ≡ called.Found u → gap p (bits_of p.variables assignment') < gap p (bits_of p.variables assignment)
+        pub descent_falls : {u : Progress} → r ≡ Ok u → gap p (bits_of p.variables assignment') < gap p (bits_of p.variables assignment)
         descent_falls k = falls (turn_found k) (bound_under p (bits_of p.variables assignment) mode i.tracks.obeyed h e)
 
-        pub descent_again : {u : Progress} → r ≡ called.Found u → Long tables tables' assignment assignment' v v'
+        pub descent_again : {u : Progress} → r ≡ Ok u → Long tables tables' assignment assignment' v v'
             → Since s mode p terms numbers tables₀ assignment₀ w from tables' assignment' v' u
         unfolding progress_in
         descent_again k l =
@@ -324,50 +296,67 @@ module _ {s : Settings} {mode : Mode} {p : Plan} {terms numbers tables₀ assign
               room = room_after i.room turn_leaves.bounded l;
               tracks = (turn_found k).tracks;
               leaves = turn_leaves;
-              long = long_then i.long l;
               comes = λ o q g. i.comes o q (on_a_find s mode o p numbers t assignment i.tracks.obeyed h e (turn_found k) q g);
             }
 
-        descent_stop : (r : Called) → Unfound r → CallsUnder s p m numbers t r assignment assignment'
-            → Descends s mode p numbers from (bits_of p.variables assignment₀) (bits_of p.variables assignment') r
+        descent_stop : (why : Halt) → CallsUnder s p m numbers t (Err why) assignment assignment'
+            → Descends s mode p numbers from (bits_of p.variables assignment₀) (bits_of p.variables assignment') (Err why)
         unfolding Descends
-        descent_stop (called.Found u) z d = absurd z
-        descent_stop (called.Failed u) z d = λ o q g. i.comes o q (on_a_failure s mode o p numbers t assignment i.tracks.obeyed h e d q g)
-        descent_stop (called.Short u) z d = λ o. i.comes o _ (where_short s mode o p numbers t assignment i.tracks.obeyed h e d)
+        descent_stop (halt.Failed u) d = λ o q g. i.comes o q (on_a_failure s mode o p numbers t assignment i.tracks.obeyed h e d q g)
+        descent_stop (halt.Short u) d = λ o. i.comes o _ (where_short s mode o p numbers t assignment i.tracks.obeyed h e d)
 
-        pub descent_stops : OneOf (1 ∷ 2 ∷ []) (tag_of the_type r)
-            → Descends s mode p numbers from (bits_of p.variables assignment₀) (bits_of p.variables assignment') r
-            × Tracks p numbers assignment' (progress_in r) × Leaves p tables₀ terms tables' assignment₀ assignment' w v'
-        descent_stops k = (descent_stop r (unfound r k) turn_calls, turn_calls.tracks, turn_leaves)
+        pub descent_stops : {why : Halt} → r ≡ Err why
+            → Descends s mode p numbers from (bits_of p.variables assignment₀) (bits_of p.variables assignment') (Err why)
+            × Tracks p numbers assignment' (progress_in (Err why)) × Leaves p tables₀ terms tables' assignment₀ assignment' w v'
+        descent_stops {why} k =
+            let d = subst (λ q. CallsUnder s p m numbers t q assignment assignment') k turn_calls in
+            (descent_stop why d, d.tracks, turn_leaves)
+
+-- A `?` hands the reason on as it is.
+pub handed_on : (r : Result Progress Halt) {why : Halt} → IsErrAnd r (λ e. e ≡ why) → r ≡ Err why
+handed_on (Ok t) h = absurd h
+handed_on (Err e) h = ap Err h
 
 -- ---- both modes
 
-pub stopped_tracks : {p : Plan} {numbers assignment : List ℕ} (r : Called) (q : Searched) → StoppedAt r q → Tracks p numbers assignment (progress_in r) → Tracks p numbers assignment q.progress
+pub stopped_tracks : {p : Plan} {numbers assignment : List ℕ} (r : Result Progress Halt) (q : Searched) → StoppedAt r q → Tracks p numbers assignment (progress_in r) → Tracks p numbers assignment q.progress
 unfolding StoppedAt progress_in
-stopped_tracks (called.Found t) q k st = rw k.1 st
-stopped_tracks (called.Failed t) q k st = rw k.1 st
-stopped_tracks (called.Short t) q k st = rw k.1 st
+stopped_tracks (Ok t) q k st = rw k.1 st
+stopped_tracks (Err (halt.Failed t)) q k st = rw k.1 st
+stopped_tracks (Err (halt.Short t)) q k st = rw k.1 st
+
+unfoldable pub Unfailed : Result Progress Halt → Type 0
+Unfailed (Ok t) = Unit {0}
+Unfailed (Err (halt.Failed t)) = ⊥
+Unfailed (Err (halt.Short t)) = Unit {0}
+
+pub unfailed_floor : {r : Result Progress Halt} {t : Progress} → r ≡ Ok t → Unfailed r
+unfolding Unfailed
+unfailed_floor e = rw e tt
+
+pub unfailed_short : {r : Result Progress Halt} {t : Progress} → r ≡ Err (halt.Short t) → Unfailed r
+unfolding Unfailed
+unfailed_short e = rw e tt
 
 -- "ended": nothing follows the failure of linear tightening.
 ends_there : (p : Plan) (numbers : List ℕ) (t : Progress) (b : Assignment) → t.cost ≡ cost p b → Concludes (λ q left a. done ended) p numbers t b (answer_of code.Ended t (reached b))
 unfolding run ending_of
 ends_there p numbers t b c left fs g n = concluded p t b fs c n code.Ended
 
-module _ (s : Settings) (p : Plan) (numbers : List ℕ) (from : Progress) (a : Assignment) (exit : List ℕ) (r : Called) (q : Searched) (k : StoppedAt r q) where
+module _ (s : Settings) (p : Plan) (numbers : List ℕ) (from : Progress) (a : Assignment) (exit : List ℕ) (r : Result Progress Halt) (q : Searched) (k : StoppedAt r q) where
   abbrev b : Assignment
   b = bits_of p.variables exit
 
   -- A tightening that did not fail, whatever would have followed its failure.
-  pub unfailed : (mode : Mode) → OneOf (0 ∷ 2 ∷ []) (tag_of the_type r) → Descends s mode p numbers from a (bits_of p.variables exit) r
+  pub unfailed : (mode : Mode) → Unfailed r → Descends s mode p numbers from a (bits_of p.variables exit) r
       → Concludes (tighten mode s) p numbers from a (answer_of q.ending q.progress (reached (bits_of p.variables exit)))
   unfailed mode z d = in_mode mode (either r z k d)
     where
-      either : (r : Called) → OneOf (0 ∷ 2 ∷ []) (tag_of the_type r) → StoppedAt r q → Descends s mode p numbers from a b r
+      either : (r : Result Progress Halt) → Unfailed r → StoppedAt r q → Descends s mode p numbers from a b r
           → (o : Plan → ℕ → Assignment → Walk Ending) → Concludes (λ q. descending s q mode (o q)) p numbers from a (answer_of q.ending q.progress (reached b))
-      either (called.Found t) z k d = unfold Descends StoppedAt in λ o. rw (k.0, k.1) (d o)
-      either (called.Failed t) (inl z) k d = absurd (omega arith)
-      either (called.Failed t) (inr z) k d = absurd (omega arith)
-      either (called.Short t) z k d = unfold Descends StoppedAt in λ o. rw (k.0, k.1) (d o)
+      either (Ok t) z k d = unfold Descends StoppedAt in λ o. rw (k.0, k.1) (d o)
+      either (Err (halt.Failed t)) z k d = absurd (unfold Unfailed in z)
+      either (Err (halt.Short t)) z k d = unfold Descends StoppedAt in λ o. rw (k.0, k.1) (d o)
 
       in_mode : (mode : Mode) {x : Answer} → ((o : Plan → ℕ → Assignment → Walk Ending) → Concludes (λ q. descending s q mode (o q)) p numbers from a x) → Concludes (tighten mode s) p numbers from a x
       in_mode linear f = unfold tighten linear_search in f (λ q left a. done ended)
@@ -378,12 +367,12 @@ module _ (s : Settings) (p : Plan) (numbers : List ℕ) (from : Progress) (a : A
       → Concludes (linear_search s) p numbers from a (answer_of q.ending q.progress (reached (bits_of p.variables exit)))
   linearly st d = either r k st d
     where
-      either : (r : Called) → StoppedAt r q → Tracks p numbers exit (progress_in r) → Descends s linear p numbers from a b r
+      either : (r : Result Progress Halt) → StoppedAt r q → Tracks p numbers exit (progress_in r) → Descends s linear p numbers from a b r
           → Concludes (linear_search s) p numbers from a (answer_of q.ending q.progress (reached b))
-      either (called.Found t) k st d = unfold Descends StoppedAt linear_search in rw (k.0, k.1) (d (λ q left a. done ended))
-      either (called.Failed t) k st d =
+      either (Ok t) k st d = unfold Descends StoppedAt linear_search in rw (k.0, k.1) (d (λ q left a. done ended))
+      either (Err (halt.Failed t)) k st d =
           unfold Descends StoppedAt linear_search progress_in in rw (k.0, k.1) (d (λ q left a. done ended) _ (ends_there p numbers t b st.costs))
-      either (called.Short t) k st d = unfold Descends StoppedAt linear_search in rw (k.0, k.1) (d (λ q left a. done ended))
+      either (Err (halt.Short t)) k st d = unfold Descends StoppedAt linear_search in rw (k.0, k.1) (d (λ q left a. done ended))
 
   pub tightens_linearly : (m : ℕ) → m ≡ 0 → Tracks p numbers exit (progress_in r) → Descends s (mode_of m) p numbers from a (bits_of p.variables exit) r
       → Concludes (tighten (mode_of m) s) p numbers from a (answer_of q.ending q.progress (reached (bits_of p.variables exit)))
@@ -392,7 +381,7 @@ module _ (s : Settings) (p : Plan) (numbers : List ℕ) (from : Progress) (a : A
   tightens_linearly (suc m) e st d = absurd (omega arith)
 
 -- LBS has failed at the progress t, and linear tightening has gone on from there.
-module _ {p : Plan} {terms numbers tables tables' assignment assignment' : List ℕ} {t : Progress} {w v : Work} {r : Called} (k : r ≡ called.Failed t)
+module _ {p : Plan} {terms numbers tables tables' assignment assignment' : List ℕ} {t : Progress} {w v : Work} {r : Result Progress Halt} (k : r ≡ Err (halt.Failed t))
     (l : Leaves p tables terms tables' assignment assignment' w v)
   where
     pub failed_tracks : Tracks p numbers assignment' (progress_in r) → Tracks (basis tables' terms) numbers assignment' t
@@ -401,7 +390,7 @@ module _ {p : Plan} {terms numbers tables tables' assignment assignment' : List 
 
     pub lbs_then_linear : (s : Settings) (from : Progress) (mode : ℕ) → (mode ≡ 0 → ⊥)
         → Descends s (mode_of mode) p numbers from (bits_of p.variables assignment) (bits_of p.variables assignment') r
-        → {tables'' exit : List ℕ} {u : Work} (d : Called) (q : Searched) → StoppedAt d q
+        → {tables'' exit : List ℕ} {u : Work} (d : Result Progress Halt) (q : Searched) → StoppedAt d q
         → Descent s (mode_of 0) tables' terms numbers t d tables'' assignment' exit v u
         → Concludes (tighten (mode_of mode) s) p numbers from (bits_of p.variables assignment) (answer_of q.ending q.progress (reached (bits_of p.variables exit)))
         × Tracks p numbers exit q.progress × Leaves p tables terms tables'' assignment exit w u
@@ -411,6 +400,6 @@ module _ {p : Plan} {terms numbers tables tables' assignment assignment' : List 
         let g' : Descends s linear p numbers t (bits_of p.variables assignment') (bits_of p.variables exit) d
         × Tracks p numbers exit (progress_in d) × Leaves p tables' terms tables'' assignment' exit v u =
         subst (λ o. Descends s linear o numbers t (bits_of o.variables assignment') (bits_of o.variables exit) d × Tracks o numbers exit (progress_in d) × Leaves o tables' terms tables'' assignment' exit v u) (bounded_basis l.bounded) g in
-        let f' : Descends s lbs p numbers from (bits_of p.variables assignment) (bits_of p.variables assignment') (called.Failed t) =
+        let f' : Descends s lbs p numbers from (bits_of p.variables assignment) (bits_of p.variables assignment') (Err (halt.Failed t)) =
         subst (λ o. Descends s lbs p numbers from (bits_of p.variables assignment) (bits_of p.variables assignment') o) k f in
         (f' (linear_search s) _ (linearly s p numbers t _ exit d q z g'.1 g'.0), stopped_tracks d q z g'.1, leaves_then l g'.2)

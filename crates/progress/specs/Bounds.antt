@@ -1,6 +1,6 @@
 -- What the tightening's code needs of the tables that it bounds, and what it answers and leaves, as the search's definitions have it.
 -- Assumes nothing.
-use Rattle.std.specs.Prelude.{ℕ, suc, ◌+◌, ◌-◌, ◌/◌, ◌≤◌, ◌<◌, ◌≡◌, List, ◌∷◌, T, ℤ, nat_abs, length, take, drop}
+use Rattle.std.specs.Prelude.{ℕ, suc, ◌+◌, ◌-◌, ◌/◌, ◌≤◌, ◌<◌, ◌≡◌, List, ◌∷◌, T, ℤ, nat_abs, length, take, drop, Result, Ok, Err}
 use Rattle.plpb.specs.Plan.{Plan, Assignment, obeys, satisfies, cost}
 use Rattle.plpb.specs.Walk.{Walk, Outcome, ends, short, run}
 use Rattle.plpb.specs.Settings.{Mode, Settings}
@@ -11,8 +11,8 @@ use Rattle.format.specs.Tables.{Holds, plan_of_tables, table_size}
 use Rattle.tallies.specs.Layout.{bits_of, are_bits}
 use Rattle.numbers.specs.Numbers.{numbers_of}
 use Rattle.progress.specs.declared.Progress.{Progress}
-use Rattle.progress.specs.declared.Called.{Called}
-use Rattle.progress.specs.declared.Called.TheVariants as called
+use Rattle.progress.specs.declared.Halt.{Halt}
+use Rattle.progress.specs.declared.Halt.TheVariants as halt
 use Rattle.progress.specs.declared.Ending.{Ending as EndingOf}
 use Rattle.progress.specs.declared.Ending.TheVariants as code
 use Rattle.progress.specs.declared.Searched.{Searched}
@@ -61,23 +61,23 @@ pub record Leaves (p : Plan) (tables terms tables' assignment assignment' : List
   pub beyond : Beyond p.variables w w'
 
 -- What one call with the added clause comes to.
-unfoldable pub called_of : Called → Assignment → List Assignment → Outcome Reached
-called_of (called.Found t) b fs = ends (reached b) (at t.used t.flips fs)
-called_of (called.Failed t) b fs = ends failed (at t.used t.flips fs)
-called_of (called.Short t) b fs = short (at t.used t.flips fs)
+unfoldable pub called_of : Result Progress Halt → Assignment → List Assignment → Outcome Reached
+called_of (Ok t) b fs = ends (reached b) (at t.used t.flips fs)
+called_of (Err (halt.Failed t)) b fs = ends failed (at t.used t.flips fs)
+called_of (Err (halt.Short t)) b fs = short (at t.used t.flips fs)
 
-unfoldable pub progress_in : Called → Progress
-progress_in (called.Found t) = t
-progress_in (called.Failed t) = t
-progress_in (called.Short t) = t
+unfoldable pub progress_in : Result Progress Halt → Progress
+progress_in (Ok t) = t
+progress_in (Err (halt.Failed t)) = t
+progress_in (Err (halt.Short t)) = t
 
 -- A find meets the bound and is one more; else the assignment and its count are as they were.
-unfoldable pub FindOr : Plan → ℕ → List ℕ → List ℕ → Called → Type 0
-FindOr q finds entry exit (called.Found t) = (t.finds ≡ finds + 1) × T (satisfies (bits_of q.variables exit) q)
-FindOr q finds entry exit (called.Failed t) = (t.finds ≡ finds) × (exit ≡ entry)
-FindOr q finds entry exit (called.Short t) = (t.finds ≡ finds) × (exit ≡ entry)
+unfoldable pub FindOr : Plan → ℕ → List ℕ → List ℕ → Result Progress Halt → Type 0
+FindOr q finds entry exit (Ok t) = (t.finds ≡ finds + 1) × T (satisfies (bits_of q.variables exit) q)
+FindOr q finds entry exit (Err (halt.Failed t)) = (t.finds ≡ finds) × (exit ≡ entry)
+FindOr q finds entry exit (Err (halt.Short t)) = (t.finds ≡ finds) × (exit ≡ entry)
 
-pub record CallsUnder (s : Settings) (p : Plan) (m : ℤ) (numbers : List ℕ) (from : Progress) (r : Called) (entry exit : List ℕ) : Type 0 where
+pub record CallsUnder (s : Settings) (p : Plan) (m : ℤ) (numbers : List ℕ) (from : Progress) (r : Result Progress Halt) (entry exit : List ℕ) : Type 0 where
   pub outcome :
       (fs : List Assignment) → run (call s (tightened p m)) (numbers_of numbers) (at from.used from.flips fs)
       ≡ called_of r (bits_of p.variables exit) fs
@@ -105,27 +105,27 @@ Concludes w p numbers t a r =
 
 -- A tightening in one mode from a find a, with b the last find: at the floor or short of numbers it comes to this answer whatever would follow
 -- its failure, and where it failed to what follows from there.
-unfoldable pub Descends : Settings → Mode → Plan → List ℕ → Progress → Assignment → Assignment → Called → Type 0
-Descends s mode p numbers from a b (called.Found t) =
+unfoldable pub Descends : Settings → Mode → Plan → List ℕ → Progress → Assignment → Assignment → Result Progress Halt → Type 0
+Descends s mode p numbers from a b (Ok t) =
     (o : Plan → ℕ → Assignment → Walk Ending) → Concludes (λ q. descending s q mode (o q)) p numbers from a (answer_of code.Floor t (reached b))
-Descends s mode p numbers from a b (called.Short t) =
+Descends s mode p numbers from a b (Err (halt.Short t)) =
     (o : Plan → ℕ → Assignment → Walk Ending) → Concludes (λ q. descending s q mode (o q)) p numbers from a (answer_of code.ShortFound t (reached b))
-Descends s mode p numbers from a b (called.Failed t) =
+Descends s mode p numbers from a b (Err (halt.Failed t)) =
     (o : Plan → ℕ → Assignment → Walk Ending) (r : Answer) → Concludes o p numbers t b r → Concludes (λ q. descending s q mode (o q)) p numbers from a r
 
 -- How a tightening ends where nothing follows its failure.
-unfoldable pub StoppedAt : Called → Searched → Type 0
-StoppedAt (called.Found t) r = (r.ending ≡ code.Floor) × (r.progress ≡ t)
-StoppedAt (called.Failed t) r = (r.ending ≡ code.Ended) × (r.progress ≡ t)
-StoppedAt (called.Short t) r = (r.ending ≡ code.ShortFound) × (r.progress ≡ t)
+unfoldable pub StoppedAt : Result Progress Halt → Searched → Type 0
+StoppedAt (Ok t) r = (r.ending ≡ code.Floor) × (r.progress ≡ t)
+StoppedAt (Err (halt.Failed t)) r = (r.ending ≡ code.Ended) × (r.progress ≡ t)
+StoppedAt (Err (halt.Short t)) r = (r.ending ≡ code.ShortFound) × (r.progress ≡ t)
 
 -- What the code does with the tables that hold the plan with an added clause: p is the plan without it.
-abbrev pub UnderBound : Settings → ℤ → (tables terms numbers : List ℕ) → Progress → Called → (tables' assignment assignment' : List ℕ) → (w w' : Work) → Type 0
+abbrev pub UnderBound : Settings → ℤ → (tables terms numbers : List ℕ) → Progress → Result Progress Halt → (tables' assignment assignment' : List ℕ) → (w w' : Work) → Type 0
 UnderBound s m tables terms numbers from r tables' assignment assignment' w w' =
     CallsUnder s (basis tables terms) m numbers from r assignment assignment'
     × Leaves (basis tables terms) tables terms tables' assignment assignment' w w'
 
-abbrev pub Descent : Settings → Mode → (tables terms numbers : List ℕ) → Progress → Called → (tables' assignment assignment' : List ℕ) → (w w' : Work) → Type 0
+abbrev pub Descent : Settings → Mode → (tables terms numbers : List ℕ) → Progress → Result Progress Halt → (tables' assignment assignment' : List ℕ) → (w w' : Work) → Type 0
 Descent s mode tables terms numbers from r tables' assignment assignment' w w' =
     let p = basis tables terms in
     Descends s mode p numbers from (bits_of p.variables assignment) (bits_of p.variables assignment') r

@@ -14,7 +14,7 @@ use counting::tightening::{lbs_bound, linear_bound};
 use words::{copy, index};
 
 // How far a search has come after a find: what it costs, and how many finds and flips were made and numbers used.
-#[derive(Clone, Copy)]
+#[derive(Clone, Copy, Debug, PartialEq, Eq)]
 pub struct Progress {
     pub cost: i64,
     pub finds: usize,
@@ -22,25 +22,24 @@ pub struct Progress {
     pub used: usize,
 }
 
-// What one call with the added clause comes to: a find or none, and how far the search has come.
-#[derive(Clone, Copy)]
-pub enum Called {
-    Found(Progress),
+// Why a tightening has no further find: a call with the added clause failed, or too few numbers were left; and how far the search has come.
+#[derive(Clone, Copy, Debug, PartialEq, Eq)]
+pub enum Halt {
     Failed(Progress),
     Short(Progress),
 }
 
-// How a search ends.
-#[derive(Clone, Copy)]
+// How a search ends, by the number that the answer gives it.
+#[derive(Clone, Copy, Debug, PartialEq, Eq)]
 pub enum Ending {
-    Floor,
-    Ended,
-    None,
-    ShortFound,
-    ShortNone,
+    Floor = 1,
+    Ended = 2,
+    None = 3,
+    ShortFound = 4,
+    ShortNone = 5,
 }
 
-#[derive(Clone, Copy)]
+#[derive(Clone, Copy, Debug, PartialEq, Eq)]
 pub struct Searched {
     pub ending: Ending,
     pub progress: Progress,
@@ -59,26 +58,26 @@ pub fn keep_find(tables: &[u8], found: &[u8], assignment: &mut [u8]) -> i64
 }
 
 // How a tightening ends where nothing follows its failure.
-pub fn stopped(c: Called) -> Searched
-    ensures { StoppedAt c result }
+pub fn stopped(end: Result<Progress, Halt>) -> Searched
+    ensures { StoppedAt end result }
 {
-    match c {
-        Called::Found(at) => Searched {
+    match end {
+        Ok(progress) => Searched {
             ending: Ending::Floor,
-            progress: at,
+            progress,
         },
-        Called::Failed(at) => Searched {
+        Err(Halt::Failed(progress)) => Searched {
             ending: Ending::Ended,
-            progress: at,
+            progress,
         },
-        Called::Short(at) => Searched {
+        Err(Halt::Short(progress)) => Searched {
             ending: Ending::ShortFound,
-            progress: at,
+            progress,
         },
     }
 }
 
-// The bound that a find of this cost gives the next call.
+// The bound that a find of this cost gives the next call. The mode stays the number that the C interface takes, since each caller only hands it on.
 pub fn bound_for(mode: u32, least: i64, cost: i64) -> i64
     requires { (nat_abs least < 4294967296) × (nat_abs cost < 4294967296) }
     ensures { result ≡ bound_in (mode_of mode) least cost }

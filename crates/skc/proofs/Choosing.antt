@@ -25,8 +25,9 @@ use Rattle.format.specs.Tables.{plan_of_tables}
 use Rattle.format.proofs.Spells.{spells_all, spells_map}
 use Rattle.columns.specs.Layout.{column_size, list_at, list_count_at, picks_at}
 use Rattle.columns.specs.Columns.{terms_ahead, words_from, Listed}
-use Rattle.numbers.specs.declared.Picked.{Picked as Drawn}
-use Rattle.numbers.specs.declared.Picked.TheVariants as picked
+use Rattle.std.specs.Prelude.{Result, Ok, Err}
+use Rattle.numbers.specs.declared.Drawn.{Drawn}
+use Rattle.numbers.specs.declared.Short.{Short}
 use Rattle.numbers.specs.Numbers.{numbers_of}
 use Rattle.numbers.specs.Taking.{taken_of}
 use Rattle.numbers.proofs.Taking.{length_numbers_of, picked_at, picked_short, pick_uses, pick_gone}
@@ -34,7 +35,6 @@ use Rattle.numbers.proofs.Runs.{empty_by_length, noisy_least, noisy_any, noisy_s
 use Rattle.picks.specs.Picks.{Noted, Picks, Picked, Pickable}
 use Rattle.picks.proofs.Noting.{noted_walkable, noted_listed, count_word, list_bounds}
 use Rattle.picking.specs.declared.Chosen.{Chosen}
-use Rattle.picking.specs.declared.Chosen.TheVariants as chosen
 use Rattle.picking.specs.Outcome.{outcome_of, used_by, Among, Chooses, PickListed, is_one}
 use Rattle.picking.proofs.Picking.{later}
 use Rattle.skc.specs.Choosing.{of_clause, lent_try, ToChoose}
@@ -69,7 +69,7 @@ module _ {numbers marks t ys : List ℕ} {used r : ℕ} (room : column_size ≤ 
   pub picks_pickable : PickListed numbers used t picks_at r
   picks_pickable = record { some = omega (arith, h.counted, some); few = omega (arith, h.counted, h.picks.few); inside = omega (arith, h.counted, h.picks.few); room = rw h.noted.size room; listed = listed }
 
-pub picks_chosen : {marks t ys ns : List ℕ} {used r n : ℕ} {q : Chosen} → Picked ys marks t r → T (all (is_one n) ys)
+pub picks_chosen : {marks t ys ns : List ℕ} {used r n : ℕ} {q : Result Chosen Short} → Picked ys marks t r → T (all (is_one n) ys)
     → ((m : ℕ) → T (all (is_one m) (words_from (word_at t) picks_at r)) → Chooses (pick_from 0 (words_from (word_at t) picks_at r)) ns used m q)
     → Chooses (pick_from 0 ys) ns used n q
 picks_chosen {ns = ns} {used = used} {n = n} {q = q} h one f =
@@ -84,7 +84,7 @@ module _ {tables terms assignment tallies marks numbers : List ℕ} {c used : �
       let b = list_bounds k.pickable e f in
       record { some = omega (arith, count_word k.pickable f, k.some); few = b.1; inside = omega (arith, b.2); room = k.pickable.listed.room; listed = k.listed }
 
-  pub list_chosen : {q : Chosen}
+  pub list_chosen : {q : Result Chosen Short}
       → ((m : ℕ) → T (all (is_one m) (words_from (word_at marks) (list_at ahead) n)) → Chooses (pick_from 0 (words_from (word_at marks) (list_at ahead) n)) (numbers_of numbers) used m q)
       → Chooses (pick_from 0 (of_clause tables terms c)) (numbers_of numbers) used (plan_of_tables tables terms).variables q
   list_chosen {q} g =
@@ -102,22 +102,22 @@ still_to_choose o l k = record {
 
 -- ---- the noise
 
-pub listed_after : (numbers : List ℕ) (used : ℕ) {r : Drawn} → taken_of r ≡ take_pick 1_000 (numbers_of numbers) used → {k after : ℕ} → r ≡ picked.At k after → after ≤ length numbers / 4
+pub listed_after : (numbers : List ℕ) (used : ℕ) {r : Result Drawn Short} → taken_of r ≡ take_pick 1_000 (numbers_of numbers) used → {d : Drawn} → r ≡ Ok d → d.used ≤ length numbers / 4
 listed_after numbers used e t = let u = pick_uses 1_000 (numbers_of numbers) used (picked_at e t) in omega (arith, u.1, length_numbers_of numbers)
 
-module _ (numbers : List ℕ) {used : ℕ} {r : Drawn} (e : taken_of r ≡ take_pick 1_000 (numbers_of numbers) used) where
-  module _ (s : Settings) (p : Plan) (a : Try) (xs : List ℕ) {n k after : ℕ} {b : Bool} {q : Chosen} (t : r ≡ picked.At k after) (l : b ≡ ltb k s.noise) where
-    pub by_least : b ≡ true → Chooses (pick_from 0 (with_break p a.bits (least_break p a.bits xs) xs)) (numbers_of numbers) after n q → Chooses (noisy_choice s p a xs) (numbers_of numbers) used n q
+module _ (numbers : List ℕ) {used : ℕ} {r : Result Drawn Short} (e : taken_of r ≡ take_pick 1_000 (numbers_of numbers) used) where
+  module _ (s : Settings) (p : Plan) (a : Try) (xs : List ℕ) {n : ℕ} {d : Drawn} {b : Bool} {q : Result Chosen Short} (t : r ≡ Ok d) (l : b ≡ ltb d.place s.noise) where
+    pub by_least : b ≡ true → Chooses (pick_from 0 (with_break p a.bits (least_break p a.bits xs) xs)) (numbers_of numbers) d.used n q → Chooses (noisy_choice s p a xs) (numbers_of numbers) used n q
     by_least g c =
         let u = pick_uses 1_000 (numbers_of numbers) used (picked_at e t) in
         later (λ f fs. noisy_least s p a xs (numbers_of numbers) (at used f fs) (picked_at e t) (sym l ∙ g)) (omega (arith, u.0)) c
 
-    pub by_any : b ≡ false → Chooses (pick_from 0 xs) (numbers_of numbers) after n q → Chooses (noisy_choice s p a xs) (numbers_of numbers) used n q
+    pub by_any : b ≡ false → Chooses (pick_from 0 xs) (numbers_of numbers) d.used n q → Chooses (noisy_choice s p a xs) (numbers_of numbers) used n q
     by_any g c =
         let u = pick_uses 1_000 (numbers_of numbers) used (picked_at e t) in
         later (λ f fs. noisy_any s p a xs (numbers_of numbers) (at used f fs) (picked_at e t) (sym l ∙ g)) (omega (arith, u.0)) c
 
-  pub noisy_gone : (s : Settings) (p : Plan) (a : Try) (xs : List ℕ) {n after : ℕ} → r ≡ picked.Short after → used ≤ length numbers / 4 → Chooses (noisy_choice s p a xs) (numbers_of numbers) used n (chosen.Short after)
+  pub noisy_gone : (s : Settings) (p : Plan) (a : Try) (xs : List ℕ) {n : ℕ} {z : Short} → r ≡ Err z → used ≤ length numbers / 4 → Chooses (noisy_choice s p a xs) (numbers_of numbers) used n (Err z)
   unfolding outcome_of used_by Among
   noisy_gone s p a xs t h =
       let u = pick_gone 1_000 (numbers_of numbers) used (picked_short e t) in
@@ -165,7 +165,7 @@ module _ (p : Plan) (a : Assignment) where
 
 -- ---- whether some break nothing
 
-module _ (s : Settings) (p : Plan) (a : Try) (xs : List ℕ) {ns : List ℕ} {used n free : ℕ} {q : Chosen} (e : free ≡ length (with_break p a.bits 0 xs)) where
+module _ (s : Settings) (p : Plan) (a : Try) (xs : List ℕ) {ns : List ℕ} {used n free : ℕ} {q : Result Chosen Short} (e : free ≡ length (with_break p a.bits 0 xs)) where
   pub free_chosen : 0 < free → Chooses (pick_from 0 (with_break p a.bits 0 xs)) ns used n q → Chooses (skc_choice s p a xs) ns used n q
   free_chosen some g =
       let ys = with_break p a.bits 0 xs in

@@ -14,7 +14,7 @@ ghost use Rattle.skc.specs.Choosing.{of_clause, lent_try, ToChoose};
 
 use columns::{LIST_COUNTS, LISTS, PICKS};
 use least::least_of;
-use numbers::{Picked, pick};
+use numbers::{Short, pick};
 use picking::{Chosen, is_below, pick_listed};
 use picks::{free_of, terms_ahead};
 use settings::Settings;
@@ -30,7 +30,7 @@ pub fn choose_any(
     c: usize,
     numbers: &[u8],
     used: usize,
-) -> Chosen
+) -> Result<Chosen, Short>
     requires { ToChoose tables.now terms.now assignment.now tallies.now marks.now c numbers.now used }
     ensures { Chooses (pick_from 0 (of_clause tables.now terms.now c)) (numbers_of numbers.now) used
         (plan_of_tables tables.now terms.now).variables result }
@@ -49,7 +49,7 @@ fn choose_least(
     c: usize,
     numbers: &[u8],
     used: usize,
-) -> Chosen
+) -> Result<Chosen, Short>
     requires { ToChoose tables.now terms.now assignment.now tallies.now marks.old c numbers.now used }
     ensures { Chooses
         (pick_from 0
@@ -74,7 +74,7 @@ fn choose_noisy(
     numbers: &[u8],
     used: usize,
     s: Settings,
-) -> Chosen
+) -> Result<Chosen, Short>
     requires { ToChoose tables.now terms.now assignment.now tallies.now marks.old c numbers.now used }
     ensures { Chooses
         (noisy_choice (settings_of s) (plan_of_tables tables.now terms.now)
@@ -82,16 +82,15 @@ fn choose_noisy(
         (numbers_of numbers.now) used (plan_of_tables tables.now terms.now).variables result
         × Noted marks.old marks.new }
 {
-    let p = pick(numbers, used, 1000);
-    match p {
-        Picked::At(r, after) => {
-            if is_below(r, s.noise) {
-                choose_least(tables, terms, assignment, tallies, marks, c, numbers, after)
-            } else {
-                choose_any(tables, terms, assignment, tallies, marks, c, numbers, after)
-            }
-        }
-        Picked::Short(after) => Chosen::Short(after),
+    let drawn = pick(numbers, used, 1000)?;
+    if is_below(drawn.place, s.noise) {
+        choose_least(
+            tables, terms, assignment, tallies, marks, c, numbers, drawn.used,
+        )
+    } else {
+        choose_any(
+            tables, terms, assignment, tallies, marks, c, numbers, drawn.used,
+        )
     }
 }
 
@@ -106,7 +105,7 @@ pub fn choose(
     numbers: &[u8],
     used: usize,
     s: Settings,
-) -> Chosen
+) -> Result<Chosen, Short>
     requires { ToChoose tables.now terms.now assignment.now tallies.now marks.old c numbers.now used }
     ensures { Chooses
         (skc_choice (settings_of s) (plan_of_tables tables.now terms.now)

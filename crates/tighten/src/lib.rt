@@ -8,7 +8,7 @@ ghost use Rattle.lending.specs.Work.{work};
 ghost use Rattle.progress.specs.Bounds.{basis, Room, Tracks, Tightens};
 
 use descent::descend;
-use progress::{Called, Progress, Searched, stopped};
+use progress::{Halt, Progress, Searched, stopped};
 use settings::Settings;
 
 // From a first find on: linear ends at its first failure, LBS "at the first failure goes over to linear".
@@ -31,17 +31,19 @@ pub fn tighten(
         (work tried.old tallies.old marks.old)
         (work tried.new tallies.new marks.new) }
 {
-    let c = descend(
+    let first = descend(
         tables, terms, numbers, s, s.mode, floor, from, assignment, tried, tallies, marks,
     );
     if s.mode == 0 {
-        return stopped(c);
+        return stopped(first);
     }
-    let Called::Failed(at) = c else {
-        return stopped(c);
+    let at = match first {
+        Ok(_) => return stopped(first),
+        Err(Halt::Short(_)) => return stopped(first),
+        Err(Halt::Failed(at)) => at,
     };
-    let d = descend(
+    let second = descend(
         tables, terms, numbers, s, 0, floor, at, assignment, tried, tallies, marks,
     );
-    stopped(d)
+    stopped(second)
 }

@@ -1,5 +1,6 @@
 -- Laws of flips, tries and calls: what a loop has come to, and how it ends. Assumes nothing.
 use Prim.Native.Nat.{ℕ, suc, ◌+◌, ◌-◌, ◌/◌, ◌≤◌, ◌<◌}
+use native.Mathlib.Nat.{sub-zero}
 use native.Mathlib.Omega.{arith}
 use mathlib.Core.Path.{◌≡◌, refl, sym, ap, ap₂, ◌∙◌, subst}
 use mathlib.Core.Bool.{Bool, true, false, cond, true≢false}
@@ -8,8 +9,6 @@ use mathlib.Core.List.{List, [], ◌∷◌, ◌++◌}
 use lib.Dec.{leb, eqb}
 use lib.ListN.{length, take, drop}
 use borrow.Author.Tests.{eq-eqb, ne_eqb}
-use types.Run.{OneOf, miss}
-use denote.Enum.Declared.{tag_of}
 use Rattle.plpb.specs.Plan.{Plan, Assignment, hold, satisfies}
 use Rattle.plpb.proofs.Locks.{length_hold}
 use Rattle.plpb.specs.Tallies.{fresh_count}
@@ -24,22 +23,21 @@ use Rattle.tallies.specs.Layout.{bits_of, bit_bytes}
 use Rattle.recount.specs.Core.{Ready}
 use Rattle.tallies.proofs.Bits.{length_bit_bytes, drop_bytes, bits_of_bytes, are_bits_bytes}
 use Rattle.recount.proofs.Laid.{parts, tables_long, variables_word}
-use Rattle.numbers.specs.declared.Started.{Started}
-use Rattle.numbers.specs.declared.Started.TheVariants as started
+use Rattle.std.specs.Prelude.{Result, Ok, Err}
+use Rattle.numbers.specs.declared.Short.{Short}
 use Rattle.numbers.specs.Numbers.{numbers_of}
 use Rattle.numbers.specs.Taking.{Starts}
 use Rattle.numbers.proofs.Taking.{length_numbers_of, length_start, started_taken, started_short, words_use}
 use Rattle.plpb.proofs.Tallies.{look_by_count}
-use Rattle.numbers.proofs.Runs.{counted as counted-down, flipping_none, flipping_found, flipping_moved, flipping_stuck, flipping_short, try_started, try_short, trying_none, trying_next, trying_found, trying_short, run_call}
-use Rattle.moves.specs.declared.Moved.{Moved}
-use Rattle.moves.specs.declared.Moved.TheVariants as moved
-use Rattle.moves.specs.contracts.Moved.{the_type as move-type}
-use Rattle.tries.specs.declared.Tried.{Tried}
-use Rattle.tries.specs.contracts.Tried.{the_type}
-use Rattle.tries.specs.declared.Tried.TheVariants as tried
+use Rattle.numbers.proofs.Runs.{flipping_none, flipping_found, flipping_moved, flipping_stuck, flipping_short, try_started, try_short, trying_none, trying_next, trying_found, trying_short, run_call}
+use Rattle.moves.specs.declared.Unmoved.{Unmoved}
+use Rattle.moves.specs.declared.Unmoved.TheVariants as unmoved
+use Rattle.tries.specs.declared.Spent.{Spent}
+use Rattle.tries.specs.declared.Unreached.{Unreached}
+use Rattle.tries.specs.declared.Unreached.TheVariants as unreached
 use Rattle.lending.specs.Work.{Work, Beyond}
 use Rattle.moves.specs.Moves.{bits_in, try_in, Prepared, Walking, moved_of, used_in, IfMade, Moves}
-use Rattle.tries.specs.Steps.{Startable, tried_of, stopped_at, used_by, flips_by, IfReached, Tries}
+use Rattle.tries.specs.Steps.{Startable, tried_of, stopped_at, spent_by, used_by, flips_by, IfReached, Tries}
 use Rattle.moves.proofs.Moving.{unsatisfied_word}
 use Rattle.format.specs.Layout.{table_size, unsatisfied_at, mark_size}
 use Rattle.stamps.specs.Stamps.{Stamped, unstamped}
@@ -65,9 +63,9 @@ pub record Sized (w v : Work) : Type 0 where
   pub tallies : length v.tallies ≡ length w.tallies
   pub marks : length v.marks ≡ length w.marks
 
-pub sized_on : {w v u : Work} → Sized w v → length u.assignment ≡ length v.assignment → length u.tallies ≡ length v.tallies
-    → length u.marks ≡ length v.marks → Sized w u
-sized_on z a y m = record { assignment = a ∙ z.assignment; tallies = y ∙ z.tallies; marks = m ∙ z.marks }
+-- How many turns are left before one, by how many are left behind it.
+turns_left : (n turn : ℕ) → turn < n → n - turn ≡ suc (n - (turn + 1))
+turns_left n turn h = omega arith
 
 -- ---- flips
 
@@ -83,40 +81,39 @@ module _ {tables terms : List ℕ} {w : Work} (k : Walking tables terms w) where
   look_false : word_at w.tallies unsatisfied_at ≢ 0 → satisfies (bits_in tables terms w) (plan_of_tables tables terms) ≡ false
   look_false e = looked ∙ ne_eqb (word_at w.tallies unsatisfied_at) 0 e
 
--- What the flips have come to: as many are left, from another assignment and another place in the list.
-pub record Flipping (s : Settings) (tables terms numbers : List ℕ) (begun before : ℕ) (w : Work) (used made left : ℕ) (v : Work) : Type 0 where
+-- What the flips have come to after so many turns: the others are left, from another assignment and another place in the list.
+pub record Flipping (s : Settings) (tables terms numbers : List ℕ) (begun : Spent) (w : Work) (spent : Spent) (turn : ℕ) (v : Work) : Type 0 where
   pub flips : List ℕ
   pub stamped : Stamped (plan_of_tables tables terms).variables flips v.marks
-  pub counted : length flips + left ≡ s.flips
+  pub counted : length flips ≡ turn
   pub walking : Walking tables terms v
   pub outcome :
       (fs : List Assignment)
-      → run (flipping s (plan_of_tables tables terms) s.flips (try_in tables terms [] w)) (numbers_of numbers) (at begun before fs)
-      ≡ run (flipping s (plan_of_tables tables terms) left (try_in tables terms flips v)) (numbers_of numbers) (at used made fs)
-  pub uses : begun ≤ used
-  pub flipped : made ≤ used
-  pub within : used ≤ length numbers / 4
+      → run (flipping s (plan_of_tables tables terms) s.flips (try_in tables terms [] w)) (numbers_of numbers) (at begun.used begun.flips fs)
+      ≡ run (flipping s (plan_of_tables tables terms) (s.flips - turn) (try_in tables terms flips v)) (numbers_of numbers) (at spent.used spent.flips fs)
+  pub uses : begun.used ≤ spent.used
+  pub flipped : spent.flips ≤ spent.used
+  pub within : spent.used ≤ length numbers / 4
   pub beyond : Beyond (plan_of_tables tables terms).variables w v
-  pub sized : Sized w v
 
-pub flips_begin : (s : Settings) {tables terms numbers : List ℕ} {begun before : ℕ} {w : Work} → Walking tables terms w → begun ≤ length numbers / 4 → before ≤ begun
+pub flips_begin : (s : Settings) {tables terms numbers : List ℕ} {begun : Spent} {w : Work} → Walking tables terms w → begun.used ≤ length numbers / 4 → begun.flips ≤ begun.used
     → Stamped (plan_of_tables tables terms).variables [] w.marks
-    → Flipping s tables terms numbers begun before w begun before s.flips w
+    → Flipping s tables terms numbers begun w begun 0 w
 flips_begin s k l h t =
-    record { flips = []; stamped = t; counted = omega arith; walking = k; outcome = λ fs. refl; uses = omega arith; flipped = h; within = l; beyond = beyond_same _ _; sized = record { assignment = refl; tallies = refl; marks = refl } }
+    record { flips = []; stamped = t; counted = refl; walking = k; outcome = λ fs. rw (sub-zero s.flips) refl; uses = omega arith; flipped = h; within = l; beyond = beyond_same _ _ }
 
-module _ {s : Settings} {tables terms numbers : List ℕ} {begun before : ℕ} {w : Work} {used made left : ℕ} {v : Work} (i : Flipping s tables terms numbers begun before w used made left v) where
+module _ {s : Settings} {tables terms numbers : List ℕ} {begun : Spent} {w : Work} {spent : Spent} {turn : ℕ} {v : Work} (i : Flipping s tables terms numbers begun w spent turn v) where
   abbrev p : Plan
   p = plan_of_tables tables terms
 
-  pub flips_found : 0 < left → word_at v.tallies unsatisfied_at ≡ 0
-      → Tries (flipping s p s.flips (try_in tables terms [] w)) tables terms numbers begun before begun (tried.Reached used made) w v
-  unfolding tried_of used_by flips_by IfReached
+  pub flips_found : turn < s.flips → word_at v.tallies unsatisfied_at ≡ 0
+      → Tries (flipping s p s.flips (try_in tables terms [] w)) tables terms numbers begun.used begun.flips begun.used (Ok spent) w v
+  unfolding tried_of spent_by IfReached
   flips_found h e =
       let sat = look_true i.walking e in
       record {
-        outcome = λ fs. i.outcome fs ∙ ap (λ k. run (flipping s p k (try_in tables terms i.flips v)) (numbers_of numbers) (at used made fs)) (counted-down left h)
-            ∙ flipping_found s p (numbers_of numbers) (try_in tables terms i.flips v) (at used made fs) (left - 1) sat;
+        outcome = λ fs. i.outcome fs ∙ ap (λ k. run (flipping s p k (try_in tables terms i.flips v)) (numbers_of numbers) (at spent.used spent.flips fs)) (turns_left s.flips turn h)
+            ∙ flipping_found s p (numbers_of numbers) (try_in tables terms i.flips v) (at spent.used spent.flips fs) (s.flips - (turn + 1)) sat;
         finds = record { bits = i.walking.bits; satisfied = rw sat tt; uses = i.uses };
         uses = i.uses;
         within = i.within;
@@ -125,40 +122,39 @@ module _ {s : Settings} {tables terms numbers : List ℕ} {begun before : ℕ} {
         beyond = i.beyond;
       }
 
-  module _ (h : 0 < left) (e : word_at v.tallies unsatisfied_at ≢ 0) where
-    on : (fs : List Assignment) → run (flipping s p s.flips (try_in tables terms [] w)) (numbers_of numbers) (at begun before fs)
-        ≡ run (flipping s p (suc (left - 1)) (try_in tables terms i.flips v)) (numbers_of numbers) (at used made fs)
-    on fs = i.outcome fs ∙ ap (λ k. run (flipping s p k (try_in tables terms i.flips v)) (numbers_of numbers) (at used made fs)) (counted-down left h)
+  module _ (h : turn < s.flips) (e : word_at v.tallies unsatisfied_at ≢ 0) where
+    on : (fs : List Assignment) → run (flipping s p s.flips (try_in tables terms [] w)) (numbers_of numbers) (at begun.used begun.flips fs)
+        ≡ run (flipping s p (suc (s.flips - (turn + 1))) (try_in tables terms i.flips v)) (numbers_of numbers) (at spent.used spent.flips fs)
+    on fs = i.outcome fs ∙ ap (λ k. run (flipping s p k (try_in tables terms i.flips v)) (numbers_of numbers) (at spent.used spent.flips fs)) (turns_left s.flips turn h)
 
-    pub flips_more : {r : Moved} {after turn : ℕ} {u : Work} → turn ≡ s.flips - left → Moves s tables terms numbers used turn r v u → r ≡ moved.Made after → Sized w u
-        → Flipping s tables terms numbers begun before w after (made + 1) (left - 1) u
+    pub flips_more : {r : Result ℕ Unmoved} {after : ℕ} {u : Work} → Moves s tables terms numbers spent.used turn r v u → r ≡ Ok after
+        → Flipping s tables terms numbers begun w (record { used = after; flips = spent.flips + 1 }) (turn + 1) u
     unfolding moved_of used_in IfMade
-    flips_more {r} {after} {turn} {u} c m t z =
-        let same = subst (λ q. Moves s tables terms numbers used turn q v u) t m in
-        let on-from = same.reaches i.flips i.stamped (omega (arith, c, i.counted)) in
+    flips_more {r} {after} {u} m t =
+        let same = subst (λ q. Moves s tables terms numbers spent.used turn q v u) t m in
+        let on-from = same.reaches i.flips i.stamped i.counted in
         record {
           flips = on-from.next;
           stamped = on-from.stamped.0;
-          counted = omega (arith, on-from.stamped.1, i.counted, h);
+          counted = omega (arith, on-from.stamped.1, i.counted);
           walking = same.walking.0;
           outcome = λ fs. on fs
-              ∙ flipping_moved s p (numbers_of numbers) (try_in tables terms i.flips v) (at used made fs) (left - 1) (look_false i.walking e) (on-from.outcome made fs);
+              ∙ flipping_moved s p (numbers_of numbers) (try_in tables terms i.flips v) (at spent.used spent.flips fs) (s.flips - (turn + 1)) (look_false i.walking e) (on-from.outcome spent.flips fs);
           uses = omega (arith, i.uses, same.uses);
           flipped = omega (arith, i.flipped, same.walking.1);
           within = same.within;
           beyond = beyond_on i.beyond same.beyond;
-          sized = z;
         }
 
     -- No flip was made: the try is stuck, or the numbers are gone.
-    pub flips_stopped : (r : Moved) {turn : ℕ} {u : Work} → turn ≡ s.flips - left → OneOf (1 ∷ 2 ∷ []) (tag_of move-type r) → Moves s tables terms numbers used turn r v u
-        → Tries (flipping s p s.flips (try_in tables terms [] w)) tables terms numbers begun before begun (stopped_at r made) w u
-    unfolding stopped_at moved_of used_in IfMade tried_of used_by flips_by IfReached
-    flips_stopped (moved.Made after) c k m = absurd (miss (1 ∷ 2 ∷ []) 0 tt k)
-    flips_stopped (moved.Stuck after) c k m =
-        let on-from = m.reaches i.flips i.stamped (omega (arith, c, i.counted)) in
+    pub flips_stopped : {r : Result ℕ Unmoved} (why : Unmoved) {u : Work} → r ≡ Err why → Moves s tables terms numbers spent.used turn r v u
+        → Tries (flipping s p s.flips (try_in tables terms [] w)) tables terms numbers begun.used begun.flips begun.used (Err (stopped_at why spent.flips)) w u
+    unfolding stopped_at moved_of used_in IfMade tried_of spent_by IfReached
+    flips_stopped {r} (unmoved.Stuck after) {u} e' n =
+        let m = subst (λ q. Moves s tables terms numbers spent.used turn q v u) e' n in
+        let on-from = m.reaches i.flips i.stamped i.counted in
         record {
-          outcome = λ fs. on fs ∙ flipping_stuck s p (numbers_of numbers) (try_in tables terms i.flips v) (at used made fs) (left - 1) (look_false i.walking e) (on-from.outcome made fs);
+          outcome = λ fs. on fs ∙ flipping_stuck s p (numbers_of numbers) (try_in tables terms i.flips v) (at spent.used spent.flips fs) (s.flips - (turn + 1)) (look_false i.walking e) (on-from.outcome spent.flips fs);
           finds = tt;
           uses = omega (arith, i.uses, m.uses);
           within = m.within;
@@ -166,10 +162,11 @@ module _ {s : Settings} {tables terms numbers : List ℕ} {begun before : ℕ} {
           prepared = m.prepared;
           beyond = beyond_on i.beyond m.beyond;
         }
-    flips_stopped (moved.Short after) c k m =
-        let on-from = m.reaches i.flips i.stamped (omega (arith, c, i.counted)) in
+    flips_stopped {r} (unmoved.Short after) {u} e' n =
+        let m = subst (λ q. Moves s tables terms numbers spent.used turn q v u) e' n in
+        let on-from = m.reaches i.flips i.stamped i.counted in
         record {
-          outcome = λ fs. on fs ∙ flipping_short s p (numbers_of numbers) (try_in tables terms i.flips v) (at used made fs) (left - 1) (look_false i.walking e) (on-from.outcome made fs);
+          outcome = λ fs. on fs ∙ flipping_short s p (numbers_of numbers) (try_in tables terms i.flips v) (at spent.used spent.flips fs) (s.flips - (turn + 1)) (look_false i.walking e) (on-from.outcome spent.flips fs);
           finds = tt;
           uses = omega (arith, i.uses, m.uses);
           within = m.within;
@@ -178,13 +175,13 @@ module _ {s : Settings} {tables terms numbers : List ℕ} {begun before : ℕ} {
           beyond = beyond_on i.beyond m.beyond;
         }
 
-  pub flips_end : left ≤ 0 → Tries (flipping s p s.flips (try_in tables terms [] w)) tables terms numbers begun before begun (tried.Failed used made) w v
-  unfolding tried_of used_by flips_by IfReached
+  pub flips_end : s.flips ≤ turn → Tries (flipping s p s.flips (try_in tables terms [] w)) tables terms numbers begun.used begun.flips begun.used (Err (unreached.Failed spent)) w v
+  unfolding tried_of spent_by IfReached
   flips_end h =
-      let e : left ≡ 0 = omega arith in
+      let e : s.flips - turn ≡ 0 = omega arith in
       record {
-        outcome = λ fs. i.outcome fs ∙ ap (λ k. run (flipping s p k (try_in tables terms i.flips v)) (numbers_of numbers) (at used made fs)) e
-            ∙ flipping_none s p (numbers_of numbers) (try_in tables terms i.flips v) (at used made fs);
+        outcome = λ fs. i.outcome fs ∙ ap (λ k. run (flipping s p k (try_in tables terms i.flips v)) (numbers_of numbers) (at spent.used spent.flips fs)) e
+            ∙ flipping_none s p (numbers_of numbers) (try_in tables terms i.flips v) (at spent.used spent.flips fs);
         finds = tt;
         uses = i.uses;
         within = i.within;
@@ -195,11 +192,10 @@ module _ {s : Settings} {tables terms numbers : List ℕ} {begun before : ℕ} {
 
 -- ---- a try
 
-if_reached : (r : Tried) {A B : Type 0} → (A → B) → IfReached r A → IfReached r B
+if_reached : (r : Result Spent Unreached) {A B : Type 0} → (A → B) → IfReached r A → IfReached r B
 unfolding IfReached
-if_reached (tried.Reached used flips) f a = f a
-if_reached (tried.Failed used flips) f a = tt
-if_reached (tried.Short used flips) f a = tt
+if_reached (Ok t) f a = f a
+if_reached (Err e) f a = tt
 
 -- Where too few are left, none is taken.
 few_left : (b : Bool) (ws : List ℕ) (w : ℕ) {u v : ℕ} → cond b (taken ws w) (too_few u) ≡ too_few v → u ≡ v
@@ -211,14 +207,14 @@ unfolding take_words
 words_left k ns {u} e = few_left (leb (u + k) (length ns)) (take k (drop u ns)) (u + k) e
 
 module _ {tables terms : List ℕ} (numbers : List ℕ) {used made : ℕ} {w : Work} (k : Startable tables terms w) (few : made ≤ used) (g₀ : Prepared tables terms w)
-    {n : ℕ} (size : n ≡ word_at tables 0) {r : Started} {bytes : List ℕ} (h : Starts n (take_words (start_words n) (numbers_of numbers) used) w.assignment r bytes) where
+    {n : ℕ} (size : n ≡ word_at tables 0) {r : Result ℕ Short} {bytes : List ℕ} (h : Starts n (take_words (start_words n) (numbers_of numbers) used) w.assignment r bytes) where
   abbrev q : Plan
   q = plan_of_tables tables terms
 
   named : n ≡ q.variables
   named = size ∙ sym (variables_word tables terms k.ready.laid)
 
-  module _ {after : ℕ} (e : r ≡ started.Taken after) where
+  module _ {after : ℕ} (e : r ≡ Ok after) where
     abbrev drew : (ws : List ℕ) × (take_words (start_words n) (numbers_of numbers) used ≡ taken ws after) × (bytes ≡ bit_bytes (start_of n ws) ++ drop n w.assignment)
     drew = started_taken (take_words (start_words n) (numbers_of numbers) used) h e
 
@@ -284,7 +280,7 @@ module _ {tables terms : List ℕ} (numbers : List ℕ) {used made : ℕ} {w : W
               needed = y.needed;
             }
 
-        pub tried_once : (s : Settings) {t : Tried} {v : Work} → Tries (flipping s q s.flips (try_in tables terms [] begun)) tables terms numbers after made after t begun v
+        pub tried_once : (s : Settings) {t : Result Spent Unreached} {v : Work} → Tries (flipping s q s.flips (try_in tables terms [] begun)) tables terms numbers after made after t begun v
             → Tries (try s q) tables terms numbers used made (used + 1) t w v
         unfolding beginning
         tried_once s {t} {v} g =
@@ -305,11 +301,11 @@ module _ {tables terms : List ℕ} (numbers : List ℕ) {used made : ℕ} {w : W
               }) g.beyond;
             }
 
-  pub no_start : (s : Settings) {after : ℕ} {v : Work} → used ≤ length numbers / 4 → r ≡ started.Short after
+  pub no_start : (s : Settings) {gone : Short} {v : Work} → used ≤ length numbers / 4 → r ≡ Err gone
       → v.assignment ≡ bytes → v.tallies ≡ w.tallies → v.marks ≡ w.marks
-      → Tries (try s q) tables terms numbers used made (used + 1) (tried.Short used made) w v
-  unfolding tried_of used_by flips_by IfReached
-  no_start s {after} {v} l e a y m =
+      → Tries (try s q) tables terms numbers used made (used + 1) (Err (unreached.Short (record { used = used; flips = made }))) w v
+  unfolding tried_of spent_by IfReached
+  no_start s {gone} {v} l e a y m =
       let d = started_short (take_words (start_words n) (numbers_of numbers) used) h e in
       let same = words_left (start_words n) (numbers_of numbers) d.0 in
       record {
@@ -324,19 +320,18 @@ module _ {tables terms : List ℕ} (numbers : List ℕ) {used made : ℕ} {w : W
 
 -- ---- a call
 
--- What the tries have come to: as many are left, from another place in the list.
-pub record Calling (s : Settings) (tables terms numbers : List ℕ) (begun before : ℕ) (w : Work) (used made left : ℕ) (v : Work) : Type 0 where
+-- What the tries have come to after so many turns: the others are left, from another place in the list.
+pub record Calling (s : Settings) (tables terms numbers : List ℕ) (begun : Spent) (w : Work) (spent : Spent) (turn : ℕ) (v : Work) : Type 0 where
   pub startable : Startable tables terms v
   pub prepared : Prepared tables terms v
   pub outcome :
       (fs : List Assignment)
-      → run (call s (plan_of_tables tables terms)) (numbers_of numbers) (at begun before fs)
-      ≡ run (trying s (plan_of_tables tables terms) left) (numbers_of numbers) (at used made fs)
-  pub uses : begun ≤ used
-  pub flipped : made ≤ used
-  pub within : used ≤ length numbers / 4
+      → run (call s (plan_of_tables tables terms)) (numbers_of numbers) (at begun.used begun.flips fs)
+      ≡ run (trying s (plan_of_tables tables terms) (s.tries - turn)) (numbers_of numbers) (at spent.used spent.flips fs)
+  pub uses : begun.used ≤ spent.used
+  pub flipped : spent.flips ≤ spent.used
+  pub within : spent.used ≤ length numbers / 4
   pub beyond : Beyond (plan_of_tables tables terms).variables w v
-  pub sized : Sized w v
 
 startable_on : {tables terms : List ℕ} {w v : Work} → Startable tables terms w → Sized w v → Startable tables terms v
 startable_on k z =
@@ -346,89 +341,81 @@ startable_on k z =
       columns = omega (arith, k.columns, z.marks);
     }
 
-pub calls_begin : (s : Settings) {tables terms numbers : List ℕ} {begun before : ℕ} {w : Work} → Startable tables terms w → begun ≤ length numbers / 4 → before ≤ begun
+pub calls_begin : (s : Settings) {tables terms numbers : List ℕ} {begun : Spent} {w : Work} → Startable tables terms w → begun.used ≤ length numbers / 4 → begun.flips ≤ begun.used
     → Prepared tables terms w
-    → Calling s tables terms numbers begun before w begun before s.tries w
+    → Calling s tables terms numbers begun w begun 0 w
 calls_begin s k l h g =
     record {
       startable = k;
       prepared = g;
-      outcome = λ fs. run_call s _ _ (at _ _ fs);
+      outcome = λ fs. rw (sub-zero s.tries) (run_call s _ _ (at _ _ fs));
       uses = omega arith;
       flipped = h;
       within = l;
       beyond = beyond_same _ _;
-      sized = record { assignment = refl; tallies = refl; marks = refl };
     }
 
-unfoldable pub is_failed : Tried → Bool
-is_failed (tried.Reached used flips) = false
-is_failed (tried.Failed used flips) = true
-is_failed (tried.Short used flips) = false
-
--- What is left where the code has told a failure apart.
-pub not_failed : (t : Tried) → OneOf (0 ∷ 2 ∷ []) (tag_of the_type t) → is_failed t ≡ false
-unfolding is_failed
-not_failed (tried.Reached used flips) k = refl
-not_failed (tried.Failed used flips) k = absurd (miss (0 ∷ 2 ∷ []) 1 tt k)
-not_failed (tried.Short used flips) k = refl
-
-module _ {s : Settings} {tables terms numbers : List ℕ} {begun before : ℕ} {w : Work} {used made left : ℕ} {v : Work} (i : Calling s tables terms numbers begun before w used made left v) where
+module _ {s : Settings} {tables terms numbers : List ℕ} {begun : Spent} {w : Work} {spent : Spent} {turn : ℕ} {v : Work} (i : Calling s tables terms numbers begun w spent turn v) where
   abbrev o : Plan
   o = plan_of_tables tables terms
 
-  module _ (h : 0 < left) where
-    again : (fs : List Assignment) → run (call s o) (numbers_of numbers) (at begun before fs) ≡ run (trying s o (suc (left - 1))) (numbers_of numbers) (at used made fs)
-    again fs = i.outcome fs ∙ ap (λ k. run (trying s o k) (numbers_of numbers) (at used made fs)) (counted-down left h)
+  module _ (h : turn < s.tries) where
+    again : (fs : List Assignment) → run (call s o) (numbers_of numbers) (at begun.used begun.flips fs) ≡ run (trying s o (suc (s.tries - (turn + 1)))) (numbers_of numbers) (at spent.used spent.flips fs)
+    again fs = i.outcome fs ∙ ap (λ k. run (trying s o k) (numbers_of numbers) (at spent.used spent.flips fs)) (turns_left s.tries turn h)
 
-    pub calls_more : {u : Work} {after flips : ℕ} (t : Tried) → t ≡ tried.Failed after flips → Tries (try s o) tables terms numbers used made (used + 1) t v u → Sized v u
-        → Calling s tables terms numbers begun before w after flips (left - 1) u
-    unfolding tried_of used_by flips_by
-    calls_more {u} {after} {flips} t e g z =
-        let ua : used_by t ≡ after = ap used_by e in
-        let fa : flips_by t ≡ flips = ap flips_by e in
-        record {
-          startable = startable_on i.startable z;
-          prepared = g.prepared;
-          outcome = λ fs. again fs ∙ trying_next s o (numbers_of numbers) (at used made fs) (left - 1) (g.outcome fs ∙ ap (λ d. tried_of d (bits_in tables terms u) fs) e);
-          uses = omega (arith, i.uses, g.uses);
-          flipped = omega (arith, g.flipped);
-          within = omega (arith, g.within);
-          beyond = beyond_on i.beyond g.beyond;
-          sized = sized_on i.sized z.assignment z.tallies z.marks;
-        }
+    module _ {u : Work} {t : Result Spent Unreached} (n : Tries (try s o) tables terms numbers spent.used spent.flips (spent.used + 1) t v u) where
+      abbrev told : {q : Result Spent Unreached} → t ≡ q → Tries (try s o) tables terms numbers spent.used spent.flips (spent.used + 1) q v u
+      told e = subst (λ q. Tries (try s o) tables terms numbers spent.used spent.flips (spent.used + 1) q v u) e n
 
-    pub calls_done : {u : Work} (t : Tried) → is_failed t ≡ false → Tries (try s o) tables terms numbers used made (used + 1) t v u
-        → Tries (call s o) tables terms numbers begun before (begun + 1) t w u
-    unfolding is_failed tried_of used_by flips_by IfReached
-    calls_done (tried.Reached after flips) e g =
-        record {
-          outcome = λ fs. again fs ∙ trying_found s o (numbers_of numbers) (at used made fs) (left - 1) (g.outcome fs);
-          finds = record { bits = g.finds.bits; satisfied = g.finds.satisfied; uses = omega (arith, g.finds.uses, i.uses) };
-          uses = omega (arith, i.uses, g.uses);
-          within = g.within;
-          flipped = g.flipped;
-          prepared = g.prepared;
-          beyond = beyond_on i.beyond g.beyond;
-        }
-    calls_done (tried.Failed after flips) e g = absurd (true≢false e)
-    calls_done (tried.Short after flips) e g =
-        record {
-          outcome = λ fs. again fs ∙ trying_short s o (numbers_of numbers) (at used made fs) (left - 1) (g.outcome fs);
-          finds = tt;
-          uses = omega (arith, i.uses, g.uses);
-          within = g.within;
-          flipped = g.flipped;
-          prepared = g.prepared;
-          beyond = beyond_on i.beyond g.beyond;
-        }
+      pub calls_more : {after : Spent} → t ≡ Err (unreached.Failed after) → Sized v u → Calling s tables terms numbers begun w after (turn + 1) u
+      unfolding tried_of spent_by
+      calls_more e z =
+          let g = told e in
+          record {
+            startable = startable_on i.startable z;
+            prepared = g.prepared;
+            outcome = λ fs. again fs ∙ trying_next s o (numbers_of numbers) (at spent.used spent.flips fs) (s.tries - (turn + 1)) (g.outcome fs);
+            uses = omega (arith, i.uses, g.uses);
+            flipped = g.flipped;
+            within = g.within;
+            beyond = beyond_on i.beyond g.beyond;
+          }
 
-  pub calls_end : left ≤ 0 → Tries (call s o) tables terms numbers begun before (begun + 1) (tried.Failed used made) w v
-  unfolding tried_of used_by flips_by IfReached
+      pub calls_found : {found : Spent} → t ≡ Ok found → Tries (call s o) tables terms numbers begun.used begun.flips (begun.used + 1) (Ok found) w u
+      unfolding tried_of spent_by IfReached
+      calls_found e =
+          let g = told e in
+          record {
+            outcome = λ fs. again fs ∙ trying_found s o (numbers_of numbers) (at spent.used spent.flips fs) (s.tries - (turn + 1)) (g.outcome fs);
+            finds = record { bits = g.finds.bits; satisfied = g.finds.satisfied; uses = omega (arith, g.finds.uses, i.uses) };
+            uses = omega (arith, i.uses, g.uses);
+            within = g.within;
+            flipped = g.flipped;
+            prepared = g.prepared;
+            beyond = beyond_on i.beyond g.beyond;
+          }
+
+      pub calls_gone : {gone : Spent} → t ≡ Err (unreached.Short gone)
+          → Tries (call s o) tables terms numbers begun.used begun.flips (begun.used + 1) (Err (unreached.Short gone)) w u
+      unfolding tried_of spent_by IfReached
+      calls_gone e =
+          let g = told e in
+          record {
+            outcome = λ fs. again fs ∙ trying_short s o (numbers_of numbers) (at spent.used spent.flips fs) (s.tries - (turn + 1)) (g.outcome fs);
+            finds = tt;
+            uses = omega (arith, i.uses, g.uses);
+            within = g.within;
+            flipped = g.flipped;
+            prepared = g.prepared;
+            beyond = beyond_on i.beyond g.beyond;
+          }
+
+  pub calls_end : s.tries ≤ turn → Tries (call s o) tables terms numbers begun.used begun.flips (begun.used + 1) (Err (unreached.Failed spent)) w v
+  unfolding tried_of spent_by IfReached
   calls_end h =
-      let e : left ≡ 0 = omega arith in
+      let e : s.tries - turn ≡ 0 = omega arith in
       record {
-        outcome = λ fs. i.outcome fs ∙ ap (λ k. run (trying s o k) (numbers_of numbers) (at used made fs)) e ∙ trying_none s o (numbers_of numbers) (at used made fs);
+        outcome = λ fs. i.outcome fs ∙ ap (λ k. run (trying s o k) (numbers_of numbers) (at spent.used spent.flips fs)) e ∙ trying_none s o (numbers_of numbers) (at spent.used spent.flips fs);
         finds = tt;
         uses = i.uses;
         within = i.within;
@@ -448,7 +435,7 @@ module _ {tables terms : List ℕ} {w : Work} (k : Startable tables terms w) {ta
   pub prepared_now : Prepared tables terms (record { assignment = w.assignment; tallies = tallies; marks = marks })
   prepared_now = record { sized = g.0; weighed = g.1; listed = g.2 }
 
-  pub tried_prepared : {walk : Walk Reached} {numbers : List ℕ} {used flips least : ℕ} {r : Tried} {v : Work}
+  pub tried_prepared : {walk : Walk Reached} {numbers : List ℕ} {used flips least : ℕ} {r : Result Spent Unreached} {v : Work}
       → Tries walk tables terms numbers used flips least r (record { assignment = w.assignment; tallies = tallies; marks = marks }) v
       → Tries walk tables terms numbers used flips least r w v
   tried_prepared t =

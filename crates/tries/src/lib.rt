@@ -12,29 +12,34 @@ ghost use Rattle.lending.specs.Work.{work};
 
 use keeping::open_kept;
 use locks::hold_locks;
-use moves::{Moved, make_move};
-use numbers::{Started, start};
+use moves::{Unmoved, make_move};
+use numbers::start;
 use preparing::prepare;
 use settings::Settings;
 use stamps::clear_stamps;
 use words::{index, word};
 
-// What a try or a call comes to, with how many numbers are used and flips made after it.
-#[derive(Clone, Copy)]
-pub enum Tried {
-    Reached(usize, usize),
-    Failed(usize, usize),
-    Short(usize, usize),
+// How many numbers are used and flips made.
+#[derive(Clone, Copy, Debug, PartialEq, Eq)]
+pub struct Spent {
+    pub used: usize,
+    pub flips: usize,
+}
+
+// Why a try or a call reached no assignment: it failed, or too few numbers were left; and what is spent then.
+#[derive(Clone, Copy, Debug, PartialEq, Eq)]
+pub enum Unreached {
+    Failed(Spent),
+    Short(Spent),
 }
 
 // How a try ends where no flip was made: stuck, it fails; else too few numbers were left.
-fn stopped(m: Moved, made: usize) -> Tried
-    ensures { result ≡ stopped_at m made }
+fn stopped(why: Unmoved, flips: usize) -> Unreached
+    ensures { result ≡ stopped_at why flips }
 {
-    match m {
-        Moved::Made(used) => Tried::Short(used, made),
-        Moved::Stuck(used) => Tried::Failed(used, made),
-        Moved::Short(used) => Tried::Short(used, made),
+    match why {
+        Unmoved::Stuck(used) => Unreached::Failed(Spent { used, flips }),
+        Unmoved::Short(used) => Unreached::Short(Spent { used, flips }),
     }
 }
 
@@ -43,48 +48,39 @@ fn make_flips(
     tables: &[u8],
     terms: &[u8],
     numbers: &[u8],
-    begun: usize,
-    before: usize,
+    begun: Spent,
     s: Settings,
     assignment: &mut [u8],
     tallies: &mut [u8],
     marks: &mut [u8],
-) -> Tried
-    requires { Walking tables.now terms.now (work assignment.old tallies.old marks.old) × (begun ≤ length numbers.now / 4)
-        × (before ≤ begun) × Stamped (plan_of_tables tables.now terms.now).variables [] marks.old }
+) -> Result<Spent, Unreached>
+    requires { Walking tables.now terms.now (work assignment.old tallies.old marks.old) × (begun.used ≤ length numbers.now / 4)
+        × (begun.flips ≤ begun.used) × Stamped (plan_of_tables tables.now terms.now).variables [] marks.old }
     ensures { Tries
         (flipping (settings_of s) (plan_of_tables tables.now terms.now) s.flips
         (try_in tables.now terms.now [] (work assignment.old tallies.old marks.old)))
-        tables.now terms.now numbers.now begun before begun result
+        tables.now terms.now numbers.now begun.used begun.flips begun.used result
         (work assignment.old tallies.old marks.old)
         (work assignment.new tallies.new marks.new) }
 {
-    let mut used = begun;
-    let mut made = before;
-    let mut left = s.flips;
-    while 0 < left {
+    let mut spent = begun;
+    for turn in 0..s.flips {
         if word(tallies, format::UNSATISFIED) == 0 {
-            return Tried::Reached(used, made);
+            return Ok(spent);
         }
-        let m = make_move(
-            tables,
-            terms,
-            numbers,
-            used,
-            s,
-            s.flips - left,
-            assignment,
-            tallies,
-            marks,
-        );
-        let Moved::Made(after) = m else {
-            return stopped(m, made);
-        };
-        used = after;
-        made += 1;
-        left -= 1;
+        match make_move(
+            tables, terms, numbers, spent.used, s, turn, assignment, tallies, marks,
+        ) {
+            Ok(used) => {
+                spent = Spent {
+                    used,
+                    flips: spent.flips + 1,
+                };
+            }
+            Err(why) => return Err(stopped(why, spent.flips)),
+        }
     }
-    Tried::Failed(used, made)
+    Err(Unreached::Failed(spent))
 }
 
 // One try: its start, in which locked variables take their value, the tallies of that, no flip of any variable yet, its flips.
@@ -92,28 +88,35 @@ fn try_once(
     tables: &[u8],
     terms: &[u8],
     numbers: &[u8],
-    used: usize,
-    made: usize,
+    begun: Spent,
     s: Settings,
     assignment: &mut [u8],
     tallies: &mut [u8],
     marks: &mut [u8],
-) -> Tried
-    requires { Startable tables.now terms.now (work assignment.old tallies.old marks.old) × (used ≤ length numbers.now / 4)
-        × (made ≤ used) × Prepared tables.now terms.now (work assignment.old tallies.old marks.old) }
+) -> Result<Spent, Unreached>
+    requires { Startable tables.now terms.now (work assignment.old tallies.old marks.old) × (begun.used ≤ length numbers.now / 4)
+        × (begun.flips ≤ begun.used) × Prepared tables.now terms.now (work assignment.old tallies.old marks.old) }
     ensures { Tries (try (settings_of s) (plan_of_tables tables.now terms.now)) tables.now terms.now
-        numbers.now used made (used + 1) result (work assignment.old tallies.old marks.old)
+        numbers.now begun.used begun.flips (begun.used + 1) result (work assignment.old tallies.old marks.old)
         (work assignment.new tallies.new marks.new) }
 {
     let n = index(tables, 0);
-    let Started::Taken(after) = start(numbers, used, n, assignment) else {
-        return Tried::Short(used, made);
+    let Ok(used) = start(numbers, begun.used, n, assignment) else {
+        return Err(Unreached::Short(begun));
     };
     hold_locks(tables, n, assignment);
     open_kept(tables, terms, assignment, tallies);
     clear_stamps(marks);
+    let flips = begun.flips;
     make_flips(
-        tables, terms, numbers, after, made, s, assignment, tallies, marks,
+        tables,
+        terms,
+        numbers,
+        Spent { used, flips },
+        s,
+        assignment,
+        tallies,
+        marks,
     )
 }
 
@@ -122,34 +125,27 @@ fn make_tries(
     tables: &[u8],
     terms: &[u8],
     numbers: &[u8],
-    begun: usize,
-    before: usize,
+    begun: Spent,
     s: Settings,
     assignment: &mut [u8],
     tallies: &mut [u8],
     marks: &mut [u8],
-) -> Tried
-    requires { Startable tables.now terms.now (work assignment.old tallies.old marks.old) × (begun ≤ length numbers.now / 4)
-        × (before ≤ begun) × Prepared tables.now terms.now (work assignment.old tallies.old marks.old) }
+) -> Result<Spent, Unreached>
+    requires { Startable tables.now terms.now (work assignment.old tallies.old marks.old) × (begun.used ≤ length numbers.now / 4)
+        × (begun.flips ≤ begun.used) × Prepared tables.now terms.now (work assignment.old tallies.old marks.old) }
     ensures { Tries (called (settings_of s) (plan_of_tables tables.now terms.now)) tables.now terms.now
-        numbers.now begun before (begun + 1) result (work assignment.old tallies.old marks.old)
+        numbers.now begun.used begun.flips (begun.used + 1) result (work assignment.old tallies.old marks.old)
         (work assignment.new tallies.new marks.new) }
 {
-    let mut used = begun;
-    let mut made = before;
-    let mut left = s.tries;
-    while 0 < left {
-        let t = try_once(
-            tables, terms, numbers, used, made, s, assignment, tallies, marks,
-        );
-        let Tried::Failed(u, f) = t else {
-            return t;
-        };
-        used = u;
-        made = f;
-        left -= 1;
+    let mut spent = begun;
+    for _try in 0..s.tries {
+        match try_once(tables, terms, numbers, spent, s, assignment, tallies, marks) {
+            Ok(found) => return Ok(found),
+            Err(Unreached::Short(gone)) => return Err(Unreached::Short(gone)),
+            Err(Unreached::Failed(after)) => spent = after,
+        }
     }
-    Tried::Failed(used, made)
+    Err(Unreached::Failed(spent))
 }
 
 // One call. What is kept of the plan is worked out at its beginning, because the tables may have another last clause than at the call before.
@@ -157,21 +153,18 @@ pub fn call(
     tables: &[u8],
     terms: &[u8],
     numbers: &[u8],
-    begun: usize,
-    before: usize,
+    begun: Spent,
     s: Settings,
     assignment: &mut [u8],
     tallies: &mut [u8],
     marks: &mut [u8],
-) -> Tried
-    requires { Startable tables.now terms.now (work assignment.old tallies.old marks.old) × (begun ≤ length numbers.now / 4)
-        × (before ≤ begun) }
+) -> Result<Spent, Unreached>
+    requires { Startable tables.now terms.now (work assignment.old tallies.old marks.old) × (begun.used ≤ length numbers.now / 4)
+        × (begun.flips ≤ begun.used) }
     ensures { Tries (called (settings_of s) (plan_of_tables tables.now terms.now)) tables.now terms.now
-        numbers.now begun before (begun + 1) result (work assignment.old tallies.old marks.old)
+        numbers.now begun.used begun.flips (begun.used + 1) result (work assignment.old tallies.old marks.old)
         (work assignment.new tallies.new marks.new) }
 {
     prepare(tables, terms, tallies, marks);
-    make_tries(
-        tables, terms, numbers, begun, before, s, assignment, tallies, marks,
-    )
+    make_tries(tables, terms, numbers, begun, s, assignment, tallies, marks)
 }

@@ -12,11 +12,11 @@ use first::first_call;
 use onward::from_find;
 use progress::Searched;
 use settings::Settings;
-use tries::Tried;
+use tries::{Spent, Unreached};
 
 // From the first call on: it found nothing, or the search goes on from its find.
 fn from_call(
-    t: Tried,
+    t: Result<Spent, Unreached>,
     numbers: &[u8],
     s: Settings,
     assignment: &mut [u8],
@@ -33,12 +33,12 @@ fn from_call(
         × (drop table_size tables.new ≡ drop table_size tables.old)
         × (drop term_size terms.new ≡ drop term_size terms.old) }
 {
-    let Tried::Reached(used, flips) = t else {
-        return nothing(t);
-    };
-    from_find(
-        numbers, s, used, flips, assignment, tables, terms, tried, tallies, marks,
-    )
+    match t {
+        Ok(spent) => from_find(
+            numbers, s, spent, assignment, tables, terms, tried, tallies, marks,
+        ),
+        Err(why) => nothing(why),
+    }
 }
 
 // The search of tables that are known to fit.

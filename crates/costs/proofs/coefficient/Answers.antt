@@ -11,7 +11,7 @@ use Rattle.costs.proofs.coefficient.Goals as goal
 pub returns : goal.returns
 unfolding weight_at word_at
 returns c =
-    to_z-of_z {w = w64} (record { sfits = c.wide.type_inv })
-    ∙ c.wide.ensures
+    to_z-of_z {w = w64} (record { sfits = c.from.type_inv })
+    ∙ c.from.ensures
     ∙ to_z-of_z {w = w32} (record { sfits = c.read_i32.type_inv })
     ∙ c.read_i32.ensures

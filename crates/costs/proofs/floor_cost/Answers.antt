@@ -1,53 +1,20 @@
--- The goals that the search leaves.
-use Prim.Native.Nat.{◌-◌, ◌≤◌}
+-- `floor_cost` meets its contract: what the variables cost at least, summed up.
+-- Assumes nothing.
 use native.Mathlib.Omega.{arith}
 use mathlib.Core.Path.{sym, ap, ◌∙◌}
-use lib.IntN.{nat_abs}
+use mir.Facts.{to_z-of_z}
 use mir.Syntax.{w64}
-use mir.Val.{to_z}
 use Rattle.costs.specs.Sums.{least_at, sum_from}
-use Rattle.costs.proofs.Coefficients.{running_none, running_all, step_fits, step_running, least_small, floor_summed}
-use Rattle.costs.proofs.floor_cost.Goals.{After-least-sum}
+use Rattle.costs.proofs.Coefficients.{least_small, floor_summed}
 use Rattle.costs.proofs.floor_cost.Goals as goal
 
-pub index-n-requires : goal.index-n-requires
-index-n-requires c = omega (arith, c.requires.room)
-
-pub loop-i-init : goal.loop-i-init
-loop-i-init c = running_none _ _
-
-pub least-sum-requires : goal.least-sum-requires
-least-sum-requires c =
-    let pre = c.requires in
-    let n = c.index-n.ensures in
-    omega (arith, pre.room, pre.high)
-
--- What a step needs, and what it leaves.
-module _ (c : After-least-sum) where
-  high : c.index-n.result ≤ 512
-  high = omega (arith, c.index-n.ensures, c.requires.high)
-
-  small :
-      nat_abs
-      (least_at c.args.tables.now c.loop-i.i)
-      ≤ 1_000_000
-  small =
-      least_small _ c.loop-i.i (c.requires.small c.loop-i.i (omega (arith, c.index-n.ensures, c.loop-i-test.true)))
-
-pub overflow_add-sum : goal.overflow_add-sum
-overflow_add-sum c =
-    let loop = c.loop-i in
-    step_fits _ _ loop.sum-bits loop.i _ (high c) c.loop-i-test.true (record { sfits = c.least-sum.type_inv }) c.least-sum.ensures (small c) loop.invariant
-
-pub loop-i-preserved : goal.loop-i-preserved
-loop-i-preserved c =
-    let loop = c.loop-i in
-    step_running _ _ loop.sum-bits loop.i _ (high c) c.loop-i-test.true (record { sfits = c.least-sum.type_inv }) c.least-sum.ensures (small c) loop.invariant
+pub total-requires-clause-small : goal.total-requires-clause-small
+total-requires-clause-small c = λ i r l p. rw p (least_small _ i (c.requires.small i (omega (arith, l, c.index.ensures))))
 
 pub returns : goal.returns
 returns c =
-    let e = c.index-n.ensures in
-    let tables = c.args.tables.now in
-    running_all _ _ (to_z w64 c.loop-i.sum-bits) c.loop-i.i c.loop-i-test.false c.loop-i.invariant
-    ∙ ap (sum_from (least_at tables) 0) e
+    let part = least_at c.args.tables.now in
+    to_z-of_z {w = w64} (record { sfits = c.total.type_inv })
+    ∙ c.total.ensures part (λ i r l p. p)
+    ∙ ap (sum_from part 0) c.index.ensures
     ∙ sym (floor_summed _)

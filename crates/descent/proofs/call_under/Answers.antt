@@ -11,8 +11,8 @@ pub set_bound-requires : goal.set_bound-requires
 set_bound-requires c =
     (bounded_long c.requires.0.bounded, bounded_rules c.requires.0.bounded, rw (to_z-of_z c.ranges.bound) c.requires.2)
 
-pub call-t-requires : goal.call-t-requires
-call-t-requires c = (
+pub call-requires : goal.call-requires
+call-requires c = (
   under_startable c.requires.0 c.args.bound c.requires.2 c.set_bound.ensures,
   c.requires.1.within,
   c.requires.1.flips,
@@ -21,24 +21,24 @@ call-t-requires c = (
 pub keep_find-requires : goal.keep_find-requires
 keep_find-requires c =
     let u = under_bounded c.requires.0 c.args.bound c.requires.2 c.set_bound.ensures in
-    (bounded_summable u, omega (arith, bounded_word u, c.requires.0.tried, c.call-t.auto.assignment), omega (arith, bounded_word u, c.requires.0.find))
+    (bounded_summable u, omega (arith, bounded_word u, c.requires.0.tried, c.call.auto.assignment), omega (arith, bounded_word u, c.requires.0.find))
 
 pub overflow_add-result : goal.overflow_add-result
 overflow_add-result c =
     omega (arith, c.requires.1.finds, c.requires.1.within, c.well_formed.1.1.0)
 
-pub returns-in-Reached : goal.returns-in-Reached
-returns-in-Reached c =
+pub returns-in-Ok : goal.returns-in-Ok
+returns-in-Ok c =
     called_found c.requires.0 c.args.bound c.requires.2 c.set_bound.ensures _ c.requires.1
-    c.in-Reached.is c.call-t.ensures (omega (arith, c.requires.0.tried, c.call-t.auto.assignment))
+    c.in-Ok.is c.call.ensures (omega (arith, c.requires.0.tried, c.call.auto.assignment))
     (to_z-of_z {w = w64} (record { sfits = c.keep_find.type_inv }) ∙ c.keep_find.ensures.0) c.keep_find.ensures.1
 
-pub returns-in-Failed : goal.returns-in-Failed
-returns-in-Failed c =
+pub returns-in-Err-Failed : goal.returns-in-Err-Failed
+returns-in-Err-Failed c =
     called_failed c.requires.0 c.args.bound c.requires.2 c.set_bound.ensures _ c.requires.1
-    c.call-t.ensures c.in-Failed.is
+    c.call.ensures (rw c.in-Err-Failed.field-0-is at c.in-Err-Failed.is)
 
-pub returns-in-Short : goal.returns-in-Short
-returns-in-Short c =
+pub returns-in-Err-Short : goal.returns-in-Err-Short
+returns-in-Err-Short c =
     called_short c.requires.0 c.args.bound c.requires.2 c.set_bound.ensures _ c.requires.1
-    c.call-t.ensures c.in-Short.is
+    c.call.ensures (rw c.in-Err-Short.field-0-is at c.in-Err-Short.is)

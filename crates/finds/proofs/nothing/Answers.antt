@@ -3,13 +3,9 @@
 use Rattle.finds.specs.Whole.{Empty}
 use Rattle.finds.proofs.nothing.Goals as goal
 
-pub returns-in-Reached : goal.returns-in-Reached
-unfolding Empty
-returns-in-Reached c = rw c.in-Reached.is c.empty.ensures
-
 pub returns-in-Failed : goal.returns-in-Failed
 unfolding Empty
-returns-in-Failed c = rw c.in-Failed.is c.empty-in-Failed.ensures
+returns-in-Failed c = rw c.in-Failed.is c.empty.ensures
 
 pub returns-in-Short : goal.returns-in-Short
 unfolding Empty

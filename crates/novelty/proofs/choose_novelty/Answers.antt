@@ -3,33 +3,34 @@
 use native.Mathlib.Omega.{arith}
 use mathlib.Core.Path.{refl}
 use Rattle.picks.proofs.Noting.{noted_self}
+use Rattle.numbers.proofs.Taking.{handed_on}
 use Rattle.skc.proofs.Choosing.{still_to_choose, listed_after}
 use Rattle.novelty.proofs.Choosing.{by_walk, by_rank, chance_gone, list_within}
 use Rattle.novelty.proofs.choose_novelty.Goals as goal
 
-pub pick-p-requires : goal.pick-p-requires
-pick-p-requires c = (omega arith, omega arith, c.requires.listed)
+pub pick-requires : goal.pick-requires
+pick-requires c = (omega arith, omega arith, c.requires.listed)
 
 pub choose_any-requires : goal.choose_any-requires
 choose_any-requires c =
-    still_to_choose (noted_self _) (listed_after c.args.numbers.now c.args.used c.pick-p.ensures c.in-At.is) c.requires
+    still_to_choose (noted_self _) (listed_after c.args.numbers.now c.args.used c.pick.ensures c.in_ok-drawn.was) c.requires
 
 pub rank_clause-requires : goal.rank_clause-requires
 rank_clause-requires c = c.requires.pickable
 
 pub choose_ranked-requires : goal.choose_ranked-requires
 choose_ranked-requires c =
-    listed_after c.args.numbers.now c.args.used c.pick-p.ensures c.in-At.is
+    listed_after c.args.numbers.now c.args.used c.pick.ensures c.in_ok-drawn.was
 
 pub returns-then-is_below : goal.returns-then-is_below
 returns-then-is_below c =
-    by_walk _ _ _ _ _ c.args.numbers.now _ _ c.pick-p.ensures c.in-At.is c.is_below.ensures c.if-is_below.true c.choose_any.ensures
+    by_walk _ _ _ _ _ c.args.numbers.now _ _ c.pick.ensures c.in_ok-drawn.was c.is_below.ensures c.if-is_below.true c.choose_any.ensures
 
-pub returns-else-is_below : goal.returns-else-is_below
-returns-else-is_below c =
-    by_rank _ _ _ _ _ c.args.numbers.now _ _ c.pick-p.ensures c.in-At.is c.is_below.ensures c.if-is_below.false
+pub returns : goal.returns
+returns c =
+    by_rank _ _ _ _ _ c.args.numbers.now _ _ c.pick.ensures c.in_ok-drawn.was c.is_below.ensures c.if-is_below.false
     (c.choose_ranked.ensures _ _ _ _ _ refl c.rank_clause.ensures c.requires.some (list_within _ _))
 
-pub returns-in-Short : goal.returns-in-Short
-returns-in-Short c =
-    chance_gone _ _ _ _ _ c.args.numbers.now _ _ c.pick-p.ensures c.in-Short.is c.requires.listed
+pub returns-in_err-drawn : goal.returns-in_err-drawn
+returns-in_err-drawn c =
+    rw (handed_on c.from_residual.result c.from_residual.ensures.1) (chance_gone _ _ _ _ _ c.args.numbers.now _ _ c.pick.ensures c.in_err-drawn.was c.requires.listed)

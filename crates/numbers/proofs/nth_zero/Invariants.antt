@@ -1,4 +1,4 @@
--- `numbers::nth_zero` meets its contract. The invariant: what is sought is the one after `left` others among those from i on. The measure is what is left.
+-- `numbers::nth_zero` meets its contract. The invariant: what is sought is the one after `left` others among those from i on.
 -- Assumes nothing.
 use Prim.Native.Nat.{ℕ, ◌+◌, ◌-◌, ◌≤◌}
 use mathlib.Core.Bool.{Bool}
@@ -16,6 +16,3 @@ is_zero table base i = eqb (word_at table (base + i)) 0
 
 abbrev pub invariant-loop-i : goal.invariant-loop-i
 invariant-loop-i l = (l.i ≤ l.count) × (get_or (from (is_zero l.table l.base) 0 l.count l.i) l.left l.count ≡ get_or (zero_words l.table l.base l.count) l.k l.count)
-
-abbrev pub decreases-loop-i : goal.decreases-loop-i
-decreases-loop-i l = l.count - l.i

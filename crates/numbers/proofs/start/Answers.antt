@@ -6,19 +6,18 @@ use Rattle.plpb.specs.Numbers.{start_words}
 use Rattle.numbers.proofs.Taking.{starts_taken, starts_short}
 use Rattle.numbers.proofs.start.Goals as goal
 
+pub returns-then-numbers-after : goal.returns-then-numbers-after
+unfolding start_words
+returns-then-numbers-after c =
+    let at = c.args in
+    starts_short at.numbers.now at.used at.n at.assignment.now at.assignment.now c.if-numbers-after.true refl
+
 pub write_start-requires : goal.write_start-requires
 unfolding start_words
 write_start-requires c = search rules
 
-pub returns-then-after-numbers : goal.returns-then-after-numbers
+pub returns : goal.returns
 unfolding start_words
-returns-then-after-numbers c =
+returns c =
     let at = c.args in
-    starts_taken at.numbers.now at.used at.n at.assignment.now c.write_start.new.assignment
-    c.if-after-numbers.true c.write_start.ensures
-
-pub returns-else-after-numbers : goal.returns-else-after-numbers
-unfolding start_words
-returns-else-after-numbers c =
-    let at = c.args in
-    starts_short at.numbers.now at.used at.n at.assignment.now at.assignment.now c.if-after-numbers.false refl
+    starts_taken at.numbers.now at.used at.n at.assignment.now c.write_start.new.assignment c.if-numbers-after.false c.write_start.ensures

@@ -1,9 +1,9 @@
--- `numbers::write_start` meets its contract. The invariant: the first i bytes are the start's, the rest as they were. The measure is what is left.
+-- `numbers::write_start` meets its contract. The invariant: the first i bytes are the start's, the rest as they were.
 -- Assumes nothing.
-use Prim.Native.Nat.{ℕ, ◌-◌, ◌≤◌}
+use Prim.Native.Nat.{ℕ}
 use mathlib.Core.List.{List, ◌++◌}
 use mathlib.Core.Path.{◌≡◌}
-use lib.ListN.{length, take, drop}
+use lib.ListN.{take, drop}
 use Rattle.plpb.specs.Numbers.{start_words, start_of}
 use Rattle.format.specs.Assignment.{bit_bytes}
 use Rattle.numbers.specs.Numbers.{numbers_of}
@@ -13,8 +13,4 @@ abbrev pub bytes : List ℕ → ℕ → ℕ → List ℕ
 bytes numbers used n = bit_bytes (start_of n (take (start_words n) (drop used (numbers_of numbers))))
 
 abbrev pub invariant-loop-i : goal.invariant-loop-i
-invariant-loop-i l =
-    (l.i ≤ l.n) × (l.assignment ≡ take l.i (bytes l.numbers l.used l.n) ++ drop l.i l.initial.assignment) × (length l.assignment ≡ length l.initial.assignment)
-
-abbrev pub decreases-loop-i : goal.decreases-loop-i
-decreases-loop-i l = l.n - l.i
+invariant-loop-i l = l.byte-items ≡ take l.i (bytes l.numbers l.used l.n) ++ drop l.i (take l.n l.fn.assignment)

@@ -1,26 +1,22 @@
 -- `number_of` meets its contract: each ending has the number that the definition gives it.
 -- Assumes nothing.
-use borrow.Author.Rules.{rules}
+use Prim.Native.Nat.{◌+◌}
+use mathlib.Core.Path.{◌≡◌, refl}
+use denote.Enum.Declared.{tag_of}
 use Rattle.search.specs.Calls.{ending_number}
 use Rattle.progress.specs.Bounds.{ending_of}
+use Rattle.progress.specs.contracts.Ending.{the_type}
+use Rattle.progress.specs.declared.Ending.{Ending}
+use Rattle.progress.specs.declared.Ending.TheVariants as code
 use Rattle.search.proofs.number_of.Goals as goal
 
-pub returns-in-Floor : goal.returns-in-Floor
+numbered : (e : Ending) → tag_of the_type e + 1 ≡ ending_number (ending_of e)
 unfolding ending_number ending_of
-returns-in-Floor c = search rules
+numbered code.Floor = refl
+numbered code.Ended = refl
+numbered code.None = refl
+numbered code.ShortFound = refl
+numbered code.ShortNone = refl
 
-pub returns-in-Ended : goal.returns-in-Ended
-unfolding ending_number ending_of
-returns-in-Ended c = search rules
-
-pub returns-in-None : goal.returns-in-None
-unfolding ending_number ending_of
-returns-in-None c = search rules
-
-pub returns-in-ShortFound : goal.returns-in-ShortFound
-unfolding ending_number ending_of
-returns-in-ShortFound c = search rules
-
-pub returns-in-ShortNone : goal.returns-in-ShortNone
-unfolding ending_number ending_of
-returns-in-ShortNone c = search rules
+pub returns : goal.returns
+returns c = numbered c.args.ending

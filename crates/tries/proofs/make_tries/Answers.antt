@@ -1,36 +1,26 @@
 -- The goals that the search leaves.
-use borrow.Enum.Refused.{opened}
 use native.Mathlib.Omega.{arith}
 use mathlib.Core.Path.{◌∙◌}
-use Rattle.tries.proofs.Trying.{calls_begin, calls_more, calls_done, calls_end, not_failed}
+use Rattle.tries.proofs.Trying.{calls_begin, calls_more, calls_found, calls_gone, calls_end}
 use Rattle.tries.proofs.make_tries.Goals as goal
 
-pub loop-left-init : goal.loop-left-init
-loop-left-init c = calls_begin _ c.requires.0 c.requires.1 c.requires.2 c.requires.3
+pub loop-try-init : goal.loop-try-init
+loop-try-init c = calls_begin _ c.requires.0 c.requires.1 c.requires.2 c.requires.3
 
-pub try_once-t-requires : goal.try_once-t-requires
-try_once-t-requires c =
-    (c.loop-left.invariant.startable, c.loop-left.invariant.within, c.loop-left.invariant.flipped, c.loop-left.invariant.prepared)
+pub try_once-requires : goal.try_once-requires
+try_once-requires c =
+    (c.loop-try.invariant.startable, c.loop-try.invariant.within, c.loop-try.invariant.flipped, c.loop-try.invariant.prepared)
 
-pub returns-in_default : goal.returns-in_default
-returns-in_default c =
-    calls_done c.loop-left.invariant (omega (arith, c.loop-left-test.true)) _ (not_failed _ (opened c.in_default.in_default-own.keys2)) c.try_once-t.ensures
+pub returns-in-Ok : goal.returns-in-Ok
+returns-in-Ok c = calls_found c.loop-try.invariant c.loop-try-test.true c.try_once.ensures c.in-Ok.is
 
-pub overflow_sub-left : goal.overflow_sub-left
-overflow_sub-left c =
-    omega (arith, c.loop-left-test.true)
+pub returns-in-Err-Short : goal.returns-in-Err-Short
+returns-in-Err-Short c = calls_gone c.loop-try.invariant c.loop-try-test.true c.try_once.ensures (rw c.in-Err-Short.field-0-is at c.in-Err-Short.is)
 
-pub loop-left-smaller : goal.loop-left-smaller
-loop-left-smaller c =
-    omega (arith, c.loop-left-test.true)
-
-pub loop-left-preserved : goal.loop-left-preserved
-loop-left-preserved c =
-    calls_more c.loop-left.invariant (omega (arith, c.loop-left-test.true)) _ c.in-Failed.is c.try_once-t.ensures
+pub loop-try-preserved : goal.loop-try-preserved
+loop-try-preserved c =
+    calls_more c.loop-try.invariant c.loop-try-test.true c.try_once.ensures (rw c.in-Err-Failed.field-0-is at c.in-Err-Failed.is)
     (record { assignment = c.assignment-1.given; tallies = c.tallies-1.given; marks = c.marks-1.given })
 
-pub shape_of-assignment-in_default : goal.shape_of-assignment-in_default
-shape_of-assignment-in_default c = c.assignment-1.given ∙ c.loop-left.invariant.sized.assignment
-
 pub returns : goal.returns
-returns c = calls_end c.loop-left.invariant (omega (arith, c.loop-left-test.false))
+returns c = calls_end c.loop-try.invariant c.loop-try-test.false

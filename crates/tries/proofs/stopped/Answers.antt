@@ -4,10 +4,6 @@ use mathlib.Core.Path.{refl}
 use Rattle.tries.specs.Steps.{stopped_at}
 use Rattle.tries.proofs.stopped.Goals as goal
 
-pub returns-in-Made : goal.returns-in-Made
-unfolding stopped_at
-returns-in-Made c = rw c.in-Made.is refl
-
 pub returns-in-Stuck : goal.returns-in-Stuck
 unfolding stopped_at
 returns-in-Stuck c = rw c.in-Stuck.is refl

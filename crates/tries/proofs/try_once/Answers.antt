@@ -19,11 +19,11 @@ returns-in_default c =
 
 pub hold_locks-requires : goal.hold_locks-requires
 hold_locks-requires c =
-    started_holdable _ c.requires.0 c.requires.2 c.requires.3 c.index-n.ensures c.start.ensures c.in-Taken.is c.assignment-1.given
+    started_holdable _ c.requires.0 c.requires.2 c.requires.3 c.index-n.ensures c.start.ensures c.in-Ok.is c.assignment-1.given
 
 pub open_kept-requires : goal.open_kept-requires
 open_kept-requires c = (
-  started_ready _ c.requires.0 c.requires.2 c.requires.3 c.index-n.ensures c.start.ensures c.in-Taken.is c.hold_locks.ensures c.assignment-2-1.given
+  started_ready _ c.requires.0 c.requires.2 c.requires.3 c.index-n.ensures c.start.ensures c.in-Ok.is c.hold_locks.ensures c.assignment-2-1.given
       c.assignment-1.given,
   c.requires.3.sized,
 )
@@ -33,15 +33,15 @@ clear_stamps-requires c = omega (arith, c.requires.0.columns)
 
 pub make_flips-requires : goal.make_flips-requires
 make_flips-requires c =
-    let u = started_uses _ c.requires.0 c.requires.2 c.requires.3 c.index-n.ensures c.start.ensures c.in-Taken.is in (
-      started_walking _ c.requires.0 c.requires.2 c.requires.3 c.index-n.ensures c.start.ensures c.in-Taken.is c.hold_locks.ensures c.assignment-2-1.given
+    let u = started_uses _ c.requires.0 c.requires.2 c.requires.3 c.index-n.ensures c.start.ensures c.in-Ok.is in (
+      started_walking _ c.requires.0 c.requires.2 c.requires.3 c.index-n.ensures c.start.ensures c.in-Ok.is c.hold_locks.ensures c.assignment-2-1.given
           c.assignment-1.given c.open_kept.ensures c.clear_stamps.ensures,
       u.1,
       u.2,
-      started_stamps _ c.requires.0 c.requires.2 c.requires.3 c.index-n.ensures c.start.ensures c.in-Taken.is c.hold_locks.ensures c.assignment-2-1.given c.assignment-1.given c.open_kept.ensures c.clear_stamps.ensures,
+      started_stamps _ c.requires.0 c.requires.2 c.requires.3 c.index-n.ensures c.start.ensures c.in-Ok.is c.hold_locks.ensures c.assignment-2-1.given c.assignment-1.given c.open_kept.ensures c.clear_stamps.ensures,
     )
 
 pub returns : goal.returns
 returns c =
-    tried_once _ c.requires.0 c.requires.2 c.requires.3 c.index-n.ensures c.start.ensures c.in-Taken.is c.hold_locks.ensures c.assignment-2-1.given
+    tried_once _ c.requires.0 c.requires.2 c.requires.3 c.index-n.ensures c.start.ensures c.in-Ok.is c.hold_locks.ensures c.assignment-2-1.given
     c.assignment-1.given c.open_kept.ensures c.clear_stamps.ensures _ c.make_flips.ensures

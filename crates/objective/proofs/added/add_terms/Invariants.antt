@@ -1,4 +1,4 @@
--- `add_terms` meets its contract. The invariant: the terms to come, written where the next goes, leave what all of them leave. The measure is what is left.
+-- `add_terms` meets its contract. The invariant: the terms to come, written where the next goes, leave what all of them leave.
 -- Assumes nothing.
 use Prim.Native.Nat.{◌-◌}
 use Rattle.objective.proofs.AddedTerms.{Adding}
@@ -6,6 +6,3 @@ use Rattle.objective.proofs.added.add_terms.Given as goal
 
 abbrev pub invariant-loop-v : goal.invariant-loop-v
 invariant-loop-v l = Adding l.tables l.first l.n l.initial.terms l.terms l.at l.v
-
-abbrev pub decreases-loop-v : goal.decreases-loop-v
-decreases-loop-v l = l.n - l.v
