@@ -1,39 +1,19 @@
--- Laws of the division: what fits, and lists of 8.
+-- Laws of the division: what fits.
 -- Assumes nothing.
-use Prim.Native.Nat.{ℕ, zero, suc, ◌+◌, ◌-◌, ◌*◌, ◌/◌, ◌%◌, ◌≤◌, ◌<◌, ◌^◌, zero-le}
+use Prim.Native.Nat.{ℕ, zero, suc, ◌+◌, ◌-◌, ◌*◌, ◌/◌, ◌%◌, ◌≤◌, ◌<◌, zero-le}
 use mathlib.Core.Path.{◌≡◌, refl, sym, ap, ◌∙◌}
-use mathlib.Core.Bool.{Bool, true, false, cond}
+use mathlib.Core.Bool.{Bool, true, false, not, cond}
 use mathlib.Core.List.{List, [], ◌∷◌}
-use native.Mathlib.Nat.{add-zero, sub-zero, le_trans, mul-le-mul_left, mul-le-mul_right, div-mul-le_self, mul-div-le, mod-add-div, add-mul-div_left, le_of_mul-le-mul_left, mul_assoc, mul_comm, mul-add, add-mul, add_comm, div-le_of_le-mul}
+use native.Mathlib.Nat.{add-zero, le_trans, mul-le-mul_left, div-mul-le_self, mul-div-le, mod-add-div, add-mul-div_left, le_of_mul-le-mul_left, mul_assoc, mul_comm, mul-add, add-mul, add_comm, div-le_of_le-mul}
 use native.Mathlib.Numerals.{add-one}
 use native.Mathlib.Omega.{arith}
 use lib.Dec.{leb, ltb, eqb}
-use lib.ListN.{length, get_or, drop, drop_of_length-le}
-use lib.Seq.{drop-cons}
-use borrow.Author.Tests.{ltb-true, ltb-false, eqb-true, lt-leb}
-use Rattle.division.specs.Split.{sum, whole_parts, one_each, lengths}
-use Rattle.division.specs.Eight.{bad_at, bad_from, extra_at, starts_from}
-
--- A list written out, from place i on.
-abbrev spread : List ℕ → ℕ → ℕ → List ℕ
-spread l i zero = []
-spread l i (suc k) = get_or l i 0 ∷ spread l (suc i) k
-
-spreads : (l : List ℕ) (i k : ℕ) → length l ≡ i + k → drop i l ≡ spread l i k
-spreads l i zero e = drop_of_length-le l {i = i} (omega (arith, e))
-spreads l i (suc k) e = drop-cons l i 0 (omega (arith, e)) ∙ ap (λ (r : List ℕ). get_or l i 0 ∷ r) (spreads l (suc i) k (omega (arith, e)))
-
--- An array of 8, written out.
-pub eight :
-    (l : List ℕ) → length l ≡ 8
-    → l ≡ get_or l 0 0 ∷ get_or l 1 0 ∷ get_or l 2 0 ∷ get_or l 3 0 ∷ get_or l 4 0 ∷ get_or l 5 0 ∷ get_or l 6 0 ∷ get_or l 7 0 ∷ []
-eight l e = spreads l 0 8 e
-
-pub sum_eight :
-    (l : List ℕ) → length l ≡ 8
-    → sum l ≡ get_or l 0 0 + (get_or l 1 0 + (get_or l 2 0 + (get_or l 3 0 + (get_or l 4 0 + (get_or l 5 0 + (get_or l 6 0 + (get_or l 7 0 + 0)))))))
-unfolding sum
-sum_eight l e = ap sum (eight l e)
+use lib.ListN.{length, get_or}
+use borrow.Author.Tests.{ltb-true, ltb-false, eqb-true, lt-ltb, le-ltb, lt-leb, le-leb, leb-true, leb-false}
+use Rattle.plpb.specs.Lists.{◌and◌, ◌or◌}
+use Rattle.plpb.proofs.Lists.{T_true, false_T}
+use Rattle.division.specs.Split.{sum, whole_parts, one_each, lawful_stake}
+use Rattle.division.specs.Eight.{bad_at, bad_from, extra_at}
 
 -- An element is at most the sum.
 pub at_most_lem : (l : List ℕ) (i : ℕ) → get_or l i 0 ≤ sum l
@@ -66,7 +46,7 @@ pub whole_parts_fit : (n t : ℕ) (ss : List ℕ) → 0 < t → sum ss ≤ t →
 whole_parts_fit n t ss h l = le_of_mul-le-mul_left (le_trans (whole_parts_sum n t ss) (rw (mul_comm t n) (mul-le-mul_left n l))) h
 
 -- What remains, given out by the races' places.
-unfoldable topped_from : ℕ → ℕ → List ℕ → List ℕ
+unfoldable pub topped_from : ℕ → ℕ → List ℕ → List ℕ
 topped_from i r [] = []
 topped_from i r (b ∷ bs) = (b + extra_at i r) ∷ topped_from (suc i) r bs
 
@@ -81,7 +61,7 @@ topped false i r b bs h =
     let f : r - suc i ≡ 0 = omega (arith, l) in
     rw (e, f, add-zero b)
 
-one_each_lem : (i r : ℕ) (bs : List ℕ) → topped_from i r bs ≡ one_each (r - i) bs
+pub one_each_lem : (i r : ℕ) (bs : List ℕ) → topped_from i r bs ≡ one_each (r - i) bs
 unfolding topped_from extra_at
 one_each_lem i r [] = none (r - i)
   where
@@ -97,53 +77,57 @@ topped_fit zero bs = omega arith
 topped_fit (suc r) [] = omega arith
 topped_fit (suc r) (b ∷ bs) = omega (arith, topped_fit r bs)
 
+-- A stake below 1, and one from 1 on.
+pub low_stake : (s : ℕ) → s < 1 → ltb s 1 ≡ not (lawful_stake s)
+unfolding lawful_stake ◌and◌
+low_stake s h = rw (lt-ltb s 1 h, lt-leb 1 s h)
+
+pub high_stake : (s : ℕ) → 1 ≤ s → ltb 100 s ≡ not (lawful_stake s)
+unfolding lawful_stake ◌and◌
+high_stake s h = rw (le-leb 1 s h) (by _ refl)
+  where
+    by : (t : Bool) → leb s 100 ≡ t → ltb 100 s ≡ not t
+    by true e = le-ltb 100 s (leb-true s 100 e)
+    by false e = lt-ltb 100 s (leb-false s 100 e)
+
 -- No stake is bad: each is at most 100, and the first at least 1.
-small : (x y z w : Bool) (s : ℕ) → (y ≡ true → s ≡ 0) → (w ≡ false → s ≤ 100) → ◌≡◌ {A = ℕ} (cond x (cond y 0 1) (cond z 1 (cond w 1 0))) 0 → s ≤ 100
-small true true z w s p q e = omega (arith, p refl)
-small true false z w s p q e = absurd (omega (arith, e))
-small false y true w s p q e = absurd (omega (arith, e))
-small false y false true s p q e = absurd (omega (arith, e))
-small false y false false s p q e = q refl
+small : (x y z w : Bool) (s : ℕ) → (z ≡ true → s ≤ 100) → (w ≡ true → s ≡ 0) → cond x (not (y and z)) (not w) ≡ false → s ≤ 100
+unfolding ◌and◌
+small true true true w s p q e = p refl
+small true true false w s p q e = absurd (false_T e (T_true refl))
+small true false z w s p q e = absurd (false_T e (T_true refl))
+small false y z true s p q e = omega (arith, q refl)
+small false y z false s p q e = absurd (false_T e (T_true refl))
 
-good_small : (c i s : ℕ) → bad_at c i s ≡ 0 → s ≤ 100
-unfolding bad_at
-good_small c i s e = small (leb c i) (eqb s 0) (ltb s 1) (ltb 100 s) s (eqb-true s 0) (λ h. ltb-false 100 s h) e
+good_small : (c i s : ℕ) → bad_at c i s ≡ false → s ≤ 100
+unfolding bad_at lawful_stake
+good_small c i s e = small (ltb i c) (leb 1 s) (leb s 100) (eqb s 0) s (leb-true s 100) (eqb-true s 0) e
 
-some_stake : (y z w : Bool) (s : ℕ) → (z ≡ false → 0 < s) → ◌≡◌ {A = ℕ} (cond false (cond y 0 1) (cond z 1 (cond w 1 0))) 0 → 0 < s
-some_stake y true w s q e = absurd (omega (arith, e))
-some_stake y false w s q e = q refl
+some_stake : (y z : Bool) (s : ℕ) → (y ≡ true → 1 ≤ s) → not (y and z) ≡ false → 0 < s
+unfolding ◌and◌
+some_stake true z s q e = omega (arith, q refl)
+some_stake false z s q e = absurd (false_T e (T_true refl))
 
-good_first : (c s : ℕ) → 0 < c → bad_at c 0 s ≡ 0 → 0 < s
-unfolding bad_at
-good_first c s h e = some_stake (eqb s 0) (ltb s 1) (ltb 100 s) s (λ k. ltb-false s 1 k) (rw (lt-leb c 0 h) at e)
+good_first : (c s : ℕ) → 0 < c → bad_at c 0 s ≡ false → 0 < s
+unfolding bad_at lawful_stake
+good_first c s h e = some_stake (leb 1 s) (leb s 100) s (leb-true 1 s) (rw (lt-ltb 0 c h) at e)
 
-pub good_sum : (c i : ℕ) (ss : List ℕ) → bad_from c i ss ≡ 0 → sum ss ≤ 100 * length ss
+-- Neither holds.
+pub neither : (x y : Bool) → (x or y) ≡ false → (x ≡ false) × (y ≡ false)
+unfolding ◌or◌
+neither true y e = absurd (false_T e (T_true refl))
+neither false y e = (refl, e)
+
+pub good_sum : (c i : ℕ) (ss : List ℕ) → bad_from c i ss ≡ false → sum ss ≤ 100 * length ss
 unfolding sum bad_from
 good_sum c i [] e = zero-le
 good_sum c i (s ∷ ss) e =
-    omega (arith, good_small c i s (omega (arith, e)), good_sum c (suc i) ss (omega (arith, e)))
+    let n = neither (bad_at c i s) (bad_from c (suc i) ss) e in omega (arith, good_small c i s n.0, good_sum c (suc i) ss n.1)
 
-pub good_some : (c : ℕ) (ss : List ℕ) → 0 < c → 0 < length ss → bad_from c 0 ss ≡ 0 → 0 < sum ss
+pub good_some : (c : ℕ) (ss : List ℕ) → 0 < c → 0 < length ss → bad_from c 0 ss ≡ false → 0 < sum ss
 unfolding sum bad_from
 good_some c [] h l e = absurd (omega (arith, l))
-good_some c (s ∷ ss) h l e = omega (arith, good_first c s h (omega (arith, e)))
-
--- The same of arrays of 8.
-pub bad_eight : (c : ℕ) (l : List ℕ) → length l ≡ 8 → bad_from c 0 l ≡ bad_at c 0 (get_or l 0 0) + (bad_at c 1 (get_or l 1 0) + (bad_at c 2 (get_or l 2 0) + (bad_at c 3 (get_or l 3 0) + (bad_at c 4 (get_or l 4 0) + (bad_at c 5 (get_or l 5 0) + (bad_at c 6 (get_or l 6 0) + (bad_at c 7 (get_or l 7 0) + 0)))))))
-unfolding bad_from
-bad_eight c l e = ap (bad_from c 0) (eight l e)
-
-pub whole_parts_eight : (n t : ℕ) (l : List ℕ) → length l ≡ 8 → whole_parts n t l ≡ (n * get_or l 0 0 / t) ∷ (n * get_or l 1 0 / t) ∷ (n * get_or l 2 0 / t) ∷ (n * get_or l 3 0 / t) ∷ (n * get_or l 4 0 / t) ∷ (n * get_or l 5 0 / t) ∷ (n * get_or l 6 0 / t) ∷ (n * get_or l 7 0 / t) ∷ []
-unfolding whole_parts
-whole_parts_eight n t l e = ap (whole_parts n t) (eight l e)
-
-pub topped_eight : (r : ℕ) (l : List ℕ) → length l ≡ 8 → one_each r l ≡ (get_or l 0 0 + extra_at 0 r) ∷ (get_or l 1 0 + extra_at 1 r) ∷ (get_or l 2 0 + extra_at 2 r) ∷ (get_or l 3 0 + extra_at 3 r) ∷ (get_or l 4 0 + extra_at 4 r) ∷ (get_or l 5 0 + extra_at 5 r) ∷ (get_or l 6 0 + extra_at 6 r) ∷ (get_or l 7 0 + extra_at 7 r) ∷ []
-unfolding topped_from
-topped_eight r l e = ap (λ (k : ℕ). one_each k l) (sym (sub-zero r)) ∙ sym (one_each_lem 0 r l) ∙ ap (topped_from 0 r) (eight l e)
-
-pub starts_eight : (l : List ℕ) → length l ≡ 8 → starts_from 0 l ≡ 0 ∷ (0 + get_or l 0 0) ∷ ((0 + get_or l 0 0) + get_or l 1 0) ∷ (((0 + get_or l 0 0) + get_or l 1 0) + get_or l 2 0) ∷ ((((0 + get_or l 0 0) + get_or l 1 0) + get_or l 2 0) + get_or l 3 0) ∷ (((((0 + get_or l 0 0) + get_or l 1 0) + get_or l 2 0) + get_or l 3 0) + get_or l 4 0) ∷ ((((((0 + get_or l 0 0) + get_or l 1 0) + get_or l 2 0) + get_or l 3 0) + get_or l 4 0) + get_or l 5 0) ∷ (((((((0 + get_or l 0 0) + get_or l 1 0) + get_or l 2 0) + get_or l 3 0) + get_or l 4 0) + get_or l 5 0) + get_or l 6 0) ∷ []
-unfolding starts_from
-starts_eight l e = ap (starts_from 0) (eight l e)
+good_some c (s ∷ ss) h l e = omega (arith, good_first c s h (neither (bad_at c 0 s) (bad_from c 1 ss) e).0)
 
 -- What the parts of lawful stakes ask, by what each step gave.
 pub fits_in : (n t : ℕ) (ss b : List ℕ) → t ≡ sum ss → 0 < sum ss → b ≡ whole_parts n t ss → sum b ≤ n

@@ -2,3 +2,4 @@
 pub mod Laws
 pub mod Whole
 pub mod Plain
+pub mod Stepwise

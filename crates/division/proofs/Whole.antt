@@ -1,12 +1,13 @@
 -- The parts make up the whole list: what remains is at most one for each race, and a part begins where those before it end.
 -- Assumes nothing.
-use Prim.Native.Nat.{ℕ, zero, suc, ◌+◌, ◌-◌, ◌*◌, ◌/◌, ◌%◌, ◌≤◌, ◌<◌, zero-le}
+use Prim.Native.Nat.{ℕ, zero, suc, ◌+◌, ◌-◌, ◌*◌, ◌/◌, ◌≤◌, ◌<◌}
 use mathlib.Core.Path.{◌≡◌, refl, sym, ap, ◌∙◌}
 use mathlib.Core.List.{List, [], ◌∷◌}
-use native.Mathlib.Nat.{add-zero, zero-add, add_assoc, le_trans, mod-lt, mod-add-div, mul-add, mul_comm, le_of_mul-le-mul_left, le_of_suc-le-suc, not-suc-le-zero}
+use native.Mathlib.Nat.{add-zero, zero-add, add_assoc, mod-lt, mod-add-div, mul-add, mul_comm, le_of_mul-le-mul_left, le_of_suc-le-suc, not-suc-le-zero}
 use native.Mathlib.Omega.{arith}
 use lib.ListN.{length, get_or, take}
-use Rattle.division.specs.Split.{sum, whole_parts, one_each, lengths, Part, parts, SplitsAll, FollowOne}
+use Rattle.division.specs.declared.Part.{Part}
+use Rattle.division.specs.Split.{sum, whole_parts, one_each, lengths, parts, SplitsAll, FollowOne}
 use Rattle.division.proofs.Laws.{whole_parts_fit}
 
 -- The whole parts lack less than one for each race.

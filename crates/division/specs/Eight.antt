@@ -1,9 +1,13 @@
 -- The split over an array of 8 stakes, 0 where there is no race: what the code works on. proofs/Plain.antt ties it to the plain list of stakes.
 -- Assumes nothing.
-use Rattle.std.specs.Prelude.{ℕ, suc, ◌+◌, ◌-◌, cond, List, [], ◌∷◌, ◌++◌, leb, ltb, eqb, length, take, replicate}
+use Rattle.std.specs.Prelude.{ℕ, suc, ◌-◌, Bool, false, not, cond, List, [], ◌∷◌, ◌++◌, ltb, eqb, length, take, replicate, Result, Ok, Err}
+use Rattle.plpb.specs.Lists.{◌or◌}
 use Rattle.division.specs.declared.Stakes.{Stakes}
 use Rattle.division.specs.declared.Parts.{Parts}
-use Rattle.division.specs.Split.{sum, lengths, Part}
+use Rattle.division.specs.declared.Refusal.{Refusal}
+use Rattle.division.specs.declared.Refusal.TheVariants.{NoRoom, WrongCount, WrongStake}
+use Rattle.division.specs.declared.Part.{Part}
+use Rattle.division.specs.Split.{lawful_stake, lengths, parts}
 
 -- The stakes of a list of races, with 9 for the number of more than 8.
 unfoldable pub kept : List ℕ → Stakes
@@ -11,43 +15,42 @@ kept ss =
     cond (ltb 8 (length ss)) (record { count = 9; stakes = replicate 8 0 })
     (record { count = length ss; stakes = ss ++ replicate (8 - length ss) 0 })
 
--- First places and lengths as parts.
-unfoldable pub paired : List ℕ → List ℕ → List Part
-paired [] ls = []
-paired (f ∷ fs) [] = []
-paired (f ∷ fs) (l ∷ ls) = record { first = f; length = l } ∷ paired fs ls
+-- The parts of as many races as there are.
+unfoldable pub laid : Parts → List Part
+laid p = take p.count p.parts
 
-unfoldable pub parts_in : Parts → List Part
-parts_in p = take p.count (paired p.first p.length)
+-- The number of a refusal; what is answered as such a number, 0 for none, and as parts, none for a refusal.
+unfoldable pub refusal_number : Refusal → ℕ
+refusal_number NoRoom = 21
+refusal_number WrongCount = 61
+refusal_number WrongStake = 62
 
--- 1 for a stake outside 1 to 100, or for one that is not 0 where there is no race; and how many such stakes there are.
-unfoldable pub bad_at : ℕ → ℕ → ℕ → ℕ
-bad_at count i s = cond (leb count i) (cond (eqb s 0) 0 1) (cond (ltb s 1) 1 (cond (ltb 100 s) 1 0))
+unfoldable pub refusal_in : Result Parts Refusal → ℕ
+refusal_in (Ok p) = 0
+refusal_in (Err r) = refusal_number r
 
-unfoldable pub bad_from : ℕ → ℕ → List ℕ → ℕ
-bad_from count i [] = 0
-bad_from count i (s ∷ ss) = bad_at count i s + bad_from count (suc i) ss
+unfoldable pub parts_in : Result Parts Refusal → List Part
+parts_in (Ok p) = laid p
+parts_in (Err r) = []
+
+-- Whether a stake is outside 1 to 100, or not 0 where there is no race; and whether one of some is.
+unfoldable pub bad_at : ℕ → ℕ → ℕ → Bool
+bad_at count i s = cond (ltb i count) (not (lawful_stake s)) (not (eqb s 0))
+
+unfoldable pub bad_from : ℕ → ℕ → List ℕ → Bool
+bad_from count i [] = false
+bad_from count i (s ∷ ss) = bad_at count i s or bad_from count (suc i) ss
 
 -- What a race gets of r numbers that remain.
 unfoldable pub extra_at : ℕ → ℕ → ℕ
 extra_at i r = cond (ltb i r) 1 0
 
--- Where parts of these lengths begin.
-unfoldable pub starts_from : ℕ → List ℕ → List ℕ
-starts_from at [] = []
-starts_from at (l ∷ ls) = at ∷ starts_from (at + l) ls
-
-unfoldable pub refused_by : ℕ → Parts
-refused_by number = record { refusal = number; count = 0; first = replicate 8 0; length = replicate 8 0 }
-
 unfoldable pub lawful_parts : ℕ → List ℕ → ℕ → Parts
-lawful_parts count ss numbers = let ls = lengths numbers ss in record { refusal = 0; count = count; first = starts_from 0 ls; length = ls }
+lawful_parts count ss numbers = record { count = count; parts = parts 0 (lengths numbers ss) }
 
--- A refusal found before, 61 for no race or more than 8, 62 for a stake.
-unfoldable pub divided : ℕ → Stakes → ℕ → Parts
-divided before s numbers =
-    cond (eqb before 0)
-    (cond (eqb s.count 0) (refused_by 61)
-    (cond (ltb 8 s.count) (refused_by 61)
-    (cond (eqb (bad_from s.count 0 s.stakes) 0) (lawful_parts s.count s.stakes numbers) (refused_by 62))))
-    (refused_by before)
+-- 61 for no race or more than 8, 62 for a stake.
+unfoldable pub divided : Stakes → ℕ → Result Parts Refusal
+divided s numbers =
+    cond (eqb s.count 0) (Err WrongCount)
+    (cond (ltb 8 s.count) (Err WrongCount)
+    (cond (not (bad_from s.count 0 s.stakes)) (Ok (lawful_parts s.count s.stakes numbers)) (Err WrongStake)))

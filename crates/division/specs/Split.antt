@@ -2,6 +2,8 @@
 -- Assumes nothing.
 use Rattle.std.specs.Prelude.{ℕ, zero, suc, ◌+◌, ◌-◌, ◌*◌, ◌/◌, ◌<◌, ◌≡◌, Bool, cond, List, [], ◌∷◌, leb, ltb, eqb, length, get_or, take}
 use Rattle.plpb.specs.Lists.{◌and◌, ◌or◌, all}
+-- A part of the list: its first place and its length, "places from 0".
+use Rattle.division.specs.declared.Part.{Part}
 
 -- All stakes together.
 unfoldable pub sum : List ℕ → ℕ
@@ -21,11 +23,6 @@ one_each (suc k) (l ∷ ls) = suc l ∷ one_each k ls
 
 unfoldable pub lengths : ℕ → List ℕ → List ℕ
 lengths numbers stakes = let ls = whole_parts numbers (sum stakes) stakes in one_each (numbers - sum ls) ls
-
--- A part of the list: its first place and its length, "places from 0".
-pub record Part : Type 0 where
-  pub first : ℕ
-  pub length : ℕ
 
 -- "The parts follow one another."
 unfoldable pub parts : ℕ → List ℕ → List Part

@@ -3,8 +3,8 @@
 #![tactic(auto)]
 
 ghost use Rattle.std.specs.Prelude.{◌≡◌, ◌+◌, ◌*◌, ◌/◌, ◌≤◌, ◌<◌, ◌^◌};
-ghost use Rattle.division.specs.Split.{sum, whole_parts, one_each};
-ghost use Rattle.division.specs.Eight.{bad_at, bad_from, extra_at, starts_from, refused_by, lawful_parts, divided};
+ghost use Rattle.division.specs.Split.{sum, whole_parts, one_each, parts};
+ghost use Rattle.division.specs.Eight.{bad_at, bad_from, extra_at, refusal_number, lawful_parts, divided};
 
 // How many races there are, 9 for more than 8, and their stakes, 0 where there is no race.
 #[derive(Clone, Copy)]
@@ -13,51 +13,66 @@ pub struct Stakes {
     pub stakes: [usize; 8],
 }
 
-// 0 or a refusal; how many parts there are, 0 with a refusal; and the parts.
+// A part of the list: its first place and its length.
+#[derive(Clone, Copy, PartialEq, Eq)]
+pub struct Part {
+    pub first: usize,
+    pub length: usize,
+}
+
+// How many parts there are, and the parts.
 #[derive(Clone, Copy)]
 pub struct Parts {
-    pub refusal: u32,
     pub count: usize,
-    pub first: [usize; 8],
-    pub length: [usize; 8],
+    pub parts: [Part; 8],
 }
 
-// 1 for a stake outside 1 to 100, or one where there is no race.
-fn bad_at(count: usize, i: usize, s: usize) -> usize
-    ensures { (result ≡ bad_at count i s) × (result ≤ 1) }
+// What turns a split away: too little room for the races, no race or more than 8, a stake outside its range.
+#[derive(Clone, Copy, PartialEq, Eq)]
+pub enum Refusal {
+    NoRoom,
+    WrongCount,
+    WrongStake,
+}
+
+// A refusal's number, as it is handed out.
+pub fn number_of(refusal: Refusal) -> u32
+    ensures { result ≡ refusal_number refusal }
 {
-    if count <= i {
-        if s == 0 {
-            return 0;
-        }
-        return 1;
+    match refusal {
+        Refusal::NoRoom => 21,
+        Refusal::WrongCount => 61,
+        Refusal::WrongStake => 62,
     }
-    if s < 1 {
-        return 1;
-    }
-    if 100 < s {
-        return 1;
-    }
-    0
 }
 
-fn bad(count: usize, s: [usize; 8]) -> usize
+// Whether a stake is outside 1 to 100, or one that is not 0 where there is no race.
+fn bad_at(count: usize, i: usize, s: usize) -> bool
+    ensures { result ≡ bad_at count i s }
+{
+    if i < count { s < 1 || 100 < s } else { s != 0 }
+}
+
+fn bad(count: usize, s: [usize; 8]) -> bool
     ensures { result ≡ bad_from count 0 s }
 {
-    bad_at(count, 0, s[0])
-        + (bad_at(count, 1, s[1])
-            + (bad_at(count, 2, s[2])
-                + (bad_at(count, 3, s[3])
-                    + (bad_at(count, 4, s[4])
-                        + (bad_at(count, 5, s[5])
-                            + (bad_at(count, 6, s[6]) + (bad_at(count, 7, s[7]) + 0)))))))
+    for (i, x) in s.iter().enumerate() {
+        if bad_at(count, i, *x) {
+            return true;
+        }
+    }
+    false
 }
 
 fn total(s: [usize; 8]) -> usize
     requires { sum s < 2 ^ 64 }
     ensures { result ≡ sum s }
 {
-    s[0] + (s[1] + (s[2] + (s[3] + (s[4] + (s[5] + (s[6] + (s[7] + 0)))))))
+    let mut t = 0;
+    for x in s.iter() {
+        t += *x;
+    }
+    t
 }
 
 // A race's share, rounded down. The product is never formed: it could be too large.
@@ -72,16 +87,11 @@ fn whole_parts(n: usize, t: usize, s: [usize; 8]) -> [usize; 8]
     requires { (0 < t) × (sum s ≤ t) × (t ≤ 800) }
     ensures { result ≡ whole_parts n t s }
 {
-    [
-        share(n, s[0], t),
-        share(n, s[1], t),
-        share(n, s[2], t),
-        share(n, s[3], t),
-        share(n, s[4], t),
-        share(n, s[5], t),
-        share(n, s[6], t),
-        share(n, s[7], t),
-    ]
+    let mut w = s;
+    for x in w.iter_mut() {
+        *x = share(n, *x, t);
+    }
+    w
 }
 
 fn extra(i: usize, r: usize) -> usize
@@ -97,41 +107,30 @@ fn topped(r: usize, b: [usize; 8]) -> [usize; 8]
     requires { sum b + r < 2 ^ 64 }
     ensures { result ≡ one_each r b }
 {
-    [
-        b[0] + extra(0, r),
-        b[1] + extra(1, r),
-        b[2] + extra(2, r),
-        b[3] + extra(3, r),
-        b[4] + extra(4, r),
-        b[5] + extra(5, r),
-        b[6] + extra(6, r),
-        b[7] + extra(7, r),
-    ]
-}
-
-fn starts(l: [usize; 8]) -> [usize; 8]
-    requires { sum l < 2 ^ 64 }
-    ensures { result ≡ starts_from 0 l }
-{
-    let a = 0 + l[0];
-    let b = a + l[1];
-    let c = b + l[2];
-    let d = c + l[3];
-    let e = d + l[4];
-    let f = e + l[5];
-    let g = f + l[6];
-    [0, a, b, c, d, e, f, g]
-}
-
-fn refused(number: u32) -> Parts
-    ensures { result ≡ refused_by number }
-{
-    Parts {
-        refusal: number,
-        count: 0,
-        first: [0; 8],
-        length: [0; 8],
+    let mut l = b;
+    for (i, x) in l.iter_mut().enumerate() {
+        *x += extra(i, r);
     }
+    l
+}
+
+fn placed(l: [usize; 8]) -> [Part; 8]
+    requires { sum l < 2 ^ 64 }
+    ensures { result ≡ parts 0 l }
+{
+    let mut parts = [Part {
+        first: 0,
+        length: 0,
+    }; 8];
+    let mut at = 0;
+    for (i, p) in parts.iter_mut().enumerate() {
+        *p = Part {
+            first: at,
+            length: l[i],
+        };
+        at += l[i];
+    }
+    parts
 }
 
 // The parts of lawful stakes.
@@ -143,32 +142,26 @@ fn lawful_parts(count: usize, s: [usize; 8], numbers: usize) -> Parts
     let w = whole_parts(numbers, t, s);
     let u = total(w);
     let l = topped(numbers - u, w);
-    let f = starts(l);
     Parts {
-        refusal: 0,
-        count: count,
-        first: f,
-        length: l,
+        count,
+        parts: placed(l),
     }
 }
 
-// The parts of `numbers` numbers, or the first refusal: `before`, which was found before and is 0 for none, 61 or 62.
-pub fn divide(before: u32, s: Stakes, numbers: usize) -> Parts
-    ensures { result ≡ divided before s numbers }
+// The parts of `numbers` numbers, or 61 or 62.
+pub fn divide(s: Stakes, numbers: usize) -> Result<Parts, Refusal>
+    ensures { result ≡ divided s numbers }
 {
     let count = s.count;
     let stakes = s.stakes;
-    if before != 0 {
-        return refused(before);
-    }
     if count == 0 {
-        return refused(61);
+        return Err(Refusal::WrongCount);
     }
     if 8 < count {
-        return refused(61);
+        return Err(Refusal::WrongCount);
     }
-    if bad(count, stakes) != 0 {
-        return refused(62);
+    if bad(count, stakes) {
+        return Err(Refusal::WrongStake);
     }
-    lawful_parts(count, stakes, numbers)
+    Ok(lawful_parts(count, stakes, numbers))
 }

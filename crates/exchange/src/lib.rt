@@ -29,15 +29,11 @@ pub fn settings_at(settings: &[u8], i: usize) -> Settings
     }
 }
 
-// The number whose 64 bits stand for a signed one. -1 - v is no number below 0 and has room where -v may have none.
+// The number whose 64 bits stand for a signed one.
 fn bits(v: i64) -> u64
     ensures { result ≡ bits_of64 v }
 {
-    if v < 0 {
-        18446744073709551615 - ((-1 - v) as u64)
-    } else {
-        v as u64
-    }
+    v.cast_unsigned()
 }
 
 fn low(v: u64) -> u32

@@ -1,19 +1,17 @@
 -- What terms give to sums, by the codes of their variables, and the sums one term after the other.
 -- Assumes nothing.
-use Prim.Native.Nat.{ℕ, zero, suc, ◌+◌, ◌*◌, ◌-◌, ◌≤◌, ◌<◌, zero-le}
+use Prim.Native.Nat.{ℕ, suc, ◌+◌, ◌*◌, ◌-◌, ◌≤◌, ◌<◌, zero-le}
 use native.Mathlib.Nat.{le_refl}
 use native.Mathlib.Omega.{arith}
 use mathlib.Core.Path.{◌≡◌, refl, sym, ap, ap₂, ◌∙◌}
-use mathlib.Core.Bool.{Bool, true, false, cond}
+use mathlib.Core.Bool.{true, false}
 use mathlib.Core.List.{List, [], ◌∷◌}
-use lib.Dec.{eqb, leb}
 use lib.ListN.{length}
 use lib.IntN.{ℤ, pos, negsuc, nat_abs, ◌+ℤ◌, +ℤ_idl, +ℤ_idr, +ℤ_assoc}
-use borrow.Author.Tests.{eq-eqb, ne_eqb, leb-true}
-use Rattle.plpb.specs.Lists.{◌and◌, all}
+use borrow.Author.Tests.{ne_eqb, leb-true}
+use Rattle.plpb.specs.Lists.{all}
 use Rattle.plpb.specs.Plan.{Term, negative_part, least_total}
 use Rattle.words.specs.Words.{num_at, word_at, signed}
-use Rattle.format.specs.Limits.{weight_lawful}
 use Rattle.format.specs.File.{term_at, terms_at}
 use Rattle.format.proofs.Bools.{and_left, and_right}
 use Rattle.format.proofs.Lawful.{weight_small}
@@ -92,9 +90,9 @@ module _ (s map : List ℕ) (part : Part) (from count : ℕ) where
     pub summed : sum +ℤ part_total part (decoded map) (terms_at s at left) ≡ part_total part (decoded map) (terms_at s from count)
     pub size : nat_abs sum + 1_000_000 * left ≤ 1_000_000 * count
 
-  pub summing_none : small_terms (terms_at s from count) ≡ true → Summing from count (pos 0)
-  summing_none h =
-      record { few = le_refl count; place = refl; small = h; summed = +ℤ_idl _; size = omega arith }
+  pub summing_none : {at left : ℕ} → at ≡ from → left ≡ count → small_terms (terms_at s from count) ≡ true → Summing at left (pos 0)
+  summing_none a l h =
+      rw (a, l) (record { few = le_refl count; place = refl; small = h; summed = +ℤ_idl _; size = omega arith })
 
 module _ {s map : List ℕ} {part : Part} {from count : ℕ} where
   pub summing_all : {at left : ℕ} {sum : ℤ} → left ≤ 0 → Summing s map part from count at left sum
@@ -118,17 +116,18 @@ module _ {s map : List ℕ} {part : Part} {from count : ℕ} where
     pub sum_room : count ≤ 512 → nat_abs sum + nat_abs r < 2_147_483_648
     sum_room h = omega (arith, r_small, run.size)
 
-    pub summing_more : {t : ℤ} → t ≡ sum +ℤ r → Summing s map part from count (at + 6) (left - 1) t
+    pub summing_more : {at' left' : ℕ} {t : ℤ} → at' ≡ at + 6 → left' ≡ left - 1 → t ≡ sum +ℤ r → Summing s map part from count at' left' t
     unfolding small_terms all terms_at term_at part_total decoded
-    summing_more {t} e =
+    summing_more {at'} {left'} {t} a l e =
         let n : left ≡ suc (left - 1) = omega arith in
-        record {
+        rw (a, l)
+        (record {
           few = omega (arith, run.few);
           place = omega (arith, run.place);
           small = and_right _ _ (rw n at run.small);
           summed = rw (e, gives) (+ℤ_assoc sum _ _ ∙ (rw n at run.summed));
           size = rw e (omega (arith, run.size, r_small, size_sum sum r));
-        }
+        })
 
 -- ---- the three sums
 

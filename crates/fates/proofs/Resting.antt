@@ -1,30 +1,26 @@
 -- What stands at a place from which a file holds lawful rules and clauses, and what stands behind it.
 -- Assumes nothing.
-use Prim.Native.Nat.{ℕ, zero, suc, ◌+◌, ◌*◌, ◌≤◌, ◌<◌}
-use native.Mathlib.Nat.{le_trans}
+use Prim.Native.Nat.{ℕ, ◌+◌, ◌≤◌}
 use native.Mathlib.Omega.{arith}
 use mathlib.Core.Path.{◌≡◌, refl, sym, ap, ◌∙◌, subst}
-use mathlib.Core.Bool.{Bool, true, false}
+use mathlib.Core.Bool.{true}
 use mathlib.Core.List.{List, [], ◌∷◌, ◌++◌, map, append_assoc, append-nil}
-use lib.Dec.{leb}
-use lib.IntN.{nat_abs}
 use lib.ListN.{length, drop, length-append}
 use borrow.Author.Tests.{le-leb, leb-true, not-false}
 use Rattle.plpb.specs.Lists.{◌and◌, all, concat}
 use Rattle.plpb.specs.Plan.{Term, Rule, Clause, rising}
-use Rattle.format.specs.Limits.{max_bound, rule_lawful}
-use Rattle.format.specs.File.{at_rule, may_stand, tag_at, length_at, terms_in, field_terms, mode_at, lower_at, upper_at, wrong_bounds, rule_at}
+use Rattle.format.specs.File.{at_rule, may_stand, tag_at, terms_in, field_terms, mode_at, lower_at, upper_at, wrong_bounds, rule_at}
 use Rattle.format.specs.Writer.{field, rule_field, clause_fields}
 use Rattle.format.proofs.Bools.{and_left, and_right, and_join}
-use Rattle.format.proofs.Lawful.{term_within, LawfulTerms, LawfulRule, rule_parts, clause_lawful, clause_rules, terms_short}
+use Rattle.format.proofs.Lawful.{term_within, LawfulRule, rule_parts, clause_lawful, clause_rules, terms_short}
 use Rattle.format.proofs.Bounds.{Tested, bounds_tested}
 use Rattle.format.proofs.Fields.{Clean}
-use Rattle.format.proofs.Places.{place_tag, place_body, place_room, place_whole, length_field}
+use Rattle.format.proofs.Places.{place_tag, place_body, place_room, length_field}
 use Rattle.format.proofs.WrittenRule.{rule_tag, rule_size, rule_read, rule_behind, rule_clean}
 use Rattle.tables.specs.Places.{behind_field}
 use Rattle.fates.specs.Sums.{small_terms}
 use Rattle.fates.specs.Rules.{RuleFits}
-use Rattle.fates.specs.Rest.{Rest}
+use Rattle.fates.specs.Rest.{Rest, Reads, Begins}
 
 -- Terms of n variables are small.
 pub terms_small : (n : ℕ) → n ≤ 512 → (ts : List Term) → all (term_within n) ts ≡ true → small_terms ts ≡ true
@@ -198,3 +194,19 @@ module _ {n : ℕ} {s : List ℕ} {at : ℕ} {cs : List Clause} where
 
   pub no_clauses : Rest n s at [] cs → (tag_at s at ≡ 3 → ⊥) → cs ≡ []
   no_clauses h e = end_by n s at cs h e
+
+-- ---- by what is required
+
+module _ (s : List ℕ) (at : ℕ) where
+  pub reads_room : Reads s at → at + 3 ≤ length s
+  reads_room r = rest_room r.3
+
+  pub reads_rule : Reads s at → tag_at s at ≡ 4 → RuleFits s at
+  reads_rule r t = (rest_rule r.3 t).fits
+
+  pub begins_room : Begins s at → at + 3 ≤ length s
+  begins_room b = rest_room b.2
+
+  -- A clause's rules are behind its head.
+  pub begins_rules : Begins s at → tag_at s at ≡ 3 → Reads s (at + 3)
+  begins_rules b t = let c = rest_clause b.2 t in (b.0, c.first, c.rest, c.behind)

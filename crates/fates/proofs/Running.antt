@@ -4,46 +4,65 @@ use Prim.Native.Nat.{ℕ, ◌+◌, ◌≤◌}
 use native.Mathlib.Nat.{le_refl}
 use native.Mathlib.Omega.{arith}
 use mathlib.Core.Path.{◌≡◌, refl, sym, ap, ap₂, ◌∙◌, subst}
-use mathlib.Core.Bool.{Bool, true, false, not, cond}
+use mathlib.Core.Bool.{Bool, true, false, not, cond, ◌||◌}
 use mathlib.Core.List.{List, [], ◌∷◌, map}
-use lib.Dec.{T, eqb}
 use lib.IntN.{ℤ}
-use lib.ListN.{length}
+use lib.Signed.{le_z}
+use Rattle.std.specs.Prelude.{Option, None, Some}
+use Rattle.std.specs.Option.{is_some}
 use Rattle.plpb.specs.Lists.{◌and◌, ◌or◌, keep, any, is_empty}
-use Rattle.plpb.specs.Plan.{Rule, Clause, at_least, at_most, least_total}
-use Rattle.plpb.proofs.Lists.{or_assoc, or_false, is_true, T_true, false_T, keep_empty}
+use Rattle.plpb.specs.Plan.{Bound, absent, present, is_present, Rule, Clause, at_least, at_most, least_total}
+use Rattle.plpb.proofs.Lists.{or_assoc, or_false, T_true, false_T, keep_empty}
 use Rattle.format.specs.File.{tag_at, rule_at}
 use Rattle.tables.specs.Places.{behind_field}
 use Rattle.squeezed.specs.Squeezed.{Becomes, put_in, greatest_total, possible, always, trimmed, rules_left, remains, clauses_left}
 use Rattle.squeezed.proofs.Alike.{always_possible}
-use Rattle.fates.specs.Rules.{mode_left, mode_of, mode_by}
-use Rattle.fates.specs.Rest.{Rest, Ran}
-use Rattle.fates.proofs.Judging.{mode_by_lem}
+use Rattle.fates.specs.Rules.{as_bound, Fated, unbounded}
+use Rattle.fates.specs.declared.bounds.Bounds.{Bounds}
+use Rattle.fates.specs.Rest.{Rest, Reads, Begins, Ran}
 use Rattle.fates.proofs.Resting.{rest_rule, rest_none, no_rules, rest_clause, no_clauses}
 
--- ---- what a mode tells
+-- ---- what is left of a rule tells whether all values meet it, and whether some do
+
+lower_gone : (l : Bound ℤ) (s : ℤ) → not (is_present (cond (at_least l s) absent l)) ≡ at_least l s
+unfolding is_present at_least
+lower_gone absent s = refl
+lower_gone (present l) s = by (le_z l s)
+  where
+    by : (t : Bool) → not (is_present (cond t absent (present l))) ≡ t
+    by true = refl
+    by false = refl
+
+upper_gone : (u : Bound ℤ) (s : ℤ) → not (is_present (cond (at_most u s) absent u)) ≡ at_most u s
+unfolding is_present at_most
+upper_gone absent s = refl
+upper_gone (present u) s = by (le_z s u)
+  where
+    by : (t : Bool) → not (is_present (cond t absent (present u))) ≡ t
+    by true = refl
+    by false = refl
+
+-- Where the lower bound is gone, the upper one tells; r is whether it is gone too.
+pub lower_none : (b : Bounds) {r : Bool} → is_some b.lower ≡ false → is_some b.upper ≡ not r → r ≡ unbounded (Some b)
+unfolding unbounded is_present as_bound ◌and◌
+lower_none b {r} e f = by b.lower b.upper r e f
+  where
+    by : (l u : Option ℤ) (r : Bool) → is_some l ≡ false → is_some u ≡ not r → r ≡ (not (is_present (as_bound l)) and not (is_present (as_bound u)))
+    by None None true e f = refl
+    by None None false e f = absurd (false_T refl (T_true f))
+    by None (Some u) true e f = absurd (false_T f (T_true refl))
+    by None (Some u) false e f = refl
+    by (Some l) u r e f = absurd (false_T e (T_true refl))
+
+pub lower_some : (b : Bounds) → is_some b.lower ≡ true → false ≡ unbounded (Some b)
+unfolding unbounded is_present as_bound ◌and◌
+lower_some b e = by b.lower b.upper e
+  where
+    by : (l u : Option ℤ) → is_some l ≡ true → false ≡ (not (is_present (as_bound l)) and not (is_present (as_bound u)))
+    by None u e = absurd (false_T refl (T_true e))
+    by (Some l) u e = refl
 
 module _ (r : Rule) where
-  abbrev a : Bool
-  a = at_least r.lower (least_total r.terms)
-
-  abbrev b : Bool
-  b = at_most r.upper (greatest_total r.terms)
-
-  zero_mode : (s t : Bool) → eqb (mode_of s t) 0 ≡ (s and t)
-  unfolding mode_of ◌and◌
-  zero_mode true true = refl
-  zero_mode true false = refl
-  zero_mode false true = refl
-  zero_mode false false = refl
-
-  four_mode : (s t : Bool) → not (eqb (mode_of s t) 4) ≡ true
-  unfolding mode_of
-  four_mode true true = refl
-  four_mode true false = refl
-  four_mode false true = refl
-  four_mode false false = refl
-
   never_always : possible r ≡ false → always r ≡ false
   never_always e = by (always r) refl
     where
@@ -51,24 +70,21 @@ module _ (r : Rule) where
       by true h = absurd (false_T e (always_possible r (T_true h)))
       by false h = h
 
-  always_by : (t : Bool) → possible r ≡ t → (a and b) ≡ always r → eqb (cond t (mode_of a b) 4) 0 ≡ always r
-  always_by true e w = zero_mode a b ∙ w
-  always_by false e w = sym (never_always e)
+  pub always_fate : (o : Option Bounds) → Fated o r → unbounded o ≡ always r
+  unfolding Fated unbounded always trimmed
+  always_fate None f = sym (never_always f)
+  always_fate (Some b) f = rw (f.1, f.2) (ap₂ ◌and◌ (lower_gone r.lower (least_total r.terms)) (upper_gone r.upper (greatest_total r.terms)))
 
-  possible_by : (t : Bool) → not (eqb (cond t (mode_of a b) 4) 4) ≡ t
-  possible_by true = four_mode a b
-  possible_by false = refl
+  pub possible_fate : (o : Option Bounds) → Fated o r → is_some o ≡ possible r
+  unfolding Fated
+  possible_fate None f = sym f
+  possible_fate (Some b) f = sym f.0
 
-  told : cond (possible r) (mode_of a b) 4 ≡ mode_left r
-  unfolding mode_by possible
-  told = mode_by_lem r
-
-  pub always_mode : eqb (mode_left r) 0 ≡ always r
-  unfolding always
-  always_mode = ap (λ m. eqb m 0) (sym told) ∙ always_by (possible r) refl refl
-
-  pub possible_mode : not (eqb (mode_left r) 4) ≡ possible r
-  possible_mode = ap (λ m. not (eqb m 4)) (sym told) ∙ possible_by (possible r)
+-- The code's `or` is that of the definitions.
+pub or_same : (s t : Bool) → (s || t) ≡ (s or t)
+unfolding ◌or◌
+or_same true t = refl
+or_same false t = refl
 
 -- ---- the rules of a clause
 
@@ -88,6 +104,10 @@ module _ (f : ℕ → Becomes) (s : List ℕ) where
   run_start from = (le_refl from, λ n rs cs h. record { left = rs; rest = h; met_all = refl; kept_all = refl })
 
   module _ (from at : ℕ) (met kept : Bool) where
+    -- What stands at the place.
+    pub run_rest : Running from at met kept → Reads s from → Reads s at
+    run_rest run (n, rs, cs, z) = let a = run.1 n rs cs z in (n, a.left, cs, a.rest)
+
     along_more : (n : ℕ) (rs : List Rule) (cs : List Clause) → Along at met kept n rs cs → tag_at s at ≡ 4 → {next : ℕ} {met' kept' : Bool}
         → next ≡ behind_field s at → met' ≡ (met or always (put_in f (rule_at s at))) → kept' ≡ (kept or possible (put_in f (rule_at s at)))
         → Along next met' kept' n rs cs
@@ -105,16 +125,16 @@ module _ (f : ℕ → Becomes) (s : List ℕ) where
               ∙ or_assoc kept (possible (put_in f (rule_at s at))) (any possible (map (put_in f) r.rest)) ∙ (rw r.split at a.kept_all);
         }
 
-    -- One rule more, of which m is the mode.
-    pub run_more : Running from at met kept → tag_at s at ≡ 4 → {next m : ℕ} {met' kept' : Bool}
-        → m ≡ mode_left (put_in f (rule_at s at)) → next ≡ behind_field s at → met' ≡ (met or eqb m 0) → kept' ≡ (kept or not (eqb m 4))
+    -- One rule more, of which o is left.
+    pub run_more : Running from at met kept → tag_at s at ≡ 4 → (o : Option Bounds) → {next : ℕ} {met' kept' : Bool}
+        → Fated o (put_in f (rule_at s at)) → next ≡ behind_field s at → met' ≡ (met or unbounded o) → kept' ≡ (kept or is_some o)
         → Running from next met' kept'
     unfolding behind_field
-    run_more run t d e g h = (
+    run_more run t o d e g h = (
       omega (arith, run.0, e),
       λ n rs cs z.
-          along_more n rs cs (run.1 n rs cs z) t e (g ∙ ap (λ x. met or x) (ap (λ x. eqb x 0) d ∙ always_mode (put_in f (rule_at s at))))
-          (h ∙ ap (λ x. kept or x) (ap (λ x. not (eqb x 4)) d ∙ possible_mode (put_in f (rule_at s at)))),
+          along_more n rs cs (run.1 n rs cs z) t e (g ∙ ap (λ x. met or x) (always_fate (put_in f (rule_at s at)) o d))
+          (h ∙ ap (λ x. kept or x) (possible_fate (put_in f (rule_at s at)) o d)),
     )
 
     pub run_end : Running from at met kept → (tag_at s at ≡ 4 → ⊥) → Ran f s from met kept at
@@ -158,6 +178,10 @@ module _ (f : ℕ → Becomes) (s : List ℕ) where
 
   pub keep_start : (from : ℕ) → Keeping from from
   keep_start from n cs h = record { left = cs; rest = h; same = refl }
+
+  -- What stands at the place.
+  pub keep_rest : (from at : ℕ) → Keeping from at → Begins s from → Begins s at
+  keep_rest from at keeping (n, cs, z) = let k = keeping n cs z in (n, k.left, k.rest)
 
   record One (either : Bool) (next n : ℕ) (cs : List Clause) : Type 0 where
     left : List Clause

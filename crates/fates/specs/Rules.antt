@@ -1,28 +1,33 @@
 -- What is left of a rule, as the code answers it.
 -- Assumes nothing.
-use Rattle.std.specs.Prelude.{ℕ, ◌≤◌, ◌≡◌, Bool, true, false, cond, List, ℤ, nat_abs, length}
+use Rattle.std.specs.Prelude.{ℕ, ◌≤◌, ◌≡◌, Bool, true, false, not, cond, List, ℤ, Option, Some, None, nat_abs, length}
 use Rattle.plpb.specs.Lists.{◌and◌}
-use Rattle.plpb.specs.Plan.{Bound, Rule, at_least, at_most}
+use Rattle.plpb.specs.Plan.{Bound, absent, present, is_present, Rule}
 use Rattle.format.specs.Limits.{max_variables, max_bound}
 use Rattle.format.specs.File.{length_at, terms_in, lower_at, upper_at, field_terms, tag_at}
-use Rattle.format.specs.Writer.{mode}
 use Rattle.tables.specs.Places.{behind_field}
 use Rattle.squeezed.specs.Squeezed.{possible, trimmed}
 use Rattle.fates.specs.Sums.{small_terms}
+use Rattle.fates.specs.declared.bounds.Bounds.{Bounds}
 
--- The mode without the bounds that all values meet, 0 where none is left; 4 for a rule that no values can meet.
-unfoldable pub mode_left : Rule → ℕ
-mode_left r = cond (possible r) (mode (trimmed r).lower (trimmed r).upper) 4
+-- A bound that may be absent.
+unfoldable pub as_bound : Option ℤ → Bound ℤ
+as_bound None = absent
+as_bound (Some b) = present b
 
--- The same by what the bounds meet.
-unfoldable pub mode_of : Bool → Bool → ℕ
-mode_of true true = 0
-mode_of true false = 2
-mode_of false true = 1
-mode_of false false = 3
+-- A bound, dropped where it is met.
+unfoldable pub still : Bool → Bound ℤ → Bound ℤ
+still met b = cond met absent b
 
-unfoldable pub mode_by : Bound ℤ → Bound ℤ → ℤ → ℤ → ℕ
-mode_by l u least most = cond (at_least l most and at_most u least) (mode_of (at_least l least) (at_most u most)) 4
+-- What is left of a rule's bounds, with nothing where no values can meet the rule.
+unfoldable pub Fated : Option Bounds → Rule → Type 0
+Fated None r = possible r ≡ false
+Fated (Some b) r = (possible r ≡ true) × (as_bound b.lower ≡ (trimmed r).lower) × (as_bound b.upper ≡ (trimmed r).upper)
+
+-- Whether all values meet the rule: none of its bounds is left.
+unfoldable pub unbounded : Option Bounds → Bool
+unbounded None = false
+unbounded (Some b) = not (is_present (as_bound b.lower)) and not (is_present (as_bound b.upper))
 
 -- No sum over 512 terms is larger.
 abbrev pub max_total : ℕ

@@ -1,76 +1,69 @@
 // The bounds of a rule against its least and greatest sum: "A rule is judged by its least and greatest sum alone."
-ghost use Rattle.std.specs.Prelude.{◌≡◌, cond};
-ghost use Rattle.plpb.specs.Plan.{absent, present, at_least, at_most};
+ghost use Rattle.std.specs.Prelude.{◌≡◌, false, true, MatchOption};
+ghost use Rattle.plpb.specs.Plan.{at_least, at_most};
+ghost use Rattle.plpb.specs.Lists.{◌and◌};
 ghost use Rattle.format.specs.File.{bound_of};
-ghost use Rattle.format.specs.Writer.{bound_number};
-ghost use Rattle.fates.specs.Rules.{mode_of, mode_by};
+ghost use Rattle.fates.specs.Rules.{as_bound, still};
 
-// Whether a sum meets a lower bound, absent in mode 2.
-fn at_least(mode: u8, lower: i32, sum: i32) -> bool
-    ensures { result ≡ at_least (bound_of 2 mode lower) sum }
-{
-    if mode == 2 {
-        return true;
-    }
-    lower <= sum
+// A rule's bounds, each of which may be absent.
+#[derive(Clone, Copy, PartialEq, Eq)]
+pub struct Bounds {
+    pub lower: Option<i32>,
+    pub upper: Option<i32>,
 }
 
-// .. an upper one, absent in mode 1.
-fn at_most(mode: u8, upper: i32, sum: i32) -> bool
-    ensures { result ≡ at_most (bound_of 1 mode upper) sum }
+// "Mode 1 is lower only, 2 upper only, 3 both".
+pub(crate) fn by_mode(mode: u8, lower: i32, upper: i32) -> Bounds
+    ensures { (as_bound result.lower ≡ bound_of 2 mode lower) × (as_bound result.upper ≡ bound_of 1 mode upper) }
 {
-    if mode == 1 {
-        return true;
+    Bounds {
+        lower: (mode != 2).then_some(lower),
+        upper: (mode != 1).then_some(upper),
     }
-    sum <= upper
 }
 
-// "Mode 1 is lower only, 2 upper only, 3 both": the mode without the bounds that all values meet.
-fn mode_without(lower_met: bool, upper_met: bool) -> u8
-    ensures { result ≡ mode_of lower_met upper_met }
+// Whether a sum meets a lower bound.
+fn at_least(lower: Option<i32>, sum: i32) -> bool
+    ensures { result ≡ at_least (as_bound lower) sum }
 {
-    if lower_met {
-        return if upper_met { 0 } else { 2 };
+    match lower {
+        None => true,
+        Some(lower) => lower <= sum,
     }
-    if upper_met { 1 } else { 3 }
 }
 
-// The mode of what is left of a rule.
-fn mode_left(mode: u8, lower: i32, upper: i32, least: i32, greatest: i32) -> u8
-    ensures { result ≡ mode_by (bound_of 2 mode lower) (bound_of 1 mode upper) least greatest }
+// .. an upper one.
+fn at_most(upper: Option<i32>, sum: i32) -> bool
+    ensures { result ≡ at_most (as_bound upper) sum }
 {
-    if !at_least(mode, lower, greatest) {
-        return 4;
+    match upper {
+        None => true,
+        Some(upper) => sum <= upper,
     }
-    if !at_most(mode, upper, least) {
-        return 4;
-    }
-    mode_without(at_least(mode, lower, least), at_most(mode, upper, greatest))
 }
 
-// A bound as it is written: 0 where it is dropped.
-fn written(met: bool, bound: i32) -> i32
-    ensures { result ≡ bound_number (cond met absent (present bound)) }
+// A bound without which nothing changes is dropped.
+fn unmet(met: bool, bound: Option<i32>) -> Option<i32>
+    ensures { as_bound result ≡ still met (as_bound bound) }
 {
-    if met { 0 } else { bound }
+    if met { None } else { bound }
 }
 
-// What is left of a rule: its mode, 0 where all values meet it and 4 where none do, and its bounds as they are written.
-#[derive(Clone, Copy)]
-pub struct Fate {
-    pub mode: u8,
-    pub lower: i32,
-    pub upper: i32,
-}
-
-pub fn fate_by(mode: u8, lower: i32, upper: i32, least: i32, greatest: i32) -> Fate
-    ensures { (result.mode ≡ mode_by (bound_of 2 mode lower) (bound_of 1 mode upper) least greatest)
-        × (result.lower ≡ bound_number (cond (at_least (bound_of 2 mode lower) least) absent (bound_of 2 mode lower)))
-        × (result.upper ≡ bound_number (cond (at_most (bound_of 1 mode upper) greatest) absent (bound_of 1 mode upper))) }
+// What is left of a rule's bounds, none where no values can meet the rule: "drop a bound that all values of the remaining variables meet".
+pub(crate) fn left(b: Bounds, least: i32, greatest: i32) -> Option<Bounds>
+    ensures { MatchOption result ((at_least (as_bound b.lower) greatest and at_most (as_bound b.upper) least) ≡ false)
+        (λ r. ((at_least (as_bound b.lower) greatest and at_most (as_bound b.upper) least) ≡ true)
+        × (as_bound r.lower ≡ still (at_least (as_bound b.lower) least) (as_bound b.lower))
+        × (as_bound r.upper ≡ still (at_most (as_bound b.upper) greatest) (as_bound b.upper))) }
 {
-    Fate {
-        mode: mode_left(mode, lower, upper, least, greatest),
-        lower: written(at_least(mode, lower, least), lower),
-        upper: written(at_most(mode, upper, greatest), upper),
+    if !at_least(b.lower, greatest) {
+        return None;
     }
+    if !at_most(b.upper, least) {
+        return None;
+    }
+    Some(Bounds {
+        lower: unmet(at_least(b.lower, least), b.lower),
+        upper: unmet(at_most(b.upper, greatest), b.upper),
+    })
 }

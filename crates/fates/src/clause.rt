@@ -1,11 +1,13 @@
 // What becomes of a clause.
 ghost use Rattle.std.specs.Prelude.{◌≡◌, List, [], ℕ, ◌≤◌, length};
-ghost use Rattle.plpb.specs.Lists.{◌or◌, any, is_empty};
+ghost use Rattle.plpb.specs.Lists.{any, is_empty};
 ghost use Rattle.plpb.specs.Plan.{Clause};
 ghost use Rattle.squeezed.specs.Squeezed.{clauses_left};
 ghost use Rattle.fates.specs.Codes.{decoded, map_size};
+ghost use Rattle.fates.specs.Rules.{unbounded};
 ghost use Rattle.fates.specs.Rest.{Rest, Reads, Begins, Ran};
 
+use crate::bounds::Bounds;
 use crate::rule;
 
 // A clause's rules run through: whether one is met by all values, whether one is kept, and the place behind them.
@@ -16,10 +18,14 @@ pub struct Run {
     pub next: usize,
 }
 
-fn either(a: bool, b: bool) -> bool
-    ensures { result ≡ (a or b) }
+// Whether all values meet a rule, by what is left of its bounds.
+fn all_meet(fate: Option<Bounds>) -> bool
+    ensures { result ≡ unbounded fate }
 {
-    if a { true } else { b }
+    match fate {
+        None => false,
+        Some(left) => left.lower.is_none() && left.upper.is_none(),
+    }
 }
 
 pub fn run_rules(file: &[u8], from: usize, map: &[u8]) -> Run
@@ -31,8 +37,9 @@ pub fn run_rules(file: &[u8], from: usize, map: &[u8]) -> Run
     let mut kept = false;
     while file[at] == 4 {
         let fate = rule::fate(file, at, map);
-        met = either(met, fate.mode == 0);
-        kept = either(kept, fate.mode != 4);
+        let is_met = all_meet(fate);
+        met |= is_met;
+        kept |= fate.is_some();
         at = tables::fields::after(file, at);
     }
     Run {
@@ -51,7 +58,7 @@ pub fn lost(file: &[u8], from: usize, map: &[u8]) -> bool
     let mut at = from;
     while file[at] == 3 {
         let run = run_rules(file, at + 3, map);
-        if !either(run.met, run.kept) {
+        if !(run.met | run.kept) {
             return true;
         }
         at = run.next;

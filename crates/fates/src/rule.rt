@@ -3,13 +3,12 @@ ghost use Rattle.std.specs.Prelude.{◌≡◌, ◌+◌, ◌≤◌, nat_abs, ◌-
 ghost use Rattle.words.specs.Words.{num_at, signed};
 ghost use Rattle.format.specs.Limits.{max_bound};
 ghost use Rattle.format.specs.File.{field_terms, rule_at};
-ghost use Rattle.format.specs.Writer.{bound_number};
-ghost use Rattle.squeezed.specs.Squeezed.{put_in, trimmed};
+ghost use Rattle.squeezed.specs.Squeezed.{put_in};
 ghost use Rattle.fates.specs.Codes.{decoded, map_size};
 ghost use Rattle.fates.specs.Sums.{part_total};
-ghost use Rattle.fates.specs.Rules.{RuleFits, mode_left, max_total};
+ghost use Rattle.fates.specs.Rules.{RuleFits, Fated, max_total};
 
-use crate::bounds::Fate;
+use crate::bounds::Bounds;
 use crate::sums::Part;
 use crate::{bounds, sums};
 
@@ -30,16 +29,15 @@ fn less(file: &[u8], at: usize, given: i32) -> i32
     integers::minus(words::read_i32(file, at), given)
 }
 
-pub fn fate(file: &[u8], at: usize, map: &[u8]) -> Fate
+// What is left of the bounds of the rule at a place, nothing where no values can meet it.
+pub fn fate(file: &[u8], at: usize, map: &[u8]) -> Option<Bounds>
     requires { RuleFits file.now at × (map_size ≤ length map.now) }
-    ensures { (result.mode ≡ mode_left (put_in (decoded map.now) (rule_at file.now at)))
-        × (result.lower ≡ bound_number (trimmed (put_in (decoded map.now) (rule_at file.now at))).lower)
-        × (result.upper ≡ bound_number (trimmed (put_in (decoded map.now) (rule_at file.now at))).upper) }
+    ensures { Fated result (put_in (decoded map.now) (rule_at file.now at)) }
 {
     let given = total(file, at, map, Part::Given);
     let least = total(file, at, map, Part::Least);
     let greatest = total(file, at, map, Part::Greatest);
     let lower = less(file, at + 4, given);
     let upper = less(file, at + 8, given);
-    bounds::fate_by(file[at + 3], lower, upper, least, greatest)
+    bounds::left(bounds::by_mode(file[at + 3], lower, upper), least, greatest)
 }

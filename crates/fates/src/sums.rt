@@ -53,14 +53,11 @@ pub fn sum(file: &[u8], from: usize, count: usize, map: &[u8], part: Part) -> i3
     requires count_value { small_terms (terms_at file.now from count) ≡ true }
     ensures { result ≡ part_total part (decoded map.now) (terms_at file.now from count) }
 {
-    let mut at = from;
-    let mut left = count;
     let mut sum: i32 = 0;
-    while 0 < left {
+    for i in 0..count {
+        let at = from + 6 * i;
         let code = words::word(map, words::read_size(file, at));
         sum = plus(sum, part_of(part, code, words::read_i32(file, at + 2)));
-        at += 6;
-        left -= 1;
     }
     sum
 }

@@ -14,7 +14,7 @@ use Rattle.plpb.specs.Lists.{◌or◌, any}
 use Rattle.format.specs.Layout.{table_size, term_size}
 use Rattle.columns.specs.Layout.{column_size, kept_size}
 use Rattle.format.specs.Assignment.{assignment_size}
-use Rattle.lending.specs.Lent.{Lent, too_small, search_refusal}
+use Rattle.lending.specs.Lent.{too_small, search_refusal}
 use Rattle.search.specs.Calls.{answer, search_assignment, cleared, unless}
 use Rattle.search.proofs.Refusing.{accepted}
 use Rattle.festival.specs.Own.{Works, works, Entry, lent_to, answered, Raced, own, leaves, in_turn, left_by, accepts, clear, SameRoom, Apart}

@@ -3,11 +3,11 @@
 use Prim.Native.Nat.{ℕ, zero, suc, ◌+◌, ◌*◌, ◌≤◌, ◌<◌}
 use native.Mathlib.Nat.{add-zero, zero-add, add-suc, suc-add, mul-suc, mul-zero, not-suc-le-zero, le_of_suc-le-suc}
 use native.Mathlib.Omega.{arith}
-use mathlib.Core.Path.{◌≡◌, refl, sym, ap, ap₂, ◌∙◌, subst}
+use mathlib.Core.Path.{◌≡◌, refl, sym, ap, ◌∙◌, subst}
 use mathlib.Core.Bool.{Bool, true, false, cond}
 use mathlib.Core.List.{List, [], ◌∷◌, ◌++◌, map, append_assoc, append-nil}
 use lib.Dec.{eqb}
-use lib.ListN.{length, get_or, take, drop, length-append, length-drop, length-take}
+use lib.ListN.{length, get_or, take, drop, length-append, length-drop}
 use lib.Seq.{drop_at, take_at, drop-append-add, length-take-le, take-suc}
 use borrow.Author.Tests.{eqb-true}
 use Rattle.plpb.specs.Lists.{any, concat}
@@ -27,11 +27,11 @@ use Rattle.lending.specs.Lent.{Lent, search_refusal}
 use Rattle.search.specs.Calls.{answer, search_assignment}
 use Rattle.search.proofs.Refusing.{accepted}
 use Rattle.search.proofs.Within.{Whole, find_whole}
-use Rattle.division.specs.Split.{Part}
+use Rattle.division.specs.declared.Part.{Part}
 use Rattle.exchange.specs.Exchange.{answer_size, answer_bytes}
 use Rattle.exchange.proofs.Laws.{length_answer}
 use Rattle.festival.specs.Own.{Works, Entry, lent_to, Raced, own, leaves, left_by, accepts, clear, SameRoom}
-use Rattle.festival.specs.Festival.{Given, Buffers, buffers, place, entry, entries, raced, race_once, race_next, OwnIn, EachOwn}
+use Rattle.festival.specs.Festival.{Given, Buffers, buffers, place, entry, entries, raced, race_once, race_next, EachOwn}
 use Rattle.festival.proofs.Apart.{same_own, same_room, left}
 
 -- ---- an assignment keeps its length

@@ -1,31 +1,36 @@
 -- One race in the code: what its search promises, written to the race's places.
 -- Assumes nothing.
-use Prim.Native.Nat.{ℕ, zero, suc, ◌+◌, ◌-◌, ◌*◌, ◌/◌, ◌≤◌, ◌<◌}
-use native.Mathlib.Nat.{mul-div-le, not-suc-le-zero, le_of_suc-le-suc}
+use Prim.Native.Nat.{ℕ, ◌+◌, ◌-◌, ◌*◌, ◌/◌, ◌≤◌, ◌<◌}
+use native.Mathlib.Nat.{mul-div-le}
 use native.Mathlib.Numerals.{add-one}
 use native.Mathlib.Omega.{arith}
-use mathlib.Core.Path.{◌≡◌, refl, sym, ap, ap₂, ◌∙◌, subst}
+use mathlib.Core.Path.{◌≡◌, refl, sym, ap, ◌∙◌, subst}
 use mathlib.Core.Bool.{Bool, true, false, cond}
-use mathlib.Core.List.{List, [], ◌∷◌}
+use mathlib.Core.List.{List, []}
 use lib.Dec.{ltb}
 use lib.IntN.{ℤ}
 use lib.ListN.{length, get_or, take, drop, length-take}
+use Rattle.std.proofs.lemmas.List.{get_or-take}
 use lib.Seq.{take_all}
 use borrow.Author.Tests.{ltb-false}
-use borrow.Rule.Slice.PartMut.{mid_of, put_mid, mid_len}
+use borrow.Rule.Slice.PartMut.{mid_of, put_mid}
 use Rattle.words.specs.Writes.{put, front}
 use Rattle.words.proofs.Writes.{lent_part, front_whole}
 use Rattle.format.specs.Assignment.{assignment_size}
 use Rattle.settings.specs.declared.Settings.{Settings as Asked}
 use Rattle.answers.specs.declared.Answer.{Answer as Answered}
 use Rattle.lending.specs.Lent.{Lent, lent_all}
-use Rattle.search.specs.Calls.{search_assignment, Searches}
+use Rattle.search.specs.Calls.{Searches}
 use Rattle.plpb.specs.Lists.{◌or◌}
 use Rattle.division.specs.declared.Stakes.{Stakes}
 use Rattle.division.specs.declared.Parts.{Parts}
-use Rattle.division.specs.Split.{Part, refusal_after, parts_after}
-use Rattle.division.specs.Eight.{kept, paired, parts_in, divided}
-use Rattle.division.proofs.Plain.{Within, divided_within, divided_told}
+use Rattle.division.specs.declared.Part.{Part}
+use Rattle.division.specs.Split.{refusal_after, parts_after}
+use Rattle.division.specs.declared.Refusal.{Refusal}
+use Rattle.division.specs.declared.Refusal.TheVariants.{NoRoom}
+use Rattle.division.specs.Eight.{kept, refusal_in, parts_in, divided}
+use Rattle.std.specs.Prelude.{Result, Ok, Err}
+use Rattle.division.proofs.Plain.{AllWithin, divided_within, Told, room_told, divided_told}
 use Rattle.races.specs.Races.{stakes_in, parts_put}
 use Rattle.exchange.specs.Exchange.{settings_size, answer_size, settings_at, answer_bytes}
 use Rattle.exchange.proofs.Laws.{length_answer}
@@ -108,10 +113,9 @@ module _ (i : ℕ) (tables terms numbers : List ℕ) (k : Asked) (s o : List ℕ
 -- ---- race i of the call
 
 -- A part of the list, lent from its first byte to its last.
-pub part_is : (numbers : List ℕ) (first size : ℕ)
-    → mid_of (4 * first) (4 * first + 4 * size - 4 * first) numbers ≡ part_of numbers (record { first = first; length = size })
+pub part_is : (numbers : List ℕ) (p : Part) → mid_of (4 * p.first) (4 * p.first + 4 * p.length - 4 * p.first) numbers ≡ part_of numbers p
 unfolding part_of
-part_is numbers first size = ap (λ (k : ℕ). take k (drop (4 * first) numbers)) (same (4 * first) (4 * size))
+part_is numbers p = ap (λ (k : ℕ). take k (drop (4 * p.first) numbers)) (same (4 * p.first) (4 * p.length))
   where
     same : (a b : ℕ) → a + b - a ≡ b
     same a b = omega arith
@@ -133,37 +137,24 @@ module _ (g : Given) (i : ℕ) (p : Part) (b : Buffers) where
 
 -- ---- the loop over the races
 
-pair_at : (c : ℕ) (fs ls : List ℕ) (i : ℕ) (p : Part) → i < c → i < length fs → length ls ≡ length fs
-    → (get_or (take c (paired fs ls)) i p ≡ record { first = get_or fs i 0; length = get_or ls i 0 }) × (i < length (take c (paired fs ls)))
-unfolding paired
-pair_at zero fs ls i p h k e = absurd (not-suc-le-zero h)
-pair_at (suc c) [] ls i p h k e = absurd (not-suc-le-zero k)
-pair_at (suc c) (f ∷ fs) [] i p h k e = absurd (omega (arith, e))
-pair_at (suc c) (f ∷ fs) (l ∷ ls) zero p h k e = (refl, omega arith)
-pair_at (suc c) (f ∷ fs) (l ∷ ls) (suc i) p h k e =
-    let r = pair_at c fs ls i p (le_of_suc-le-suc h) (le_of_suc-le-suc k) (omega (arith, e)) in (r.0, omega (arith, r.1))
+few_parts : (c : ℕ) (ps : List Part) → length (take c ps) ≤ c
+few_parts c ps = omega (arith, length-take c ps)
 
-few_pairs : (c : ℕ) (ps : List Part) → length (take c ps) ≤ c
-few_pairs c ps = omega (arith, length-take c ps)
-
-module _ (g : Given) (c : ℕ) (fs ls : List ℕ) (b₀ : Buffers) where
-  pub race_first : b₀ ≡ raced g (take 0 (take c (paired fs ls))) b₀
+module _ (g : Given) (c : ℕ) (ps : List Part) (b₀ : Buffers) where
+  pub race_first : b₀ ≡ raced g (take 0 (take c ps)) b₀
   race_first = sym (no_race g b₀)
 
-  pub race_turn : {b b' : Buffers} (i : ℕ) → i < c → i < length fs → length ls ≡ length fs
-      → assignment_size * i + assignment_size ≤ length b₀.assignments → b ≡ raced g (take i (take c (paired fs ls))) b₀
-      → b' ≡ race_next g i (record { first = get_or fs i 0; length = get_or ls i 0 }) b → b' ≡ raced g (take (i + 1) (take c (paired fs ls))) b₀
-  race_turn i h k e room is h' =
-      let none : Part = record { first = 0; length = 0 } in
-      let r = pair_at c fs ls i none h k e in
-      h' ∙ ap (λ (x : Buffers). race_next g i (record { first = get_or fs i 0; length = get_or ls i 0 }) x) is
-      ∙ ap (λ (p : Part). race_next g i p (raced g (take i (take c (paired fs ls))) b₀)) (sym r.0)
-      ∙ next_race g (take c (paired fs ls)) b₀ i none r.1 room
-      ∙ ap (λ (k : ℕ). raced g (take k (take c (paired fs ls))) b₀) (sym (add-one i))
+  pub race_turn : {b b' : Buffers} (none : Part) (i : ℕ) → i < c → i < length ps
+      → assignment_size * i + assignment_size ≤ length b₀.assignments → b ≡ raced g (take i (take c ps)) b₀
+      → b' ≡ race_next g i (get_or ps i none) b → b' ≡ raced g (take (i + 1) (take c ps)) b₀
+  race_turn none i h k room is h' =
+      h' ∙ ap (λ (x : Buffers). race_next g i (get_or ps i none) x) is
+      ∙ ap (λ (p : Part). race_next g i p (raced g (take i (take c ps)) b₀)) (sym (get_or-take c ps i none h))
+      ∙ next_race g (take c ps) b₀ i none (omega (arith, length-take c ps, h, k)) room
+      ∙ ap (λ (k : ℕ). raced g (take k (take c ps)) b₀) (sym (add-one i))
 
-  pub race_last : {b : Buffers} (i : ℕ) → c ≤ i → b ≡ raced g (take i (take c (paired fs ls))) b₀ → b ≡ raced g (take c (paired fs ls)) b₀
-  race_last i h is =
-      is ∙ ap (λ (qs : List Part). raced g qs b₀) (take_all i (take c (paired fs ls)) (omega (arith, few_pairs c (paired fs ls), h)))
+  pub race_last : {b : Buffers} (i : ℕ) → c ≤ i → b ≡ raced g (take i (take c ps)) b₀ → b ≡ raced g (take c ps) b₀
+  race_last i h is = is ∙ ap (λ (qs : List Part). raced g qs b₀) (take_all i (take c ps) (omega (arith, few_parts c ps, h)))
 
 -- ---- the call
 
@@ -180,32 +171,48 @@ room_fine settings assignments answers = by _ refl _ refl _ refl
     by false a false b true c e = absurd (unfold ◌or◌ in omega (arith, e))
     by false a false b false c e = (ltb-false _ _ a, ltb-false _ _ b, ltb-false _ _ c)
 
-pub all_fit : (s : Stakes) (numbers settings assignments answers : ℕ) {before : ℕ} {p : Parts} → length s.stakes ≡ 8
-    → before ≡ room_refusal settings assignments answers → p ≡ divided before s (numbers / 4)
-    → (i : ℕ) → i < p.count → Fits i (get_or p.first i 0) (get_or p.length i 0) numbers settings assignments answers
-all_fit s numbers settings assignments answers {before} {p} long eb ep i h =
-    let d = subst (λ (q : Parts). (j : ℕ) → j < q.count → Within before (numbers / 4) q j) (sym ep) (divided_within before s (numbers / 4) long) i h in
-    let r = room_fine settings assignments answers (sym eb ∙ d.fine) in
+pub room_enough : {b : Bool} {room : ℕ} → room ≡ cond b 0 21 → b ≡ true → room ≡ 0
+room_enough e f = rw f at e
+
+pub room_small : {b : Bool} {room : ℕ} → room ≡ cond b 0 21 → b ≡ false → room ≡ 21
+room_small e f = rw f at e
+
+pub all_fit : (s : Stakes) (numbers settings assignments answers : ℕ) {p : Parts} → length s.stakes ≡ 8
+    → room_refusal settings assignments answers ≡ 0 → divided s (numbers / 4) ≡ Ok p
+    → (none : Part) (i : ℕ) → i < p.count → Fits i (get_or p.parts i none).first (get_or p.parts i none).length numbers settings assignments answers
+all_fit s numbers settings assignments answers {p} long fine is none i h =
+    let d = subst (AllWithin (numbers / 4)) is (divided_within s (numbers / 4) long) i h in
+    let r = room_fine settings assignments answers fine in
     record {
       race = d.race;
-      part = omega (arith, d.part, mul-div-le numbers 4);
+      part = omega (arith, d.part none, mul-div-le numbers 4);
       setting = omega (arith, d.race, r.0);
       assignment = omega (arith, d.race, r.1);
       answer = omega (arith, d.race, r.2);
     }
 
-pub told_all : (s : Stakes) (m before room : ℕ) {p : Parts} → before ≡ room → p ≡ divided before s m
-    → (ss : List ℕ) → s ≡ kept ss → (p.refusal ≡ refusal_after room ss) × (parts_in p ≡ parts_after room m ss)
-told_all s m before room {p} eb ep ss es =
-    let t = divided_told room ss m in
-    let q : p ≡ divided room (kept ss) m = ep ∙ ap₂ (λ (b : ℕ) (x : Stakes). divided b x m) eb es in
-    (ap (λ (x : Parts). x.refusal) q ∙ t.refusal, ap parts_in q ∙ t.parts)
+pub told_all : (s : Stakes) (m room : ℕ) {p : Result Parts Refusal} → room ≡ 0 → divided s m ≡ p
+    → (ss : List ℕ) → s ≡ kept ss → (refusal_in p ≡ refusal_after room ss) × (parts_in p ≡ parts_after room m ss)
+told_all s m room {p} fine is ss es =
+    let t = subst (Told 0 ss m) (sym (ap (λ (x : Stakes). divided x m) es) ∙ is) (divided_told ss m) in
+    (t.refusal ∙ ap (λ (k : ℕ). refusal_after k ss) (sym fine), t.parts ∙ ap (λ (k : ℕ). parts_after k m ss) (sym fine))
+
+pub told_room : (m room : ℕ) → room ≡ 21
+    → (ss : List ℕ) → (refusal_in (Err NoRoom) ≡ refusal_after room ss) × (parts_in (Err NoRoom) ≡ parts_after room m ss)
+told_room m room small ss =
+    let t = room_told ss m in
+    (t.refusal ∙ ap (λ (k : ℕ). refusal_after k ss) (sym small), t.parts ∙ ap (λ (k : ℕ). parts_after k m ss) (sym small))
+
+-- Nothing is made for a refusal.
+pub none_made : (g : Given) (b : Buffers) (r : Refusal) → b ≡ raced g (parts_in (Err r)) b
+unfolding parts_in
+none_made g b r = sym (no_race g b)
 
 -- The list of records, with what the races' stakes stand for.
-pub called : (ns : List ℕ) (g : Given) (b : Buffers) (room m : ℕ) (p : Parts) {st : Stakes} {b' : Buffers} {xs : List ℕ} → st ≡ kept (stakes_in ns)
-    → ((ss : List ℕ) → st ≡ kept ss → (p.refusal ≡ refusal_after room ss) × (parts_in p ≡ parts_after room m ss))
+pub called : (ns : List ℕ) (g : Given) (b : Buffers) (room m : ℕ) (p : Result Parts Refusal) {st : Stakes} {b' : Buffers} {xs : List ℕ} → st ≡ kept (stakes_in ns)
+    → ((ss : List ℕ) → st ≡ kept ss → (refusal_in p ≡ refusal_after room ss) × (parts_in p ≡ parts_after room m ss))
     → b' ≡ raced g (parts_in p) b → xs ≡ parts_put (parts_in p) ns
-    → (p.refusal ≡ refusal_after room (stakes_in ns)) × (xs ≡ parts_put (parts_after room m (stakes_in ns)) ns)
+    → (refusal_in p ≡ refusal_after room (stakes_in ns)) × (xs ≡ parts_put (parts_after room m (stakes_in ns)) ns)
     × (b' ≡ raced g (parts_after room m (stakes_in ns)) b)
 called ns g b room m p es told er ep =
     let t = told (stakes_in ns) es in

@@ -1,13 +1,12 @@
 -- A festival: the races' parts, what each race is lent in the buffers that all share, and what the call leaves in them (02, T-10).
 -- Assumes nothing.
-use Rattle.std.specs.Prelude.{ℕ, zero, suc, ◌+◌, ◌*◌, ◌<◌, ◌≤◌, ◌≡◌, cond, List, [], ◌∷◌, map, ltb, length, get_or, take, drop}
+use Rattle.std.specs.Prelude.{ℕ, suc, ◌+◌, ◌*◌, ◌<◌, ◌≤◌, ◌≡◌, cond, List, [], ◌∷◌, map, ltb, length, get_or, take, drop}
 use Rattle.plpb.specs.Lists.{◌or◌, any, concat}
 use Rattle.words.specs.Writes.{put, front}
 use Rattle.format.specs.Assignment.{assignment_size}
-use Rattle.settings.specs.declared.Settings.{Settings as Asked}
-use Rattle.division.specs.Split.{Part}
+use Rattle.division.specs.declared.Part.{Part}
 use Rattle.exchange.specs.Exchange.{settings_size, answer_size, settings_at, answer_bytes}
-use Rattle.festival.specs.Own.{Works, Entry, Raced, own, leaves, accepts, clear}
+use Rattle.festival.specs.Own.{Works, Entry, own, leaves, accepts, clear}
 
 -- What is read: the list of numbers, the settings, and the plans' tables and terms in the races' order.
 pub record Given : Type 0 where

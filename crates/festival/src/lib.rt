@@ -2,16 +2,16 @@
 // that has one for each race; the work tables serve every race.
 #![tactic(auto)]
 
-ghost use Rattle.std.specs.Prelude.{◌≡◌, List, [], ◌∷◌, ℕ, ◌+◌, ◌*◌, ◌/◌, ◌≤◌, ◌<◌, length, get_or};
+ghost use Rattle.std.specs.Prelude.{◌≡◌, cond, List, [], ◌∷◌, ℕ, ◌+◌, ◌*◌, ◌/◌, ◌≤◌, ◌<◌, length, get_or, map};
 ghost use Rattle.format.specs.Assignment.{assignment_size};
 ghost use Rattle.division.specs.Split.{refusal_after, parts_after};
-ghost use Rattle.division.specs.Eight.{kept, parts_in};
+ghost use Rattle.division.specs.Eight.{kept, laid, refusal_in, parts_in};
 ghost use Rattle.exchange.specs.Exchange.{settings_size, answer_size};
 ghost use Rattle.races.specs.Races.{stakes_in, parts_put};
 ghost use Rattle.festival.specs.Own.{works};
 ghost use Rattle.festival.specs.Festival.{given, buffers, place, race_once, race_next, raced, room_refusal, Fits};
 
-use division::{Parts, Stakes, divide};
+use division::{Part, Parts, Refusal, Stakes, divide, number_of};
 use exchange::{put_answer, settings_at};
 use races::{put_in, stakes_in};
 use search::search;
@@ -26,61 +26,28 @@ const ALL_ASSIGNMENTS: usize = RACES * format::ASSIGNMENT;
 
 const ALL_ANSWERS: usize = RACES * exchange::ANSWER;
 
-// 21 where one of these lengths is too small for 8 races, 0 else.
-fn room(settings: usize, assignments: usize, answers: usize) -> u32
-    ensures { result ≡ room_refusal settings assignments answers }
+// Whether each of these lengths is enough for 8 races.
+fn has_room(settings: usize, assignments: usize, answers: usize) -> bool
+    ensures { room_refusal settings assignments answers ≡ cond result 0 21 }
 {
     if settings < ALL_SETTINGS {
-        return 21;
+        return false;
     }
     if assignments < ALL_ASSIGNMENTS {
-        return 21;
+        return false;
     }
     if answers < ALL_ANSWERS {
-        return 21;
+        return false;
     }
-    0
+    true
 }
 
-// One of eight slices, by its place from 0.
-fn one_of<'a>(
-    i: usize,
-    a: &'a [u8],
-    b: &'a [u8],
-    c: &'a [u8],
-    d: &'a [u8],
-    e: &'a [u8],
-    f: &'a [u8],
-    g: &'a [u8],
-    h: &'a [u8],
-) -> &'a [u8]
+// One race's slice of all, by its place from 0.
+fn one_of<'a>(i: usize, slices: [&'a [u8]; RACES]) -> &'a [u8]
     requires { i < 8 }
-    ensures { result.now
-        ≡ get_or (a.now ∷ b.now ∷ c.now ∷ d.now ∷ e.now ∷ f.now ∷ g.now
-        ∷ h.now ∷ []) i [] }
+    ensures { result.now ≡ get_or (map (λ s. s.now) slices.entry) i [] }
 {
-    if i == 0 {
-        return a;
-    }
-    if i == 1 {
-        return b;
-    }
-    if i == 2 {
-        return c;
-    }
-    if i == 3 {
-        return d;
-    }
-    if i == 4 {
-        return e;
-    }
-    if i == 5 {
-        return f;
-    }
-    if i == 6 {
-        return g;
-    }
-    h
+    slices[i]
 }
 
 // One race: its search, whose assignment and answer go to the race's places.
@@ -132,29 +99,14 @@ fn race_one(
     put_answer(&mut answers[start..past], r);
 }
 
-// Race i, from 0, with the part of `size` numbers from the place `first` on.
+// Race i, from 0, with its part of the numbers.
 fn race_at<'a>(
     i: usize,
-    first: usize,
-    size: usize,
+    part: Part,
     numbers: &[u8],
     settings: &[u8],
-    t1: &'a [u8],
-    e1: &'a [u8],
-    t2: &'a [u8],
-    e2: &'a [u8],
-    t3: &'a [u8],
-    e3: &'a [u8],
-    t4: &'a [u8],
-    e4: &'a [u8],
-    t5: &'a [u8],
-    e5: &'a [u8],
-    t6: &'a [u8],
-    e6: &'a [u8],
-    t7: &'a [u8],
-    e7: &'a [u8],
-    t8: &'a [u8],
-    e8: &'a [u8],
+    tables: [&'a [u8]; RACES],
+    terms: [&'a [u8]; RACES],
     assignments: &mut [u8],
     answers: &mut [u8],
     work_tables: &mut [u8],
@@ -163,23 +115,22 @@ fn race_at<'a>(
     work_tallies: &mut [u8],
     work_marks: &mut [u8],
 )
-    requires { Fits i first size (length numbers.now) (length settings.now) (length assignments.old) (length answers.old) }
+    requires { Fits i part.first part.length (length numbers.now) (length settings.now) (length assignments.old) (length answers.old) }
     ensures { buffers assignments.new answers.new
         (works work_tables.new work_terms.new work_assignment.new work_tallies.new work_marks.new)
         ≡ race_next
         (given numbers.now settings.now
-        (t1.now ∷ t2.now ∷ t3.now ∷ t4.now ∷ t5.now ∷ t6.now ∷ t7.now ∷ t8.now ∷ [])
-        (e1.now ∷ e2.now ∷ e3.now ∷ e4.now ∷ e5.now ∷ e6.now ∷ e7.now ∷ e8.now ∷ []))
-        i (record { first = first; length = size })
+        (map (λ s. s.now) tables.entry) (map (λ s. s.now) terms.entry))
+        i part
         (buffers assignments.old answers.old
         (works work_tables.old work_terms.old work_assignment.old
         work_tallies.old work_marks.old)) }
 {
-    let tables = one_of(i, t1, t2, t3, t4, t5, t6, t7, t8);
-    let terms = one_of(i, e1, e2, e3, e4, e5, e6, e7, e8);
+    let tables = one_of(i, tables);
+    let terms = one_of(i, terms);
     let s = settings_at(settings, i);
-    let from = 4 * first;
-    let end = from + 4 * size;
+    let from = 4 * part.first;
+    let end = from + 4 * part.length;
     race_one(
         i,
         tables,
@@ -201,22 +152,8 @@ fn race_all<'a>(
     p: Parts,
     numbers: &[u8],
     settings: &[u8],
-    t1: &'a [u8],
-    e1: &'a [u8],
-    t2: &'a [u8],
-    e2: &'a [u8],
-    t3: &'a [u8],
-    e3: &'a [u8],
-    t4: &'a [u8],
-    e4: &'a [u8],
-    t5: &'a [u8],
-    e5: &'a [u8],
-    t6: &'a [u8],
-    e6: &'a [u8],
-    t7: &'a [u8],
-    e7: &'a [u8],
-    t8: &'a [u8],
-    e8: &'a [u8],
+    tables: [&'a [u8]; RACES],
+    terms: [&'a [u8]; RACES],
     assignments: &mut [u8],
     answers: &mut [u8],
     work_tables: &mut [u8],
@@ -225,47 +162,29 @@ fn race_all<'a>(
     work_tallies: &mut [u8],
     work_marks: &mut [u8],
 )
-    requires { (i : ℕ) → i < p.count
-        → Fits i (get_or p.first i 0) (get_or p.length i 0) (length numbers.now) (length settings.now) (length assignments.old)
+    requires { (none : Part) (i : ℕ) → i < p.count
+        → Fits i (get_or p.parts i none).first (get_or p.parts i none).length (length numbers.now) (length settings.now) (length assignments.old)
         (length answers.old) }
     ensures { buffers assignments.new answers.new
         (works work_tables.new work_terms.new work_assignment.new work_tallies.new work_marks.new)
         ≡ raced
         (given numbers.now settings.now
-        (t1.now ∷ t2.now ∷ t3.now ∷ t4.now ∷ t5.now ∷ t6.now ∷ t7.now ∷ t8.now ∷ [])
-        (e1.now ∷ e2.now ∷ e3.now ∷ e4.now ∷ e5.now ∷ e6.now ∷ e7.now ∷ e8.now ∷ []))
-        (parts_in p)
+        (map (λ s. s.now) tables.entry) (map (λ s. s.now) terms.entry))
+        (laid p)
         (buffers assignments.old answers.old
         (works work_tables.old work_terms.old work_assignment.old
         work_tallies.old work_marks.old)) }
 {
     let count = p.count;
-    let firsts = p.first;
-    let lengths = p.length;
-    let mut i = 0;
-    while i < count {
+    let parts = p.parts;
+    for i in 0..count {
         race_at(
             i,
-            firsts[i],
-            lengths[i],
+            parts[i],
             numbers,
             settings,
-            t1,
-            e1,
-            t2,
-            e2,
-            t3,
-            e3,
-            t4,
-            e4,
-            t5,
-            e5,
-            t6,
-            e6,
-            t7,
-            e7,
-            t8,
-            e8,
+            tables,
+            terms,
             assignments,
             answers,
             work_tables,
@@ -274,7 +193,6 @@ fn race_all<'a>(
             work_tallies,
             work_marks,
         );
-        i += 1;
     }
 }
 
@@ -283,22 +201,8 @@ pub fn plan_all<'a>(
     stakes: Stakes,
     numbers: &[u8],
     settings: &[u8],
-    t1: &'a [u8],
-    e1: &'a [u8],
-    t2: &'a [u8],
-    e2: &'a [u8],
-    t3: &'a [u8],
-    e3: &'a [u8],
-    t4: &'a [u8],
-    e4: &'a [u8],
-    t5: &'a [u8],
-    e5: &'a [u8],
-    t6: &'a [u8],
-    e6: &'a [u8],
-    t7: &'a [u8],
-    e7: &'a [u8],
-    t8: &'a [u8],
-    e8: &'a [u8],
+    tables: [&'a [u8]; RACES],
+    terms: [&'a [u8]; RACES],
     assignments: &mut [u8],
     answers: &mut [u8],
     work_tables: &mut [u8],
@@ -306,9 +210,9 @@ pub fn plan_all<'a>(
     work_assignment: &mut [u8],
     work_tallies: &mut [u8],
     work_marks: &mut [u8],
-) -> Parts
+) -> Result<Parts, Refusal>
     ensures by_index { (ss : List ℕ) → stakes ≡ kept ss
-        → (result.refusal ≡ refusal_after (room_refusal (length settings.now) (length assignments.old) (length answers.old)) ss)
+        → (refusal_in result ≡ refusal_after (room_refusal (length settings.now) (length assignments.old) (length answers.old)) ss)
         × (parts_in result
         ≡ parts_after (room_refusal (length settings.now) (length assignments.old) (length answers.old))
         (length numbers.now / 4) ss) }
@@ -316,47 +220,39 @@ pub fn plan_all<'a>(
         (works work_tables.new work_terms.new work_assignment.new work_tallies.new work_marks.new)
         ≡ raced
         (given numbers.now settings.now
-        (t1.now ∷ t2.now ∷ t3.now ∷ t4.now ∷ t5.now ∷ t6.now ∷ t7.now ∷ t8.now ∷ [])
-        (e1.now ∷ e2.now ∷ e3.now ∷ e4.now ∷ e5.now ∷ e6.now ∷ e7.now ∷ e8.now ∷ []))
+        (map (λ s. s.now) tables.entry) (map (λ s. s.now) terms.entry))
         (parts_in result)
         (buffers assignments.old answers.old
         (works work_tables.old work_terms.old work_assignment.old
         work_tallies.old work_marks.old)) }
 {
-    let before = room(settings.len(), assignments.len(), answers.len());
-    let p = divide(before, stakes, numbers.len() / 4);
-    race_all(
-        p,
-        numbers,
-        settings,
-        t1,
-        e1,
-        t2,
-        e2,
-        t3,
-        e3,
-        t4,
-        e4,
-        t5,
-        e5,
-        t6,
-        e6,
-        t7,
-        e7,
-        t8,
-        e8,
-        assignments,
-        answers,
-        work_tables,
-        work_terms,
-        work_assignment,
-        work_tallies,
-        work_marks,
-    );
-    p
+    if !has_room(settings.len(), assignments.len(), answers.len()) {
+        return Err(Refusal::NoRoom);
+    }
+    match divide(stakes, numbers.len() / 4) {
+        Err(refusal) => Err(refusal),
+        Ok(p) => {
+            race_all(
+                p,
+                numbers,
+                settings,
+                tables,
+                terms,
+                assignments,
+                answers,
+                work_tables,
+                work_terms,
+                work_assignment,
+                work_tallies,
+                work_marks,
+            );
+            Ok(p)
+        }
+    }
 }
 
 // The call: the races stand in the list as records of three numbers, stake, first place and length.
+// Each plan's slices come by themselves, because the C interface hands over a pointer and a length for each.
 pub fn plan_races<'a>(
     races: &mut [usize],
     numbers: &[u8],
@@ -404,26 +300,12 @@ pub fn plan_races<'a>(
         work_tallies.old work_marks.old)) }
 {
     let stakes = stakes_in(races);
-    let p = plan_all(
+    let planned = plan_all(
         stakes,
         numbers,
         settings,
-        t1,
-        e1,
-        t2,
-        e2,
-        t3,
-        e3,
-        t4,
-        e4,
-        t5,
-        e5,
-        t6,
-        e6,
-        t7,
-        e7,
-        t8,
-        e8,
+        [t1, t2, t3, t4, t5, t6, t7, t8],
+        [e1, e2, e3, e4, e5, e6, e7, e8],
         assignments,
         answers,
         work_tables,
@@ -432,6 +314,11 @@ pub fn plan_races<'a>(
         work_tallies,
         work_marks,
     );
-    put_in(races, p);
-    p.refusal
+    match planned {
+        Ok(p) => {
+            put_in(races, p);
+            0
+        }
+        Err(refusal) => number_of(refusal),
+    }
 }

@@ -1,19 +1,18 @@
 -- Words of locks turned into codes one after the other.
 -- Assumes nothing.
-use Prim.Native.Nat.{ℕ, zero, suc, ◌+◌, ◌*◌, ◌-◌, ◌≤◌, ◌<◌, zero-le}
+use Prim.Native.Nat.{ℕ, suc, ◌+◌, ◌*◌, ◌-◌, ◌≤◌, ◌<◌}
 use native.Mathlib.Nat.{eq-or-lt_of_le, le_refl}
-use native.Mathlib.Numerals.{add-one}
 use native.Mathlib.Omega.{arith}
 use mathlib.Core.Path.{◌≡◌, refl, sym, ap, ap₂, ◌∙◌, subst}
-use mathlib.Core.Bool.{Bool, true, false, not, cond}
+use mathlib.Core.Bool.{cond}
 use mathlib.Core.Logic.{⊎_elim}
-use mathlib.Core.List.{List, [], ◌∷◌, ◌++◌, map}
+use mathlib.Core.List.{List, [], ◌∷◌}
 use lib.Dec.{eqb}
 use lib.ListN.{length}
-use Rattle.plpb.specs.Lists.{keep, count, row}
+use Rattle.plpb.specs.Lists.{row}
 use Rattle.plpb.proofs.Lists.{count_le, length_row, count_nil}
 use Rattle.words.specs.Words.{num_at, word_at}
-use Rattle.words.specs.Writes.{put, put_words}
+use Rattle.words.specs.Writes.{put_words}
 use Rattle.words.proofs.Writes.{one_word, read_put, read_before, read_behind, length_put_words}
 use Rattle.words.proofs.Words.{length_bytes_of}
 use Rattle.squeezed.proofs.Numbers.{up_suc}

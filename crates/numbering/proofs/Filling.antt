@@ -1,11 +1,11 @@
 -- A map filled from a plan's locks says what becomes of each variable.
 -- Assumes nothing.
-use Prim.Native.Nat.{ℕ, zero, suc, ◌+◌, ◌*◌, ◌-◌, ◌≤◌, ◌<◌, zero-le}
+use Prim.Native.Nat.{ℕ, zero, suc, ◌+◌, ◌*◌, ◌≤◌, ◌<◌, zero-le}
 use native.Mathlib.Nat.{not-suc-le-zero, le_refl}
 use native.Mathlib.Omega.{arith}
-use mathlib.Core.Path.{◌≡◌, refl, sym, ap, ap₂, ◌∙◌, subst}
+use mathlib.Core.Path.{◌≡◌, refl, sym, ap, ap₂, ◌∙◌}
 use mathlib.Core.Bool.{Bool, true, false, not, cond}
-use mathlib.Core.List.{List, [], ◌∷◌, ◌++◌, map, append-nil}
+use mathlib.Core.List.{List, [], ◌∷◌, append-nil}
 use lib.Dec.{eqb, ltb, leb}
 use lib.ListN.{length, get_or, length-map, get_or-eq_default}
 use borrow.Author.Tests.{ltb-true, ltb-false, leb-true, leb-false}
@@ -15,13 +15,13 @@ use Rattle.plpb.specs.Plan.{Bound, absent, present, is_present, Plan, is_variabl
 use Rattle.plpb.proofs.Lists.{count_nil, count_le}
 use Rattle.plpb.proofs.Locks.{variable_range, no_variable}
 use Rattle.words.specs.Words.{num_at, word_at, word_bytes}
-use Rattle.words.specs.Writes.{front, put, put_words}
+use Rattle.words.specs.Writes.{put, put_words}
 use Rattle.words.proofs.Words.{Below, below_cons, length_word_bytes, word_at_word_bytes}
-use Rattle.words.proofs.Writes.{lent_part, words_next, first_words, front_whole, length_put_words}
+use Rattle.words.proofs.Writes.{lent_part, words_next, first_words, front_whole}
 use Rattle.format.specs.Tables.{lock_word}
 use Rattle.format.proofs.Lists.{length_row}
 use Rattle.tables.specs.Sections.{lock_words}
-use Rattle.squeezed.specs.Squeezed.{Becomes, locked, renumbered, is_unlocked, unlocked, new_number, under_lock, becomes}
+use Rattle.squeezed.specs.Squeezed.{locked, renumbered, is_unlocked, unlocked, new_number, under_lock, becomes}
 use Rattle.squeezed.proofs.Alike.{map_row_at}
 use Rattle.squeezed.proofs.Numbers.{up_suc, in_range_lem}
 use Rattle.fates.specs.Codes.{decode, decoded}

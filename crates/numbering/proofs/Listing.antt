@@ -1,14 +1,12 @@
 -- The variables with a new number listed one after the other.
 -- Assumes nothing.
 use Prim.Native.Nat.{ℕ, suc, ◌+◌, ◌*◌, ◌-◌, ◌≤◌, ◌<◌}
-use native.Mathlib.Nat.{le_refl}
 use native.Mathlib.Omega.{arith}
-use mathlib.Core.Path.{◌≡◌, refl, sym, ap, ap₂, ◌∙◌, subst}
-use mathlib.Core.Bool.{Bool, true, false, not, cond}
-use mathlib.Core.List.{List, [], ◌∷◌, ◌++◌, append-nil}
-use lib.Dec.{eqb}
+use mathlib.Core.Path.{◌≡◌, refl, sym, ap, ◌∙◌, subst}
+use mathlib.Core.Bool.{Bool, true, false, cond}
+use mathlib.Core.List.{List, [], ◌∷◌, ◌++◌}
 use lib.ListN.{length, replicate, length-append}
-use borrow.Author.Tests.{eq-eqb, ne_eqb}
+use borrow.Author.Tests.{ne_eqb}
 use borrow.Rule.Slice.PartMut.{mid_of, put_mid}
 use Rattle.plpb.specs.Lists.{◌and◌, keep, count, row}
 use Rattle.plpb.proofs.Lists.{count_le, length_row}
@@ -85,6 +83,9 @@ module _ (m : List ℕ) where
       listing_same =
           ap length h.laid
           ∙ length_front (word_bytes (keep new (row 1 (x - 1)))) o (omega (arith, length_word_bytes (keep new (row 1 (x - 1))), few (x - 1), h.high))
+
+      pub listing_room : 4 * i ≤ length l
+      listing_room = omega (arith, listing_same, listing_few, h.high)
 
       pub listing_more : {t : List ℕ} {j : ℕ} → t ≡ put_words i (list_one m x) l → j ≡ i + length (list_one m x) → x ≤ n → Listing t (x + 1) j
       listing_more {t} {j} p q u =

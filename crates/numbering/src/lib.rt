@@ -35,13 +35,11 @@ fn number(map: &mut [u8], n: usize) -> u32
     requires { (n ≤ max_variables) × (map_size ≤ length map.old) }
     ensures { Numbered map.old n map.new result }
 {
-    let mut x = 1;
     let mut free: u32 = 0;
-    while x <= n {
+    for x in 1..n + 1 {
         let lock = words::word(map, x);
         free = counted(lock, free);
         words::write_word(map, x, code_of(lock, free));
-        x += 1;
     }
     free
 }
@@ -80,11 +78,9 @@ pub fn list_old(map: &[u8], n: usize, list: &mut [u8])
     requires { (n ≤ max_variables) × (map_size ≤ length map.now) × (length list.old ≡ 2_048) }
     ensures { list.new ≡ word_bytes (pad_to 512 (keep (λ x. is_number (word_at map.now x)) (row 1 n))) }
 {
-    let mut x = 1;
     let mut i = 0;
-    while x <= n {
+    for x in 1..n + 1 {
         i = list_one(map, x, list, i);
-        x += 1;
     }
     let end = 4 * i;
     words::clear(&mut list[end..]);

@@ -1,19 +1,19 @@
 -- A turn of each loop over the races.
 -- Assumes nothing.
-use Prim.Native.Nat.{ℕ, zero, suc, ◌+◌, ◌-◌, ◌*◌, ◌/◌, ◌≤◌, ◌<◌, ◌^◌, zero-le}
+use Prim.Native.Nat.{ℕ, zero, suc, ◌+◌, ◌-◌, ◌*◌, ◌/◌, ◌≤◌, ◌<◌, ◌^◌}
 use mathlib.Core.Path.{◌≡◌, refl, sym, ap, ap₂, ◌∙◌}
-use mathlib.Core.Bool.{Bool, true, false, cond}
+use mathlib.Core.Bool.{Bool, true, false}
 use mathlib.Core.List.{List, [], ◌∷◌, ◌++◌, append-nil, append_assoc}
-use native.Mathlib.Nat.{add-zero, mul-div-le, mod-lt, mod-add-div, not-suc-le-zero, le_of_suc-le-suc}
+use native.Mathlib.Nat.{mul-div-le, mod-lt, mod-add-div, not-suc-le-zero, le_of_suc-le-suc}
 use native.Mathlib.Numerals.{add-one}
 use native.Mathlib.Omega.{arith}
-use borrow.Author.Tests.{le-leb, lt-leb, lt-ltb, le-ltb, ltb-true, ltb-false, leb-true, leb-false}
+use borrow.Author.Tests.{lt-ltb, le-ltb, ltb-true, leb-true, leb-false}
 use lib.Dec.{leb, ltb}
 use lib.ListN.{length, get_or, set, take, drop, length-drop, replicate}
 use lib.Seq.{take_all, take-nil, set-get_or, drop-cons}
 use Rattle.division.specs.declared.Stakes.{Stakes}
-use Rattle.division.specs.Split.{Part}
-use Rattle.division.specs.Eight.{kept, paired}
+use Rattle.division.specs.declared.Part.{Part}
+use Rattle.division.specs.Eight.{kept}
 use Rattle.races.specs.declared.Race.{Race}
 use Rattle.races.specs.Races.{stakes_of, with_part, placed, placed_at, with_stake, stakes_in, parts_put, put_at}
 
@@ -130,32 +130,28 @@ pub mix_end : (ps : List Part) (i : ℕ) (rs : List Race) → length rs ≤ i �
 unfolding mix
 mix_end ps i rs h = mixed ps i rs h
 
--- ---- one race's part out of the arrays
+-- ---- one race's part out of the array
 
-pub no_part : (c : ℕ) (fs ls : List ℕ) (i : ℕ) (r : Race) → c ≤ i → placed_at (take c (paired fs ls)) i r ≡ r
-unfolding placed_at paired
-no_part zero fs ls i r h = refl
-no_part (suc c) fs ls zero r h = absurd (not-suc-le-zero h)
-no_part (suc c) [] ls (suc i) r h = refl
-no_part (suc c) (f ∷ fs) [] (suc i) r h = refl
-no_part (suc c) (f ∷ fs) (l ∷ ls) (suc i) r h = no_part c fs ls i r (le_of_suc-le-suc h)
+pub no_part : (c : ℕ) (ps : List Part) (i : ℕ) (r : Race) → c ≤ i → placed_at (take c ps) i r ≡ r
+unfolding placed_at
+no_part zero ps i r h = refl
+no_part (suc c) ps zero r h = absurd (not-suc-le-zero h)
+no_part (suc c) [] (suc i) r h = refl
+no_part (suc c) (p ∷ ps) (suc i) r h = no_part c ps i r (le_of_suc-le-suc h)
 
-pub no_place : (c : ℕ) (fs ls : List ℕ) (i : ℕ) (r : Race) → length fs ≤ i → placed_at (take c (paired fs ls)) i r ≡ r
-unfolding placed_at paired
-no_place zero fs ls i r h = refl
-no_place (suc c) [] ls i r h = refl
-no_place (suc c) (f ∷ fs) ls zero r h = absurd (not-suc-le-zero h)
-no_place (suc c) (f ∷ fs) [] (suc i) r h = refl
-no_place (suc c) (f ∷ fs) (l ∷ ls) (suc i) r h = no_place c fs ls i r (le_of_suc-le-suc h)
+pub no_place : (c : ℕ) (ps : List Part) (i : ℕ) (r : Race) → length ps ≤ i → placed_at (take c ps) i r ≡ r
+unfolding placed_at
+no_place zero ps i r h = refl
+no_place (suc c) [] i r h = refl
+no_place (suc c) (p ∷ ps) zero r h = absurd (not-suc-le-zero h)
+no_place (suc c) (p ∷ ps) (suc i) r h = no_place c ps i r (le_of_suc-le-suc h)
 
-pub one_part : (c : ℕ) (fs ls : List ℕ) (i : ℕ) (r : Race) → i < c → i < length fs → length ls ≡ length fs
-    → placed_at (take c (paired fs ls)) i r ≡ record { stake = r.stake; first = get_or fs i 0; length = get_or ls i 0 }
-unfolding placed_at paired with_part
-one_part zero fs ls i r h k e = absurd (not-suc-le-zero h)
-one_part (suc c) [] ls i r h k e = absurd (not-suc-le-zero k)
-one_part (suc c) (f ∷ fs) [] i r h k e = absurd (omega (arith, e))
-one_part (suc c) (f ∷ fs) (l ∷ ls) zero r h k e = refl
-one_part (suc c) (f ∷ fs) (l ∷ ls) (suc i) r h k e = one_part c fs ls i r (le_of_suc-le-suc h) (le_of_suc-le-suc k) (omega (arith, e))
+pub one_part : (c : ℕ) (ps : List Part) (i : ℕ) (r : Race) (none : Part) → i < c → i < length ps → placed_at (take c ps) i r ≡ with_part (get_or ps i none) r
+unfolding placed_at
+one_part zero ps i r none h k = absurd (not-suc-le-zero h)
+one_part (suc c) [] i r none h k = absurd (not-suc-le-zero k)
+one_part (suc c) (p ∷ ps) zero r none h k = refl
+one_part (suc c) (p ∷ ps) (suc i) r none h k = one_part c ps i r none (le_of_suc-le-suc h) (le_of_suc-le-suc k)
 
 -- ---- the same records as plain numbers
 

@@ -2,7 +2,7 @@
 -- Assumes nothing.
 use Rattle.std.specs.Prelude.{ℕ, zero, suc, ◌+◌, ◌*◌, cond, List, [], ◌∷◌, leb, get_or, set, replicate}
 use Rattle.division.specs.declared.Stakes.{Stakes}
-use Rattle.division.specs.Split.{Part}
+use Rattle.division.specs.declared.Part.{Part}
 use Rattle.races.specs.declared.Race.{Race}
 
 unfoldable pub stakes_of : List Race → List ℕ

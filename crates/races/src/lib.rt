@@ -4,10 +4,10 @@
 
 ghost use Rattle.std.specs.Prelude.{◌≡◌, [], ◌+◌, ◌*◌, ◌≤◌, length};
 ghost use Rattle.division.specs.Split.{refusal_after, parts_after};
-ghost use Rattle.division.specs.Eight.{kept, parts_in};
+ghost use Rattle.division.specs.Eight.{kept, laid};
 ghost use Rattle.races.specs.Races.{stakes_of, with_stake, placed_at, placed, stakes_in, put_at, parts_put};
 
-use division::{Parts, Stakes, divide};
+use division::{Parts, Stakes, divide, number_of};
 
 // A race's stake, which the caller sets, and its part of the list, which is written: the first place, from 0, and the length.
 #[repr(C)]
@@ -46,7 +46,7 @@ fn with_race(s: Stakes, r: Race) -> Stakes
 
 // Race i with its part, or as it was where there is none for it.
 fn with_part(p: Parts, i: usize, r: Race) -> Race
-    ensures { result ≡ placed_at (parts_in p) i r }
+    ensures { result ≡ placed_at (laid p) i r }
 {
     if p.count <= i {
         return r;
@@ -54,12 +54,12 @@ fn with_part(p: Parts, i: usize, r: Race) -> Race
     if 8 <= i {
         return r;
     }
-    let f = p.first;
-    let l = p.length;
+    let parts = p.parts;
+    let part = parts[i];
     Race {
         stake: r.stake,
-        first: f[i],
-        length: l[i],
+        first: part.first,
+        length: part.length,
     }
 }
 
@@ -67,21 +67,17 @@ fn stakes_of(races: &[Race]) -> Stakes
     ensures { result ≡ kept (stakes_of races.now) }
 {
     let mut s = no_stakes();
-    let mut i = 0;
-    while i < races.len() {
-        s = with_race(s, races[i]);
-        i += 1;
+    for r in races {
+        s = with_race(s, *r);
     }
     s
 }
 
 fn put_parts(races: &mut [Race], p: Parts)
-    ensures { races.new ≡ placed (parts_in p) races.old }
+    ensures { races.new ≡ placed (laid p) races.old }
 {
-    let mut i = 0;
-    while i < races.len() {
-        races[i] = with_part(p, i, races[i]);
-        i += 1;
+    for (i, r) in races.iter_mut().enumerate() {
+        *r = with_part(p, i, *r);
     }
 }
 
@@ -91,10 +87,13 @@ pub fn planner_share(races: &mut [Race], numbers: usize) -> u32
     ensures { (result ≡ refusal_after 0 (stakes_of races.old))
         × (races.new ≡ placed (parts_after 0 numbers (stakes_of races.old)) races.old) }
 {
-    let s = stakes_of(&*races);
-    let p = divide(0, s, numbers);
-    put_parts(races, p);
-    p.refusal
+    match divide(stakes_of(&*races), numbers) {
+        Ok(p) => {
+            put_parts(races, p);
+            0
+        }
+        Err(refusal) => number_of(refusal),
+    }
 }
 
 // The same records as plain numbers, three for each race.
@@ -103,10 +102,8 @@ pub fn stakes_in(races: &[usize]) -> Stakes
 {
     let count = races.len() / 3;
     let mut s = no_stakes();
-    let mut i = 0;
-    while i < count {
+    for i in 0..count {
         s = with_race(s, race_of(races[3 * i], 0, 0));
-        i += 1;
     }
     s
 }
@@ -124,7 +121,7 @@ fn race_of(stake: usize, first: usize, length: usize) -> Race
 // Writes one race's part, where there is one for it.
 fn put_part(races: &mut [usize], i: usize, p: Parts)
     requires { 3 * i + 3 ≤ length races.old }
-    ensures { races.new ≡ put_at (parts_in p) i races.old }
+    ensures { races.new ≡ put_at (laid p) i races.old }
 {
     let r = with_part(p, i, race_of(0, races[3 * i + 1], races[3 * i + 2]));
     races[3 * i + 1] = r.first;
@@ -132,12 +129,10 @@ fn put_part(races: &mut [usize], i: usize, p: Parts)
 }
 
 pub fn put_in(races: &mut [usize], p: Parts)
-    ensures { races.new ≡ parts_put (parts_in p) races.old }
+    ensures { races.new ≡ parts_put (laid p) races.old }
 {
     let count = races.len() / 3;
-    let mut i = 0;
-    while i < count {
+    for i in 0..count {
         put_part(races, i, p);
-        i += 1;
     }
 }

@@ -3,14 +3,13 @@
 use Prim.Native.Nat.{ℕ, ◌+◌, ◌≤◌}
 use native.Mathlib.Omega.{arith}
 use mathlib.Core.Path.{◌≡◌, refl, sym, ap, ◌∙◌, subst}
-use mathlib.Core.Bool.{Bool, true, false, not, cond}
+use mathlib.Core.Bool.{Bool, true, false, cond}
 use mathlib.Core.List.{List, [], ◌∷◌, ◌++◌, map, append-nil}
 use lib.ListN.{length, drop, length-append}
 use Rattle.plpb.specs.Lists.{keep, any, concat}
-use Rattle.plpb.specs.Plan.{Rule, Clause}
+use Rattle.plpb.specs.Plan.{Clause}
 use Rattle.words.specs.Words.{bytes_of}
 use Rattle.words.specs.Writes.{put}
-use Rattle.words.proofs.Words.{length_bytes_of}
 use Rattle.format.specs.File.{tag_at}
 use Rattle.format.specs.Writer.{field, rule_field, clause_fields}
 use Rattle.squeezed.specs.Squeezed.{Becomes, put_in, always, rules_left, remains, clauses_left}

@@ -8,7 +8,7 @@ use lib.ListN.{length, take, drop, set, length-append, take-append-drop}
 use lib.Seq.{drop-drop, drop_at, length-take-le, take-append-le, take-take}
 use Rattle.words.specs.Words.{num_at, bytes_of}
 use Rattle.words.specs.Writes.{front, put}
-use Rattle.words.proofs.Words.{length_bytes_of, num_at_drop}
+use Rattle.words.proofs.Words.{num_at_drop}
 use Rattle.words.proofs.Writes.{put_sets, put_put, length_put}
 
 -- One and two bytes stored.

@@ -1,35 +1,34 @@
 -- Rules and clauses rewritten one after the other: what is written does not reach past what was read.
 -- Assumes nothing.
-use Prim.Native.Nat.{ℕ, zero, suc, ◌+◌, ◌*◌, ◌-◌, ◌≤◌, ◌<◌}
+use Prim.Native.Nat.{ℕ, ◌+◌, ◌*◌, ◌-◌, ◌≤◌}
 use native.Mathlib.Nat.{le_refl}
 use native.Mathlib.Omega.{arith}
 use mathlib.Core.Path.{◌≡◌, refl, sym, ap, ap₂, ◌∙◌, subst}
-use mathlib.Core.Bool.{Bool, true, false, not, cond}
+use mathlib.Core.Bool.{Bool, true, false, cond}
 use mathlib.Core.List.{List, [], ◌∷◌, ◌++◌, map, append_assoc, append-nil}
-use lib.Dec.{eqb}
-use lib.IntN.{ℤ}
+use lib.IntN.{ℤ, pos}
+use Rattle.std.specs.Prelude.{Option, None, Some}
+use Rattle.std.specs.Option.{unwrap_or}
 use lib.ListN.{length, drop, length-append}
-use borrow.Author.Tests.{eq-eqb, ne_eqb}
-use Rattle.plpb.specs.Lists.{◌or◌, keep, any, concat, sum_by}
+use Rattle.plpb.specs.Lists.{keep, concat, sum_by}
 use Rattle.plpb.specs.Plan.{Rule, Clause}
 use Rattle.words.specs.Words.{bytes_of, unsigned}
 use Rattle.words.specs.Writes.{put}
 use Rattle.words.proofs.Words.{length_bytes_of}
-use Rattle.format.specs.File.{tag_at, length_at, terms_in, field_terms, rule_at}
-use Rattle.format.specs.Writer.{field, term_bytes, mode, bound_number, rule_field, clause_fields}
+use Rattle.format.specs.File.{tag_at, length_at, terms_in, rule_at}
+use Rattle.format.specs.Writer.{field, mode, bound_number, rule_field}
 use Rattle.format.proofs.Peel.{length_terms_at}
-use Rattle.format.proofs.Sizes.{terms_of, length_rules}
+use Rattle.format.proofs.Sizes.{length_rules}
 use Rattle.tables.specs.Places.{behind_field}
-use Rattle.squeezed.specs.Squeezed.{Becomes, terms_left, put_in, possible, always, trimmed, rules_left, remains, clauses_left}
+use Rattle.squeezed.specs.Squeezed.{Becomes, put_in, possible, trimmed, rules_left}
 use Rattle.squeezed.proofs.Lawful.{fewer_rules, rules_terms}
-use Rattle.fates.specs.Codes.{decoded}
-use Rattle.fates.specs.Rules.{mode_left, RuleFits}
+use Rattle.fates.specs.Rules.{as_bound, Fated, RuleFits}
+use Rattle.fates.specs.declared.bounds.Bounds.{Bounds}
 use Rattle.fates.specs.Rest.{Rest}
 use Rattle.fates.proofs.Judging.{rule_terms}
-use Rattle.fates.proofs.Running.{possible_mode}
-use Rattle.fates.proofs.Resting.{rest_rule, rest_none, no_rules, rest_room}
-use Rattle.rewriting.specs.Written.{terms_written, rules_written, clauses_written}
-use Rattle.rewriting.specs.Moved.{Laid, RulesMoved, ClauseMoved, ClausesMoved}
+use Rattle.fates.proofs.Resting.{rest_rule, rest_none, no_rules}
+use Rattle.rewriting.specs.Written.{terms_written, rules_written}
+use Rattle.rewriting.specs.Moved.{Laid, RulesMoved}
 use Rattle.rewriting.proofs.Putting.{put_before, drop_put, put_none, Laying, laying_start, laying_more, laying_done}
 
 -- Nothing written; and the same by another name.
@@ -77,32 +76,28 @@ module _ (s : List ℕ) (to m lo up : ℕ) (ts : List ℕ) where
       let f = front_long size in
       (put_before s to (front size) ts (omega arith) (omega arith) p e ∙ ap (λ bs. put to bs s) is, omega (arith, ap length is, length-append (front size) ts))
 
-pub rule_laid_as : (s : List ℕ) (to m lo up : ℕ) (ts : List ℕ) {l u : ℕ} {ts' x y : List ℕ} {size end : ℕ} → lo ≡ l → up ≡ u → ts ≡ ts'
+pub rule_laid_as : (s : List ℕ) (to m lo up : ℕ) (ts : List ℕ) {k l u : ℕ} {ts' x y : List ℕ} {size end : ℕ} → m ≡ k → lo ≡ l → up ≡ u → ts ≡ ts'
     → to + 12 ≤ length s → x ≡ put (to + 12) ts s → end ≡ to + 12 + length ts → size ≡ end - to - 3
     → y ≡ put to (4 ∷ (bytes_of 2 size ++ (m ∷ []) ++ (bytes_of 4 lo ++ bytes_of 4 up))) x
-    → Laid s to (field 4 (m ∷ (bytes_of 4 l ++ (bytes_of 4 u ++ ts')))) y end
-rule_laid_as s to m lo up ts {y = y} {end = end} a b c h p q r e =
+    → Laid s to (field 4 (k ∷ (bytes_of 4 l ++ (bytes_of 4 u ++ ts')))) y end
+rule_laid_as s to m lo up ts {y = y} {end = end} d a b c h p q r e =
     let is = ap₂ (λ x z. bytes_of 4 x ++ z) a (ap₂ (λ x z. bytes_of 4 x ++ z) b c) in
-    subst (λ x. Laid s to (field 4 (m ∷ x)) y end) is (rule_laid s to m lo up ts h p q r e)
+    subst (λ x. Laid s to (field 4 x) y end) (ap₂ (λ x z. x ∷ z) d is) (rule_laid s to m lo up ts h p q r e)
 
--- What is left of it, by its mode.
+-- "an absent bound is written 0"
+pub bound_written : (o : Option ℤ) → unwrap_or o (pos 0) ≡ bound_number (as_bound o)
+unfolding bound_number as_bound
+bound_written None = refl
+bound_written (Some b) = refl
+
+-- What is left of it, by what is left of its bounds.
 module _ (f : ℕ → Becomes) (r : Rule) where
   abbrev r' : Rule
   r' = put_in f r
 
-  gone_by : (t : Bool) → possible r' ≡ t → t ≡ false → rules_written f (r ∷ []) ≡ []
-  unfolding rules_written rules_left keep concat
-  gone_by t e h = rw (e ∙ h)
-
-  pub rule_gone : {m : ℕ} → m ≡ mode_left r' → m ≡ 4 → rules_written f (r ∷ []) ≡ []
-  rule_gone {m} d e = gone_by (possible r') refl (sym (possible_mode r') ∙ ap (λ x. not (eqb x 4)) (sym d ∙ e))
-
-  stays_possible : {m : ℕ} → m ≡ mode_left r' → (m ≡ 4 → ⊥) → possible r' ≡ true
-  stays_possible {m} d n = sym (possible_mode r') ∙ ap not (ap (λ x. eqb x 4) (sym d) ∙ ne_eqb m 4 n)
-
-  mode_stays : possible r' ≡ true → mode_left r' ≡ mode (trimmed r').lower (trimmed r').upper
-  unfolding mode_left
-  mode_stays h = rw h
+  pub rule_gone : Fated None r' → rules_written f (r ∷ []) ≡ []
+  unfolding Fated rules_written rules_left keep concat
+  rule_gone e = rw e
 
   one_left : possible r' ≡ true → rule_field (trimmed r') ≡ rules_written f (r ∷ [])
   unfolding rules_written rules_left keep concat
@@ -115,11 +110,13 @@ module _ (f : ℕ → Becomes) (r : Rule) where
   unfolding rule_field terms_written trimmed put_in
   is_field = refl
 
-  pub rule_stays : {m : ℕ} {lo up : ℤ} → m ≡ mode_left r' → (m ≡ 4 → ⊥) → lo ≡ bound_number (trimmed r').lower → up ≡ bound_number (trimmed r').upper
-      → field 4 (m ∷ (bytes_of 4 (unsigned lo) ++ (bytes_of 4 (unsigned up) ++ terms_written f r.terms))) ≡ rules_written f (r ∷ [])
-  rule_stays {m} {lo} {up} d n p q =
-      let h = stays_possible d n in
-      ap (λ x. as_rule x lo up) (d ∙ mode_stays h) ∙ ap₂ (as_rule (mode (trimmed r').lower (trimmed r').upper)) p q ∙ is_field ∙ one_left h
+  pub rule_stays : (b : Bounds) → Fated (Some b) r'
+      → field 4
+      (mode (as_bound b.lower) (as_bound b.upper)
+      ∷ (bytes_of 4 (unsigned (bound_number (as_bound b.lower))) ++ (bytes_of 4 (unsigned (bound_number (as_bound b.upper))) ++ terms_written f r.terms)))
+      ≡ rules_written f (r ∷ [])
+  unfolding Fated
+  rule_stays b e = rw (e.1, e.2) (is_field ∙ one_left e.0)
 
   pub rule_short : length (rules_written f (r ∷ [])) ≤ 12 + 6 * length r.terms
   unfolding rules_written sum_by

@@ -1,17 +1,17 @@
 -- Terms rewritten one after the other: what is written does not reach past what was read.
 -- Assumes nothing.
-use Prim.Native.Nat.{ℕ, zero, suc, ◌+◌, ◌*◌, ◌-◌, ◌≤◌, ◌<◌}
+use Prim.Native.Nat.{ℕ, suc, ◌+◌, ◌*◌, ◌-◌, ◌≤◌, ◌<◌}
 use native.Mathlib.Nat.{add-zero}
 use native.Mathlib.Omega.{arith}
-use mathlib.Core.Path.{◌≡◌, refl, sym, ap, ap₂, ◌∙◌}
-use mathlib.Core.Bool.{Bool, true, false}
-use mathlib.Core.List.{List, [], ◌∷◌, ◌++◌, map, append_assoc, append-nil}
+use mathlib.Core.Path.{◌≡◌, refl, sym, ap, ◌∙◌}
+use mathlib.Core.Bool.{Bool, true}
+use mathlib.Core.List.{List, [], ◌∷◌, ◌++◌, map, append-nil}
 use lib.IntN.{ℤ}
 use lib.ListN.{length, drop, length-append}
 use lib.Seq.{drop-drop}
 use Rattle.plpb.specs.Lists.{all, concat}
 use Rattle.plpb.specs.Plan.{Term}
-use Rattle.words.specs.Words.{num_at, word_at, bytes_of, signed, unsigned}
+use Rattle.words.specs.Words.{num_at, word_at, bytes_of, signed}
 use Rattle.words.specs.Writes.{put}
 use Rattle.words.proofs.Words.{length_bytes_of, unsigned_signed}
 use Rattle.format.specs.File.{term_at, terms_at}
@@ -22,7 +22,7 @@ use Rattle.squeezed.specs.Squeezed.{Becomes, locked, renumbered, stays, terms_le
 use Rattle.squeezed.proofs.Lawful.{fewer_terms}
 use Rattle.fates.specs.Codes.{decode, decoded}
 use Rattle.fates.specs.Sums.{small_terms}
-use Rattle.fates.proofs.Parts.{decode_other, Small, small_at}
+use Rattle.fates.proofs.Parts.{small_at}
 use Rattle.rewriting.specs.Written.{terms_written}
 use Rattle.rewriting.proofs.Putting.{drop_put, same_num, put_none, Laying, laying_start, laying_more, laying_done}
 
@@ -79,8 +79,8 @@ module _ (s₀ map : List ℕ) (from count to : ℕ) where
     pub ahead : drop at s ≡ drop at s₀
     pub laying : Laying s₀ to (terms_written f (terms_at s₀ from count)) s end (terms_written f (terms_at s₀ at left))
 
-  pub keeping_none : small_terms (terms_at s₀ from count) ≡ true → to ≤ from → Keeping s₀ from count to
-  keeping_none h l = record { place = refl; behind = l; small = h; ahead = refl; laying = laying_start s₀ to _ }
+  pub keeping_none : {at left : ℕ} → at ≡ from → left ≡ count → small_terms (terms_at s₀ from count) ≡ true → to ≤ from → Keeping s₀ at left to
+  keeping_none a n h l = rw (a, n) (record { place = refl; behind = l; small = h; ahead = refl; laying = laying_start s₀ to _ })
 
 -- A term is read as it stood.
 same_term : (s t : List ℕ) (at : ℕ) → drop at s ≡ drop at t → term_at s at ≡ term_at t at
@@ -122,11 +122,12 @@ module _ (s₀ map : List ℕ) (from count to : ℕ) (room : from + 6 * count �
   short : length first ≤ 6
   short = omega (arith, length_written (decoded map) (term_at s at ∷ []))
 
-  pub keeping_more : {t : List ℕ} {to' : ℕ} → t ≡ put end (terms_written (decoded map) (term_at s at ∷ [])) s
-      → to' ≡ end + length (terms_written (decoded map) (term_at s at ∷ [])) → Keeping s₀ map from count to t (at + 6) (left - 1) to'
-  keeping_more {t} {to'} e l =
+  pub keeping_more : {at' left' : ℕ} → at' ≡ at + 6 → left' ≡ left - 1 → {t : List ℕ} {to' : ℕ} → t ≡ put end (terms_written (decoded map) (term_at s at ∷ [])) s
+      → to' ≡ end + length (terms_written (decoded map) (term_at s at ∷ [])) → Keeping s₀ map from count to t at' left' to'
+  keeping_more a n {t} {to'} e l =
       let fits : end + length first ≤ length s = omega (arith, short, k.behind, keeping_room) in
-      record {
+      rw (a, n)
+      (record {
         place = omega (arith, k.place);
         behind = omega (arith, short, k.behind);
         small = small_rest;
@@ -134,7 +135,7 @@ module _ (s₀ map : List ℕ) (from count to : ℕ) (room : from + 6 * count �
             ap (drop (at + 6)) e ∙ drop_put (at + 6) end first s (omega arith) (omega (arith, short, k.behind))
             ∙ sym (drop-drop 6 at s) ∙ ap (drop 6) k.ahead ∙ drop-drop 6 at s₀;
         laying = laying_more first rest k.laying (sym all_written) fits e l;
-      }
+      })
 
 pub keeping_all : (s₀ map : List ℕ) (from count to : ℕ) (s : List ℕ) (at left end : ℕ) → left ≤ 0 → Keeping s₀ map from count to s at left end
     → (s ≡ put to (terms_written (decoded map) (terms_at s₀ from count)) s₀) × (end ≡ to + length (terms_written (decoded map) (terms_at s₀ from count)))

@@ -3,22 +3,43 @@ ghost use Rattle.std.specs.Prelude.{◌≡◌, List, [], ◌∷◌, ◌++◌, �
 ghost use Rattle.plpb.specs.Plan.{Clause};
 ghost use Rattle.words.specs.Words.{bytes_of, unsigned};
 ghost use Rattle.format.specs.File.{field_terms, rule_at};
-ghost use Rattle.format.specs.Writer.{field};
+ghost use Rattle.format.specs.Writer.{field, mode, bound_number};
 ghost use Rattle.fates.specs.Codes.{decoded, map_size};
-ghost use Rattle.fates.specs.Rules.{RuleFits};
+ghost use Rattle.fates.specs.Rules.{as_bound, RuleFits};
 ghost use Rattle.fates.specs.Rest.{Rest, Reads, Begins};
 ghost use Rattle.rewriting.specs.Written.{terms_written, rules_written};
 ghost use Rattle.rewriting.specs.Moved.{Laid, RulesMoved, ClauseMoved, ClausesMoved};
 
 use crate::{fields, terms};
-use fates::bounds::Fate;
+use fates::bounds::Bounds;
 use fates::{clause, rule};
 
-// Writes a rule with the terms that are left of another at a place; it answers the place behind.
-fn put_rule(file: &mut [u8], at: usize, map: &[u8], to: usize, fate: Fate) -> usize
+// "Mode 1 is lower only, 2 upper only, 3 both"
+fn mode(left: Bounds) -> u8
+    ensures { result ≡ mode (as_bound left.lower) (as_bound left.upper) }
+{
+    match (left.lower, left.upper) {
+        (None, None) => 0,
+        (Some(_), None) => 1,
+        (None, Some(_)) => 2,
+        (Some(_), Some(_)) => 3,
+    }
+}
+
+// "an absent bound is written 0"
+fn number(bound: Option<i32>) -> u32
+    ensures { result ≡ unsigned (bound_number (as_bound bound)) }
+{
+    words::to_unsigned(bound.unwrap_or(0))
+}
+
+// Writes a rule with the bounds and terms that are left of another at a place; it answers the place behind.
+fn put_rule(file: &mut [u8], at: usize, map: &[u8], to: usize, left: Bounds) -> usize
     requires { RuleFits file.old at × (to ≤ at) × (map_size ≤ length map.now) }
     ensures { Laid file.old to
-        (field 4 (fate.mode ∷ (bytes_of 4 (unsigned fate.lower) ++ (bytes_of 4 (unsigned fate.upper)
+        (field 4 (mode (as_bound left.lower) (as_bound left.upper)
+        ∷ (bytes_of 4 (unsigned (bound_number (as_bound left.lower)))
+        ++ (bytes_of 4 (unsigned (bound_number (as_bound left.upper)))
         ++ terms_written (decoded map.now) (field_terms file.old at)))))
         file.new result }
 {
@@ -29,9 +50,9 @@ fn put_rule(file: &mut [u8], at: usize, map: &[u8], to: usize, fate: Fate) -> us
         file,
         to,
         size,
-        fate.mode,
-        words::to_unsigned(fate.lower),
-        words::to_unsigned(fate.upper),
+        mode(left),
+        number(left.lower),
+        number(left.upper),
     );
     end
 }
@@ -42,11 +63,10 @@ fn keep_rule(file: &mut [u8], at: usize, map: &[u8], to: usize) -> usize
     ensures { Laid file.old to (rules_written (decoded map.now) (rule_at file.old at ∷ []))
         file.new result }
 {
-    let fate = rule::fate(file, at, map);
-    if fate.mode == 4 {
-        return to;
+    match rule::fate(file, at, map) {
+        None => to,
+        Some(left) => put_rule(file, at, map, to, left),
     }
-    put_rule(file, at, map, to, fate)
 }
 
 // Where reading and writing are.

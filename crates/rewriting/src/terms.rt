@@ -35,13 +35,9 @@ pub fn keep_terms(file: &mut [u8], from: usize, count: usize, map: &[u8], to: us
     ensures { (file.new ≡ put to (terms_written (decoded map.now) (terms_at file.old from count)) file.old)
         × (result ≡ to + length (terms_written (decoded map.now) (terms_at file.old from count))) }
 {
-    let mut at = from;
-    let mut left = count;
     let mut end = to;
-    while 0 < left {
-        end = keep_term(file, at, map, end);
-        at += 6;
-        left -= 1;
+    for i in 0..count {
+        end = keep_term(file, from + 6 * i, map, end);
     }
     end
 }

@@ -1,25 +1,24 @@
 -- What stands in an accepted file: its objective, and its clauses where they begin. The file is the one written of its plan, or that one with an empty
 -- field of locks.
 -- Assumes nothing.
-use Prim.Native.Nat.{ℕ, ◌+◌, ◌*◌, ◌/◌, ◌≤◌, ◌<◌, zero-le}
+use Prim.Native.Nat.{ℕ, ◌+◌, ◌/◌, ◌≤◌, ◌<◌, zero-le}
 use native.Mathlib.Omega.{arith}
 use mathlib.Core.Path.{◌≡◌, refl, sym, ap, ◌∙◌, subst}
 use mathlib.Core.Bool.{Bool, true, false, cond}
 use mathlib.Core.Logic.{◌⊎◌, inl, inr, ⊎_elim}
-use mathlib.Core.List.{List, [], ◌∷◌, ◌++◌, map, append_assoc}
-use lib.Dec.{T, eqb}
+use mathlib.Core.List.{List, [], ◌∷◌, ◌++◌, map}
+use lib.Dec.{eqb}
 use lib.ListN.{length, drop, length-append, length-map}
-use borrow.Author.Tests.{eq-eqb, ne_eqb, le-leb, leb-true}
-use Rattle.plpb.specs.Lists.{◌and◌, all, concat}
-use Rattle.plpb.specs.Plan.{Term, Clause, Lock, Plan, rising}
-use Rattle.words.specs.Words.{bytes_of}
+use borrow.Author.Tests.{ne_eqb}
+use Rattle.plpb.specs.Lists.{all, concat}
+use Rattle.plpb.specs.Plan.{Lock, Plan, rising}
+use Rattle.words.specs.Words.{bytes_of, num_at}
 use Rattle.words.specs.Writes.{put}
 use Rattle.words.proofs.Words.{Below, below_bytes, length_bytes_of}
 use Rattle.format.specs.Limits.{lock_term, lock_terms}
 use Rattle.format.specs.File.{accepted, read, tag_at, length_at, terms_at}
 use Rattle.format.specs.Writer.{field, term_bytes, clause_fields, lock_bytes, lock_field, file_with, write}
-use Rattle.format.proofs.Bools.{and_left, and_right, and_join}
-use Rattle.format.proofs.Lawful.{term_within, LawfulPlan, plan_parts, terms_short, clause_lawful}
+use Rattle.format.proofs.Lawful.{LawfulPlan, plan_parts, terms_short, clause_lawful}
 use Rattle.format.proofs.Places.{place_tag, place_length, place_rest, length_field}
 use Rattle.format.proofs.WrittenRule.{length_terms}
 use Rattle.format.proofs.LockField.{length_locks}
@@ -115,6 +114,10 @@ module _ (s : List ℕ) (p : Plan) (bytes : Below 256 s) (e : read s ≡ accepte
   pub first_rest : Rest p.variables s (first_clause s) [] p.clauses
   first_rest = first_by parts.0 at_locks_lem parts.2
 
+  -- .. at the place that the code found.
+  pub clauses_at : {first : ℕ} → first ≡ first_clause s → Rest p.variables s first [] p.clauses
+  clauses_at is = subst (λ k. Rest p.variables s k [] p.clauses) (sym is) first_rest
+
   -- The objective: its terms are small, and they are there.
   pub objective_is : terms_at s 8 (length_at s 5 / 6) ≡ p.objective
   objective_is = sym (begun_file s p e).objective
@@ -144,3 +147,8 @@ module _ (s : List ℕ) (p : Plan) (bytes : Below 256 s) (e : read s ≡ accepte
 
   pub front_fits : (f : ℕ → Becomes) (v : ℕ) → length (front_bytes f v p) ≤ length s
   front_fits f v = omega (arith, front_short f v, rest_room first_rest)
+
+-- How many terms the objective has, as the code reads it.
+pub count_is : (s : List ℕ) {n : ℕ} → n ≡ num_at 2 s 6 → n / 6 ≡ length_at s 5 / 6
+unfolding length_at
+count_is s e = ap (λ k. k / 6) e

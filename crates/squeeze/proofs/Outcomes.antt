@@ -1,28 +1,26 @@
 -- What the code works out by the map is the outcome by the plan, case by case of the order of checks.
 -- Assumes nothing.
-use Prim.Native.Nat.{ℕ, zero, suc, ◌+◌, ◌*◌, ◌-◌, ◌≤◌, ◌<◌}
-use native.Mathlib.Nat.{le_refl}
+use Prim.Native.Nat.{ℕ, suc, ◌+◌, ◌-◌, ◌≤◌, ◌<◌}
 use native.Mathlib.Omega.{arith}
 use mathlib.Core.Path.{◌≡◌, refl, sym, ap, ap₂, ◌∙◌, subst}
 use mathlib.Core.Bool.{Bool, true, false, not, cond}
-use mathlib.Core.List.{List, [], ◌∷◌, ◌++◌, map, append_assoc, append-nil}
-use lib.Dec.{eqb, ltb}
-use lib.IntN.{ℤ, pos}
-use lib.ListN.{length, take, drop, replicate, length-append, length-replicate, length-take}
-use lib.Seq.{drop-drop}
-use borrow.Author.Tests.{eq-eqb, ne_eqb, lt-ltb, le-ltb, not-false}
-use Rattle.plpb.specs.Lists.{◌and◌, keep, count, any, is_empty, concat, row}
-use Rattle.plpb.specs.Plan.{Bound, absent, present, Plan, is_variable, lock_of, is_locked, is_present}
+use mathlib.Core.List.{List, [], ◌∷◌, ◌++◌, append_assoc}
+use lib.Dec.{eqb}
+use lib.IntN.{pos}
+use Rattle.std.specs.Prelude.{Option, None, Some}
+use lib.ListN.{length, drop, replicate, length-append, length-replicate}
+use borrow.Author.Tests.{ne_eqb, lt-ltb, le-ltb}
+use Rattle.plpb.specs.Lists.{◌and◌, keep, count, any, is_empty, row}
+use Rattle.plpb.specs.Plan.{Bound, absent, present, Plan, lock_of, is_locked, is_present}
 use Rattle.plpb.proofs.Lists.{count_le, length_row}
 use Rattle.words.specs.Words.{bytes_of, word_at, word_bytes}
 use Rattle.words.specs.Writes.{front}
 use Rattle.words.proofs.Words.{length_word_bytes}
 use Rattle.format.specs.Tables.{pad_with, pad_to}
 use Rattle.format.specs.File.{Reading, refused, accepted, read}
-use Rattle.format.specs.Writer.{field, term_bytes, clause_fields, lock_field, file_with, write}
+use Rattle.format.specs.Writer.{field, lock_field, file_with, write}
 use Rattle.verdict.specs.Answers as Judged
-use Rattle.verdict.specs.declared.Answer.{Answer}
-use Rattle.verdict.specs.declared.Answer.TheVariants.{Accepted, Refused}
+use Rattle.verdict.specs.Answers.{Answer, Refused}
 use Rattle.tables.specs.Places.{plan_of_file}
 use Rattle.squeezed.specs.Squeezed.{Becomes, locked, renumbered, is_unlocked, unlocked, new_number, under_lock, becomes, given_total, clauses_left, squeezed, constant, all_locked, clause_lost}
 use Rattle.squeezed.proofs.Numbers.{in_range_lem}
@@ -31,7 +29,9 @@ use Rattle.numbering.specs.Numbered.{is_number}
 use Rattle.numbering.proofs.Filling.{same_keep}
 use Rattle.rewriting.specs.Written.{terms_written, clauses_written}
 use Rattle.squeeze.specs.declared.Squeezed.{Squeezed}
-use Rattle.squeeze.specs.Calls.{Outcome, Answers, turned_away, rewritten, squeezing, by_reading, outcome}
+use Rattle.squeeze.specs.declared.Unfit.{Unfit}
+use Rattle.squeeze.specs.declared.Unfit.TheVariants.{AllLocked, ClauseLost}
+use Rattle.squeeze.specs.Calls.{Outcome, Answers, fault_number, turned_away, rewritten, squeezing, by_reading, outcome}
 use Rattle.squeeze.specs.Rewritten.{front_bytes, file_bytes}
 
 -- ---- the list
@@ -134,6 +134,16 @@ module _ (p : Plan) (m : List ℕ) (says : (x : ℕ) → decoded m x ≡ becomes
     pub through : (file old : List ℕ) → k ≡ 0 → squeezing p file old ≡ rewritten p file old
     unfolding squeezing
     through file old z = through_by (all_locked p) (clause_lost p) file old fault_is z
+
+-- A fault has a number.
+pub no_fault : (f : Unfit) → fault_number (Some f) ≡ 0 → ⊥
+unfolding fault_number
+no_fault AllLocked e = omega (arith, e)
+no_fault ClauseLost e = omega (arith, e)
+
+pub none_is_0 : {o : Option Unfit} → o ≡ None → fault_number o ≡ 0
+unfolding fault_number
+none_is_0 e = rw e
 
 -- ---- the answer and the bytes
 

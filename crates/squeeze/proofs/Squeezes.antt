@@ -2,9 +2,9 @@
 -- Assumes nothing.
 use Prim.Native.Nat.{ℕ, ◌-◌}
 use native.Mathlib.Omega.{arith}
-use mathlib.Core.Path.{◌≡◌, refl, sym, ap, ap₂, ◌∙◌, subst}
+use mathlib.Core.Path.{◌≡◌, refl, sym, ap, ◌∙◌, subst}
 use mathlib.Core.Bool.{Bool, true, false, cond}
-use mathlib.Core.List.{List, ◌++◌}
+use mathlib.Core.List.{List}
 use lib.Dec.{T, ltb}
 use lib.ListN.{length, take, drop, replicate}
 use lib.Seq.{take-append_seam, drop-append_seam}
@@ -12,7 +12,7 @@ use Rattle.plpb.specs.Plan.{Plan}
 use Rattle.format.specs.File.{Reading, refused, accepted, read}
 use Rattle.format.specs.Limits.{lawful}
 use Rattle.format.specs.Writer.{write}
-use Rattle.format.specs.Tables.{pad_with, pad_to}
+use Rattle.format.specs.Tables.{pad_with}
 use Rattle.format.proofs.RoundTrip.{read_write}
 use Rattle.format.proofs.Accepted.{accepted_lawful}
 use Rattle.squeezed.specs.Squeezed.{squeezed, all_locked, clause_lost}

@@ -1,13 +1,12 @@
 -- A file rewritten whole: its front, its clauses and its end, each joined to what was written before.
 -- Assumes nothing.
-use Prim.Native.Nat.{ℕ, ◌+◌, ◌*◌, ◌-◌, ◌/◌, ◌≤◌, ◌<◌, zero-le}
-use native.Mathlib.Nat.{add-zero, zero-add}
+use Prim.Native.Nat.{ℕ, ◌+◌, ◌-◌, ◌≤◌}
 use native.Mathlib.Omega.{arith}
-use mathlib.Core.Path.{◌≡◌, refl, sym, ap, ap₂, ◌∙◌}
+use mathlib.Core.Path.{◌≡◌, sym, ap, ◌∙◌}
 use mathlib.Core.List.{List, [], ◌∷◌, ◌++◌, append_assoc}
-use lib.ListN.{length, drop, replicate, length-append, length-replicate}
+use lib.ListN.{length, replicate, length-append, length-replicate}
 use borrow.Rule.Slice.PartMut.{mid_of, put_mid}
-use Rattle.plpb.specs.Plan.{Plan, Clause}
+use Rattle.plpb.specs.Plan.{Plan}
 use Rattle.words.specs.Words.{bytes_of}
 use Rattle.words.specs.Writes.{put}
 use Rattle.words.proofs.Words.{length_bytes_of}
@@ -15,10 +14,9 @@ use Rattle.words.proofs.Writes.{length_put, lent_clear, front_whole}
 use Rattle.format.specs.Writer.{field}
 use Rattle.format.specs.Tables.{pad_with, pad_to}
 use Rattle.format.proofs.Places.{length_field}
-use Rattle.format.proofs.WrittenRule.{length_terms}
-use Rattle.squeezed.specs.Squeezed.{Becomes, terms_left}
-use Rattle.rewriting.specs.Written.{terms_written, clauses_written}
-use Rattle.rewriting.proofs.Putting.{put_on, put_before, drop_put}
+use Rattle.squeezed.specs.Squeezed.{Becomes}
+use Rattle.rewriting.specs.Written.{clauses_written}
+use Rattle.rewriting.proofs.Putting.{put_on, put_before}
 use Rattle.rewriting.proofs.Clausewise.{head_put, head_long}
 use Rattle.squeeze.specs.Rewritten.{front_bytes, file_bytes}
 

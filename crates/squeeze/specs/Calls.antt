@@ -1,6 +1,6 @@
 -- What a squeeze answers, and what it leaves in the two buffers, for every file and every length of the list (document 02, T-12).
 -- Assumes nothing.
-use Rattle.std.specs.Prelude.{ℕ, ◌-◌, ◌≡◌, cond, List, ltb, ℤ, pos, length, take, drop, replicate}
+use Rattle.std.specs.Prelude.{ℕ, ◌-◌, ◌≡◌, cond, List, Option, None, Some, ltb, ℤ, pos, length, take, drop, replicate}
 use Rattle.plpb.specs.Plan.{Plan}
 use Rattle.words.specs.Words.{word_bytes}
 use Rattle.words.specs.Writes.{front}
@@ -8,6 +8,8 @@ use Rattle.format.specs.File.{Reading, refused, accepted, read}
 use Rattle.format.specs.Writer.{write}
 use Rattle.format.specs.Tables.{pad_to}
 use Rattle.squeeze.specs.declared.Squeezed.{Squeezed}
+use Rattle.squeeze.specs.declared.Unfit.{Unfit}
+use Rattle.squeeze.specs.declared.Unfit.TheVariants.{AllLocked, ClauseLost}
 use Rattle.squeezed.specs.Squeezed.{unlocked, squeezed, constant, all_locked, clause_lost}
 
 -- "21 for a list below 512 places", a word each.
@@ -47,6 +49,12 @@ rewritten p file old =
 unfoldable pub squeezing : Plan → List ℕ → List ℕ → Outcome
 squeezing p file old =
     cond (all_locked p) (turned_away 71 0 file old) (cond (clause_lost p) (turned_away 72 0 file old) (rewritten p file old))
+
+-- The number of such a fault, 0 where there is none.
+unfoldable pub fault_number : Option Unfit → ℕ
+fault_number None = 0
+fault_number (Some AllLocked) = 71
+fault_number (Some ClauseLost) = 72
 
 unfoldable pub by_reading : Reading Plan → List ℕ → List ℕ → Outcome
 by_reading (refused number offset) file old = turned_away number offset file old

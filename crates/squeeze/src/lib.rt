@@ -1,7 +1,7 @@
 // A plan file squeezed in its own buffer (document 02, T-12). All is decided on the untouched file; then list and file are written.
 #![tactic(auto)]
 
-ghost use Rattle.std.specs.Prelude.{◌≡◌, cond, ◌≤◌, eqb, pos, length};
+ghost use Rattle.std.specs.Prelude.{◌≡◌, Some, cond, ◌≤◌, eqb, pos, length};
 ghost use Rattle.plpb.specs.Lists.{any, is_empty, keep, row};
 ghost use Rattle.words.specs.Words.{word_at, word_bytes};
 ghost use Rattle.words.specs.Writes.{front};
@@ -11,12 +11,12 @@ ghost use Rattle.tables.specs.Places.{Accepts, plan_of_file};
 ghost use Rattle.squeezed.specs.Squeezed.{given_total, clauses_left};
 ghost use Rattle.fates.specs.Codes.{decoded, map_size};
 ghost use Rattle.numbering.specs.Numbered.{is_number};
-ghost use Rattle.squeeze.specs.Calls.{list_size, Answers, squeezing, outcome};
+ghost use Rattle.squeeze.specs.Calls.{list_size, Answers, fault_number, squeezing, outcome};
 ghost use Rattle.squeeze.specs.Rewritten.{file_bytes};
 
 use fates::sums::Part;
 use fates::{clause, sums};
-use verdict::Answer;
+use verdict::Refusal;
 
 mod rewrite;
 
@@ -24,6 +24,7 @@ mod rewrite;
 pub const LIST: usize = 4 * format::MAX_VARIABLES;
 
 // A refusal's number and offset, or the new length and "the objective's constant".
+// It stays a record with a number 0 for no refusal, because the C interface hands it out as it is.
 #[repr(C)]
 #[derive(Clone, Copy)]
 pub struct Squeezed {
@@ -44,35 +45,44 @@ fn refused(refusal: u32, offset: usize) -> Squeezed
     }
 }
 
-fn refused_by(verdict: Answer) -> Squeezed
+fn refused_by(verdict: Result<(), Refusal>) -> Squeezed
     ensures { (result.refusal ≡ refusal_of verdict) × (result.offset ≡ offset_of verdict) × (result.length ≡ 0) × (result.constant ≡ pos 0) }
 {
     match verdict {
-        Answer::Accepted => refused(0, 0),
-        Answer::Refused(number, offset) => refused(number, offset),
+        Ok(()) => refused(0, 0),
+        Err(refusal) => refused(refusal.number, refusal.offset),
     }
 }
 
 // "71 if every variable is locked, then 72 if a clause lost all rules"
-fn fault(file: &[u8], map: &[u8], variables: u32) -> u32
+#[derive(Clone, Copy, PartialEq, Eq)]
+enum Unfit {
+    AllLocked,
+    ClauseLost,
+}
+
+fn number_of(fault: Unfit) -> u32
+    ensures { result ≡ fault_number (Some fault) }
+{
+    match fault {
+        Unfit::AllLocked => 71,
+        Unfit::ClauseLost => 72,
+    }
+}
+
+fn fault(file: &[u8], map: &[u8], variables: u32) -> Option<Unfit>
     requires accepts { Accepts file.now }
     requires map_size_in_bounds { map_size ≤ length map.now }
-    ensures { result ≡ cond (eqb variables 0) 71
+    ensures { fault_number result ≡ cond (eqb variables 0) 71
         (cond (any is_empty (clauses_left (decoded map.now) (plan_of_file file.now).clauses)) 72 0) }
 {
     if variables == 0 {
-        return 71;
+        return Some(Unfit::AllLocked);
     }
     if clause::lost(file, tables::fields::first_clause(file), map) {
-        return 72;
+        return Some(Unfit::ClauseLost);
     }
-    0
-}
-
-fn wide(v: i32) -> i64
-    ensures { result ≡ v }
-{
-    v as i64
+    None
 }
 
 // "the objective's constant"
@@ -82,7 +92,7 @@ fn constant(file: &[u8], map: &[u8]) -> i64
     ensures { result ≡ given_total (decoded map.now) (plan_of_file file.now).objective }
 {
     let count = words::read_size(file, 6) / 6;
-    wide(sums::sum(file, 8, count, map, Part::Given))
+    i64::from(sums::sum(file, 8, count, map, Part::Given))
 }
 
 // Carries a squeeze out.
@@ -117,11 +127,10 @@ fn squeeze_by(file: &mut [u8], map: &mut [u8], old: &mut [u8]) -> Squeezed
     ensures after { old.new ≡ (squeezing (plan_of_file file.old) file.old old.old).old }
 {
     let variables = numbering::fill(file, map);
-    let fault = fault(file, map, variables);
-    if fault != 0 {
-        return refused(fault, 0);
+    match fault(file, map, variables) {
+        Some(fault) => refused(number_of(fault), 0),
+        None => carry_out(file, map, variables, old),
     }
-    carry_out(file, map, variables, old)
 }
 
 // "Turned away, with nothing changed: 21 for a list below 512 places, the file's own, then 71 [..], then 72".
@@ -134,7 +143,7 @@ pub fn squeeze(file: &mut [u8], old: &mut [u8]) -> Squeezed
         return refused(21, 0);
     }
     let verdict = judge::judge(file);
-    let Answer::Accepted = verdict else {
+    let Ok(()) = verdict else {
         return refused_by(verdict);
     };
     let mut map = [0u8; fates::MAP];

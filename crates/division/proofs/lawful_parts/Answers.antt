@@ -14,11 +14,11 @@ pub overflow_sub-numbers : goal.overflow_sub-numbers
 overflow_sub-numbers c =
     omega (arith, fits_in c.args.numbers c.total-t.result c.args.s c.whole_parts-w.result c.total-t.ensures c.requires.0 c.whole_parts-w.ensures, c.total-u.ensures)
 
-pub starts-f-requires : goal.starts-f-requires
-starts-f-requires c =
+pub placed-requires : goal.placed-requires
+placed-requires c =
     let h = fits_in c.args.numbers c.total-t.result c.args.s c.whole_parts-w.result c.total-t.ensures c.requires.0 c.whole_parts-w.ensures in
     omega (arith, tops_in c.args.numbers c.total-u.result c.whole_parts-w.result c.topped-l.result c.total-u.ensures h c.topped-l.ensures)
 
 pub returns : goal.returns
 unfolding lawful_parts lengths
-returns c = rw (c.starts-f.ensures, c.topped-l.ensures, c.total-u.ensures, c.whole_parts-w.ensures, c.total-t.ensures)
+returns c = rw (c.placed.ensures, c.topped-l.ensures, c.total-u.ensures, c.whole_parts-w.ensures, c.total-t.ensures)

@@ -1,39 +1,19 @@
--- `division::total` meets its contract: an array of 8, written out.
--- Assumes nothing.
-use borrow.Author.Rules.{rules}
-use mathlib.Core.Path.{◌≡◌, sym}
+-- The goals that the search leaves.
 use native.Mathlib.Omega.{arith}
-use lib.ListN.{length}
-use Rattle.division.proofs.Laws.{sum_eight}
-use Rattle.division.proofs.total.Goals.{Start}
+use mathlib.Core.Path.{refl}
+use Rattle.division.specs.Split.{sum}
+use Rattle.division.proofs.Stepwise.{sum_next, sum_room, sum_last}
 use Rattle.division.proofs.total.Goals as goal
 
-fit : (c : Start) → length c.args.s ≡ 8
-fit c = search rules
+pub loop-x-init : goal.loop-x-init
+unfolding sum
+loop-x-init c = refl
+
+pub overflow_add-t : goal.overflow_add-t
+overflow_add-t c = record { fits = omega (arith, sum_room c.args.s c.loop-x.x-index c.loop-x.invariant refl, c.requires) }
+
+pub loop-x-preserved : goal.loop-x-preserved
+loop-x-preserved c = sum_next c.args.s c.loop-x.x-index c.loop-x.invariant refl
 
 pub returns : goal.returns
-returns c = sym (sum_eight c.args.s (fit c))
-
-pub overflow_add-result : goal.overflow_add-result
-overflow_add-result c = record { fits = omega (arith, sum_eight c.args.s (fit c), c.requires) }
-
-pub overflow_add-result-2 : goal.overflow_add-result-2
-overflow_add-result-2 c = record { fits = omega (arith, sum_eight c.args.s (fit c), c.requires) }
-
-pub overflow_add-result-3 : goal.overflow_add-result-3
-overflow_add-result-3 c = record { fits = omega (arith, sum_eight c.args.s (fit c), c.requires) }
-
-pub overflow_add-result-4 : goal.overflow_add-result-4
-overflow_add-result-4 c = record { fits = omega (arith, sum_eight c.args.s (fit c), c.requires) }
-
-pub overflow_add-result-5 : goal.overflow_add-result-5
-overflow_add-result-5 c = record { fits = omega (arith, sum_eight c.args.s (fit c), c.requires) }
-
-pub overflow_add-result-6 : goal.overflow_add-result-6
-overflow_add-result-6 c = record { fits = omega (arith, sum_eight c.args.s (fit c), c.requires) }
-
-pub overflow_add-result-7 : goal.overflow_add-result-7
-overflow_add-result-7 c = record { fits = omega (arith, sum_eight c.args.s (fit c), c.requires) }
-
-pub overflow_add-result-8 : goal.overflow_add-result-8
-overflow_add-result-8 c = record { fits = omega (arith, sum_eight c.args.s (fit c), c.requires) }
+returns c = sum_last c.args.s _ (omega (arith, c.loop-x-test.false)) c.loop-x.invariant

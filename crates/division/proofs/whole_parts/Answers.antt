@@ -1,39 +1,36 @@
--- `division::whole_parts` meets its contract: an array of 8, written out.
--- Assumes nothing.
+-- The goals that the search leaves.
 use borrow.Author.Rules.{rules}
-use mathlib.Core.Path.{◌≡◌, sym}
-use lib.ListN.{length}
-use Rattle.division.proofs.Laws.{at_most_lem, whole_parts_eight}
-use native.Mathlib.Nat.{le_trans}
-use Rattle.division.proofs.whole_parts.Goals.{Start}
+use native.Mathlib.Omega.{arith}
+use mathlib.Core.Path.{◌≡◌, sym, ap, ◌∙◌}
+use Prim.Native.Nat.{ℕ, ◌*◌, ◌/◌}
+use lib.ListN.{length, get_or}
+use Rattle.division.proofs.Laws.{at_most_lem}
+use Rattle.division.proofs.Whole.{whole_parts_length}
+use Rattle.division.proofs.Stepwise.{mixed_first, mixed_here, mixed_next, mixed_last, whole_at}
 use Rattle.division.proofs.whole_parts.Goals as goal
 
-fit : (c : Start) → length c.args.s ≡ 8
-fit c = search rules
-
-pub returns : goal.returns
-returns c = rw (c.share.ensures, c.share-2.ensures, c.share-3.ensures, c.share-4.ensures, c.share-5.ensures, c.share-6.ensures, c.share-7.ensures, c.share-8.ensures) (sym (whole_parts_eight c.args.n c.args.t c.args.s (fit c.before.before.before.before.before.before.before.before)))
+pub loop-x-init : goal.loop-x-init
+loop-x-init c = mixed_first _ _
 
 pub share-requires : goal.share-requires
-share-requires c = (c.requires.0, le_trans (at_most_lem c.args.s 0) c.requires.1, c.requires.2)
+share-requires c =
+    let a = c.args in
+    let i = c.loop-x.x-index in
+    let n : length a.s ≡ 8 = search rules in
+    let e = ap (λ l. get_or l i 0) c.loop-x.invariant ∙ mixed_here 0 _ a.s i (omega (arith, n, c.loop-x-test.true)) (whole_parts_length a.n a.t a.s) in
+    (c.requires.0, omega (arith, e, at_most_lem a.s i, c.requires.1), c.requires.2)
 
-pub share-requires-2 : goal.share-requires-2
-share-requires-2 c = (c.requires.0, le_trans (at_most_lem c.args.s 1) c.requires.1, c.requires.2)
+pub loop-x-preserved : goal.loop-x-preserved
+loop-x-preserved c =
+    let a = c.args in
+    let i = c.loop-x.x-index in
+    let n : length a.s ≡ 8 = search rules in
+    let e = ap (λ l. get_or l i 0) c.loop-x.invariant ∙ mixed_here 0 _ a.s i (omega (arith, n, c.loop-x-test.true)) (whole_parts_length a.n a.t a.s) in
+    mixed_next 0 _ a.s i (omega (arith, n, c.loop-x-test.true)) (whole_parts_length a.n a.t a.s) c.loop-x.invariant
+    (c.share.ensures ∙ ap (λ (k : ℕ). a.n * k / a.t) e ∙ sym (whole_at a.n a.t a.s i (omega (arith, n, c.loop-x-test.true))))
 
-pub share-requires-3 : goal.share-requires-3
-share-requires-3 c = (c.requires.0, le_trans (at_most_lem c.args.s 2) c.requires.1, c.requires.2)
-
-pub share-requires-4 : goal.share-requires-4
-share-requires-4 c = (c.requires.0, le_trans (at_most_lem c.args.s 3) c.requires.1, c.requires.2)
-
-pub share-requires-5 : goal.share-requires-5
-share-requires-5 c = (c.requires.0, le_trans (at_most_lem c.args.s 4) c.requires.1, c.requires.2)
-
-pub share-requires-6 : goal.share-requires-6
-share-requires-6 c = (c.requires.0, le_trans (at_most_lem c.args.s 5) c.requires.1, c.requires.2)
-
-pub share-requires-7 : goal.share-requires-7
-share-requires-7 c = (c.requires.0, le_trans (at_most_lem c.args.s 6) c.requires.1, c.requires.2)
-
-pub share-requires-8 : goal.share-requires-8
-share-requires-8 c = (c.requires.0, le_trans (at_most_lem c.args.s 7) c.requires.1, c.requires.2)
+pub returns : goal.returns
+returns c =
+    let a = c.args in
+    let n : length a.s ≡ 8 = search rules in
+    mixed_last _ a.s _ (omega (arith, n, c.loop-x-test.false)) (whole_parts_length a.n a.t a.s) c.loop-x.invariant

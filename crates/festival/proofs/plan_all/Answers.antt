@@ -2,22 +2,41 @@
 -- Assumes nothing.
 use borrow.Author.Rules.{rules}
 use Prim.Native.Nat.{◌/◌}
-use mathlib.Core.Path.{◌≡◌}
+use mathlib.Core.Path.{◌≡◌, sym, ◌∙◌}
 use lib.ListN.{length}
-use Rattle.festival.proofs.Racing.{all_fit, told_all}
-use Rattle.festival.proofs.plan_all.Goals.{After-race_all-arg-7-1}
+use Rattle.division.specs.Eight.{parts_in}
+use Rattle.festival.proofs.Racing.{room_enough, room_small, all_fit, told_all, told_room, none_made}
 use Rattle.festival.proofs.plan_all.Goals as goal
 
-stakes_long_2 : (s : After-race_all-arg-7-1) → length s.args.stakes.stakes ≡ 8
-stakes_long_2 s = search rules
+pub returns-then-not-has_room : goal.returns-then-not-has_room
+returns-then-not-has_room c =
+    record {
+      by_index = λ ss e. told_room (length c.args.numbers.now / 4) _ (room_small c.has_room.ensures c.if-not-has_room.true) ss;
+      work_marks_after = none_made _ _ _;
+    }
+
+pub returns-in-Err : goal.returns-in-Err
+returns-in-Err c =
+    let a = c.args in
+    record {
+      by_index =
+          told_all a.stakes (length a.numbers.now / 4) _ (room_enough c.has_room.ensures c.if-not-has_room.false) (sym c.divide.ensures ∙ c.in-Err.is);
+      work_marks_after = none_made _ _ _;
+    }
 
 pub race_all-requires : goal.race_all-requires
 race_all-requires c =
     let a = c.args in
-    all_fit a.stakes (length a.numbers.now) (length a.settings.now) (length a.assignments.now) (length a.answers.now) (stakes_long_2 c)
-    c.room-before.ensures c.divide-p.ensures
+    let long : length a.stakes.stakes ≡ 8 = search rules in
+    all_fit a.stakes (length a.numbers.now) (length a.settings.now) (length a.assignments.now) (length a.answers.now) long
+    (room_enough c.has_room.ensures c.if-not-has_room.false) (sym c.divide.ensures ∙ c.in-Ok.is)
 
-pub returns : goal.returns
-returns c =
+pub returns-in-Ok : goal.returns-in-Ok
+unfolding parts_in
+returns-in-Ok c =
     let a = c.args in
-    record { by_index = told_all a.stakes (length a.numbers.now / 4) _ _ c.room-before.ensures c.divide-p.ensures; work_marks_after = c.race_all.ensures }
+    record {
+      by_index =
+          told_all a.stakes (length a.numbers.now / 4) _ (room_enough c.has_room.ensures c.if-not-has_room.false) (sym c.divide.ensures ∙ c.in-Ok.is);
+      work_marks_after = c.race_all.ensures;
+    }

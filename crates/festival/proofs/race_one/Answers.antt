@@ -2,10 +2,6 @@
 -- Assumes nothing.
 use Rattle.festival.specs.Own.{works}
 use Rattle.festival.proofs.Racing.{race_made}
-use Rattle.festival.proofs.race_one.Reads as reads
-use Rattle.festival.proofs.race_one.Lts as lts
-use Rattle.exchange.proofs.put_answer.Reads as put-answer-reads
-use Rattle.search.proofs.search.Reads as search-reads
 use Rattle.festival.proofs.race_one.Goals as goal
 
 -- src/lib.rt:88:1

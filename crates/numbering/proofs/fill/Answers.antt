@@ -2,39 +2,28 @@
 -- Assumes nothing.
 use native.Mathlib.Omega.{arith}
 use Prim.Native.Nat.{◌≤◌}
-use mathlib.Core.Path.{◌≡◌, sym, ◌∙◌}
+use mathlib.Core.Path.{sym, ◌∙◌}
 use Rattle.tables.specs.Places.{behind_objective, plan_of_file}
 use Rattle.tables.proofs.Found.{begun_file, begun_front}
 use Rattle.tables.proofs.Filled.{lawful_file}
 use Rattle.numbering.proofs.Filling.{filled, filled_long, locks_in_lem, says, counts}
-use Rattle.numbering.proofs.fill.Goals.{After-read_size, After-slice_known-4-1}
 use Rattle.numbering.proofs.fill.Goals as goal
-
--- How many variables there are.
-module _ (c : After-read_size) where
-  variables : c.read_size.result ≡ (plan_of_file c.args.file.now).variables
-  variables = c.read_size.ensures ∙ sym (begun_file _ _ c.requires.accepts).variables
-
-  few : c.read_size.result ≤ 512
-  few = omega (arith, variables, (lawful_file _ _ c.requires.accepts).high)
-
--- How many variables there are.
-module _ (c : After-slice_known-4-1) where
-  variables_2 : c.read_size.result ≡ (plan_of_file c.args.file.now).variables
-  variables_2 = c.read_size.ensures ∙ sym (begun_file _ _ c.requires.accepts).variables
-
-  few_2 : c.read_size.result ≤ 512
-  few_2 = omega (arith, variables_2, (lawful_file _ _ c.requires.accepts).high)
 
 pub read_size-requires : goal.read_size-requires
 unfolding behind_objective
 read_size-requires c = omega (arith, begun_front _ _ c.requires.accepts)
 
 pub number-requires : goal.number-requires
-number-requires c = (few c, omega (arith, filled_long (plan_of_file c.args.file.now) _ _ _ c.requires.map_len c.write_word.ensures c.lock_section.ensures))
+number-requires c =
+    let variables = c.read_size.ensures ∙ sym (begun_file _ _ c.requires.accepts).variables in (
+      omega (arith, variables, (lawful_file _ _ c.requires.accepts).high),
+      omega (arith, filled_long (plan_of_file c.args.file.now) _ _ _ c.requires.map_len c.write_word.ensures c.lock_section.ensures),
+    )
 
 pub returns : goal.returns
 returns c =
     let p = plan_of_file c.args.file.now in
     let l = locks_in_lem p (filled p _ _ _ c.requires.map_len c.write_word.ensures c.lock_section.ensures) in
-    (says p _ _ _ _ l c.number.ensures (variables_2 c) (few_2 c), counts p _ _ _ _ l c.number.ensures (variables_2 c) (few_2 c))
+    let variables = c.read_size.ensures ∙ sym (begun_file _ _ c.requires.accepts).variables in
+    let few : c.read_size.result ≤ 512 = omega (arith, variables, (lawful_file _ _ c.requires.accepts).high) in
+    (says p _ _ _ _ l c.number.ensures variables few, counts p _ _ _ _ l c.number.ensures variables few)

@@ -1,12 +1,11 @@
 -- The goals that the search leaves.
-use Prim.Native.Nat.{◌-◌}
 use native.Mathlib.Omega.{arith}
 use Rattle.numbering.proofs.Coding.{numbering_start, numbering_more, numbering_end, free_small}
 use Rattle.numbering.proofs.number.Goals as goal
 
 pub loop-x-preserved : goal.loop-x-preserved
 loop-x-preserved c =
-    numbering_more _ _ _ _ _ c.loop-x.invariant c.loop-x-test.true c.requires.0 c.requires.1 c.word-lock.ensures c.counted-free.ensures
+    numbering_more _ _ _ _ _ c.loop-x.invariant (omega (arith, c.loop-x-test.true)) c.requires.0 c.requires.1 c.word-lock.ensures c.counted-free.ensures
     c.code_of.ensures c.code_of.type_inv c.write_word.ensures
 
 pub loop-x-init : goal.loop-x-init
@@ -21,14 +20,8 @@ counted-free-requires c = omega (arith, free_small _ _ _ _ _ c.loop-x.invariant,
 pub write_word-requires : goal.write_word-requires
 write_word-requires c = omega (arith, c.loop-x-test.true, c.requires.0, c.requires.1, c.loop-x.invariant.same)
 
-pub overflow_add-x : goal.overflow_add-x
-overflow_add-x c = omega (arith, c.loop-x-test.true, c.requires.0)
-
-pub loop-x-smaller : goal.loop-x-smaller
-loop-x-smaller c = omega (arith, c.loop-x-test.true)
-
 pub shape_of-map : goal.shape_of-map
 shape_of-map c = c.loop-x.invariant.same
 
 pub returns : goal.returns
-returns c = numbering_end _ _ _ _ _ c.loop-x.invariant c.loop-x-test.false
+returns c = numbering_end _ _ _ _ _ c.loop-x.invariant (omega (arith, c.loop-x-test.false))

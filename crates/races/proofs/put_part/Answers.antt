@@ -4,13 +4,9 @@ use Prim.Native.Nat.{◌+◌, ◌*◌}
 use native.Mathlib.Omega.{arith}
 use mathlib.Core.Path.{ap, ◌∙◌}
 use lib.ListN.{set, length-set}
-use Rattle.division.specs.Eight.{parts_in}
+use Rattle.division.specs.Eight.{laid}
 use Rattle.races.specs.declared.Race.{Race}
 use Rattle.races.specs.Races.{placed_at, put_at}
-use Rattle.races.proofs.put_part.Reads as reads
-use Rattle.races.proofs.put_part.Lts as lts
-use Rattle.races.proofs.race_of.Reads as race-of-reads
-use Rattle.races.proofs.with_part.Reads as with-part-reads
 use Rattle.races.proofs.put_part.Goals as goal
 
 -- src/lib.rt:133:5
@@ -23,4 +19,4 @@ unfolding put_at
 returns c =
     let s = c.args in
     ap (λ (r : Race). set (set s.races.now (3 * s.i + 1) r.first) (3 * s.i + 2) r.length)
-    (c.with_part-r.ensures ∙ ap (placed_at (parts_in s.p) s.i) c.race_of.ensures)
+    (c.with_part-r.ensures ∙ ap (placed_at (laid s.p) s.i) c.race_of.ensures)

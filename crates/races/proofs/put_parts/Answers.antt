@@ -7,14 +7,12 @@ use Rattle.races.proofs.Turns.{mix_start, mix_next, mix_end}
 use Rattle.races.proofs.put_parts.Goals as goal
 
 pub loop-i-init : goal.loop-i-init
-loop-i-init c = (omega arith, mix_start _ _)
+loop-i-init c = mix_start _ _
 
 pub loop-i-preserved : goal.loop-i-preserved
-loop-i-preserved c = (
-  omega (arith, c.loop-i.auto.races),
-  ap (λ (r : Race). set c.loop-i.races c.loop-i.i r) c.with_part.ensures
-      ∙ rw c.loop-i.invariant.1 (mix_next _ _ _ _ (omega (arith, c.loop-i.auto.races))),
-)
+loop-i-preserved c =
+    ap (λ (r : Race). set c.loop-i.races c.loop-i.i r) c.with_part.ensures
+    ∙ rw c.loop-i.invariant (mix_next _ _ _ _ (omega (arith, c.loop-i.auto.races)))
 
 pub returns : goal.returns
-returns c = c.loop-i.invariant.1 ∙ mix_end _ _ _ (omega (arith, c.loop-i.auto.races))
+returns c = c.loop-i.invariant ∙ mix_end _ _ _ (omega (arith, c.loop-i.auto.races))

@@ -1,5 +1,5 @@
 -- The goals that the search leaves.
-use Prim.Native.Nat.{◌-◌, ◌*◌}
+use Prim.Native.Nat.{◌*◌}
 use native.Mathlib.Omega.{arith}
 use mathlib.Core.Path.{ap, ◌∙◌}
 use lib.ListN.{length, drop}
@@ -7,11 +7,6 @@ use Rattle.division.specs.declared.Stakes.{Stakes}
 use Rattle.races.specs.declared.Race.{Race}
 use Rattle.races.specs.Races.{with_stake, stakes_in}
 use Rattle.races.proofs.Turns.{with_stakes, taking_first, taking_next, taking_last, in_list}
-use Rattle.races.proofs.stakes_in.Reads as reads
-use Rattle.races.proofs.stakes_in.Lts as lts
-use Rattle.races.proofs.no_stakes.Reads as no-stakes-reads
-use Rattle.races.proofs.race_of.Reads as race-of-reads
-use Rattle.races.proofs.with_race.Reads as with-race-reads
 use Rattle.races.proofs.stakes_in.Goals as goal
 
 -- src/lib.rt:109:5
@@ -31,14 +26,6 @@ offset_bounds-races-i c = record { fits = omega (arith, in_list (length c.args.r
 -- src/lib.rt:110:34
 pub bounds-races-i : goal.bounds-races-i
 bounds-races-i c = omega (arith, in_list (length c.args.races.now) c.loop-i.i c.loop-i-test.true)
-
--- src/lib.rt:111:9
-pub overflow_add-i : goal.overflow_add-i
-overflow_add-i c = record { fits = omega (arith, in_list (length c.args.races.now) c.loop-i.i c.loop-i-test.true, c.well_formed.0.1) }
-
--- src/lib.rt:109:5
-pub loop-i-smaller : goal.loop-i-smaller
-loop-i-smaller c = omega (arith, c.loop-i-test.true)
 
 -- src/lib.rt:109:5
 pub loop-i-preserved : goal.loop-i-preserved

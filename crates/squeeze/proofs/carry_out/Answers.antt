@@ -2,8 +2,8 @@
 -- Assumes nothing.
 use mir.Syntax.{w64}
 use native.Mathlib.Omega.{arith}
-use Prim.Native.Nat.{ℕ, ◌≤◌}
-use mathlib.Core.Path.{◌≡◌, refl, sym, ap, ◌∙◌}
+use Prim.Native.Nat.{ℕ}
+use mathlib.Core.Path.{refl, sym, ap, ◌∙◌}
 use mir.Facts.{to_z-of_z}
 use mathlib.Core.Bool.{Bool}
 use lib.ListN.{length-take}
@@ -15,35 +15,29 @@ use Rattle.tables.specs.Places.{behind_objective, plan_of_file}
 use Rattle.tables.proofs.Found.{begun_file, begun_front}
 use Rattle.tables.proofs.Filled.{lawful_file}
 use Rattle.squeeze.proofs.Outcomes.{list_whole, list_short}
-use Rattle.squeeze.proofs.carry_out.Goals.{After-list_old-arg-1, After-slice_known-4-1}
 use Rattle.squeeze.proofs.carry_out.Goals as goal
 
 pub read_size-requires : goal.read_size-requires
 unfolding behind_objective
 read_size-requires c = omega (arith, begun_front _ _ c.requires.accepts)
 
--- How many variables there are.
-module _ (c : After-list_old-arg-1) where
-  variables_2 : c.read_size.result ≡ (plan_of_file c.args.file.now).variables
-  variables_2 = c.read_size.ensures ∙ sym (begun_file _ _ c.requires.accepts).variables
-
-  few_2 : c.read_size.result ≤ 512
-  few_2 = omega (arith, variables_2, (lawful_file _ _ c.requires.accepts).high)
-
--- How many variables there are.
-module _ (c : After-slice_known-4-1) where
-  variables_3 : c.read_size.result ≡ (plan_of_file c.args.file.now).variables
-  variables_3 = c.read_size.ensures ∙ sym (begun_file _ _ c.requires.accepts).variables
-
-  few_3 : c.read_size.result ≤ 512
-  few_3 = omega (arith, variables_3, (lawful_file _ _ c.requires.accepts).high)
-
 pub list_old-requires : goal.list_old-requires
 list_old-requires c =
-    (few_2 c, c.requires.map_size_in_bounds.0, length-take 2048 c.args.old.now ∙ omega (arith, c.requires.map_size_in_bounds.1))
+    let variables = c.read_size.ensures ∙ sym (begun_file _ _ c.requires.accepts).variables in (
+      omega (arith, variables, (lawful_file _ _ c.requires.accepts).high),
+      c.requires.map_size_in_bounds.0,
+      length-take 2048 c.args.old.now ∙ omega (arith, c.requires.map_size_in_bounds.1),
+    )
 
 pub returns : goal.returns
 returns c =
     let new : ℕ → Bool = λ x. is_number (word_at c.args.map.now x) in
     let n = (plan_of_file c.args.file.now).variables in
-    let listed = c.list_old.ensures ∙ ap (λ k. word_bytes (pad_to 512 (keep new (row 1 k)))) (variables_3 c) in record { refusal_value = (refl, refl, c.rewrite-length.ensures.1, to_z-of_z {w = w64} (record { sfits = c.constant-constant.type_inv }) ∙ c.constant-constant.ensures); file_after = c.rewrite-length.ensures.0; after = list_whole (keep new (row 1 n)) c.args.old.now _ (list_short new n (omega (arith, variables_3 c, few_3 c))) listed }
+    let variables = c.read_size.ensures ∙ sym (begun_file _ _ c.requires.accepts).variables in
+    let listed = c.list_old.ensures ∙ ap (λ k. word_bytes (pad_to 512 (keep new (row 1 k)))) variables in
+    record {
+      refusal_value =
+          (refl, refl, c.rewrite-length.ensures.1, to_z-of_z {w = w64} (record { sfits = c.constant-constant.type_inv }) ∙ c.constant-constant.ensures);
+      file_after = c.rewrite-length.ensures.0;
+      after = list_whole (keep new (row 1 n)) c.args.old.now _ (list_short new n (lawful_file _ _ c.requires.accepts).high) listed;
+    }

@@ -3,10 +3,10 @@
 use Rattle.verdict.specs.Answers.{refusal_of, offset_of}
 use Rattle.squeeze.proofs.refused_by.Goals as goal
 
-pub returns-in-Accepted : goal.returns-in-Accepted
+pub returns-in-Ok : goal.returns-in-Ok
 unfolding refusal_of offset_of
-returns-in-Accepted c = rw c.in-Accepted.is c.refused.ensures
+returns-in-Ok c = rw c.in-Ok.is c.refused.ensures
 
-pub returns-in-Refused : goal.returns-in-Refused
+pub returns-in-Err : goal.returns-in-Err
 unfolding refusal_of offset_of
-returns-in-Refused c = rw c.in-Refused.is c.refused-in-Refused.ensures
+returns-in-Err c = rw c.in-Err.is c.refused-in-Err.ensures

@@ -12,13 +12,13 @@ pub returns-in_default : goal.returns-in_default
 returns-in_default c = let whole = refused_file _ _ _ _ _ _ c.if-old-lt-LIST.false c.judge-verdict.ensures c.in_default.is c.refused_by.ensures in record { answers = whole.0; file_after = whole.1.0; after = whole.1.1 }
 
 pub squeeze_by-requires : goal.squeeze_by-requires
-squeeze_by-requires c = record { accepts = accepts _ (sym c.in-Accepted.is ∙ c.judge-verdict.ensures); map_len = (refl, c.if-old-lt-LIST.false) }
+squeeze_by-requires c = record { accepts = accepts _ (sym c.in-Ok.is ∙ c.judge-verdict.ensures); map_len = (refl, c.if-old-lt-LIST.false) }
 
 pub returns : goal.returns
 returns c =
     let s = c.squeeze_by.ensures in
     let whole =
-    is_squeezed _ _ _ _ _ c.if-old-lt-LIST.false (accepts _ (sym c.in-Accepted.is ∙ c.judge-verdict.ensures)) (s.answers, (s.file_after, s.after)) in
+    is_squeezed _ _ _ _ _ c.if-old-lt-LIST.false (accepts _ (sym c.in-Ok.is ∙ c.judge-verdict.ensures)) (s.answers, (s.file_after, s.after)) in
     record { answers = whole.0; file_after = whole.1.0; after = whole.1.1 }
 
 pub slice_bounds-squeeze_by-end : goal.slice_bounds-squeeze_by-end

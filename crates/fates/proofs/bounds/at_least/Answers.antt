@@ -1,11 +1,14 @@
--- `bounds::at_least` meets its contract, by the mode.
+-- `bounds::at_least` meets its contract, by whether there is a bound.
 -- Assumes nothing.
-use mir.Facts.{to_z-of_z}
-use Rattle.fates.proofs.Judging.{lower_absent, lower_there}
+use Rattle.std.proofs.Common.{rules}
+use Rattle.plpb.specs.Plan.{at_least}
+use Rattle.fates.specs.Rules.{as_bound}
 use Rattle.fates.proofs.bounds.at_least.Goals as goal
 
-pub returns-then-mode-eq2 : goal.returns-then-mode-eq2
-returns-then-mode-eq2 c = lower_absent _ _ _ c.if-mode-eq2.true
+pub returns-in-None : goal.returns-in-None
+unfolding as_bound at_least
+returns-in-None c = rw c.in-None.is
 
-pub returns : goal.returns
-returns c = rw (to_z-of_z c.ranges.lower, to_z-of_z c.ranges.sum) (lower_there _ _ _ c.if-mode-eq2.false)
+pub returns-in-Some : goal.returns-in-Some
+unfolding as_bound at_least
+returns-in-Some c = rw c.in-Some.is (search rules)

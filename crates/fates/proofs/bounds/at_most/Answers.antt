@@ -1,11 +1,14 @@
--- `bounds::at_most` meets its contract, by the mode.
+-- `bounds::at_most` meets its contract, by whether there is a bound.
 -- Assumes nothing.
-use mir.Facts.{to_z-of_z}
-use Rattle.fates.proofs.Judging.{upper_absent, upper_there}
+use Rattle.std.proofs.Common.{rules}
+use Rattle.plpb.specs.Plan.{at_most}
+use Rattle.fates.specs.Rules.{as_bound}
 use Rattle.fates.proofs.bounds.at_most.Goals as goal
 
-pub returns-then-mode-eq1 : goal.returns-then-mode-eq1
-returns-then-mode-eq1 c = upper_absent _ _ _ c.if-mode-eq1.true
+pub returns-in-None : goal.returns-in-None
+unfolding as_bound at_most
+returns-in-None c = rw c.in-None.is
 
-pub returns : goal.returns
-returns c = rw (to_z-of_z c.ranges.upper, to_z-of_z c.ranges.sum) (upper_there _ _ _ c.if-mode-eq1.false)
+pub returns-in-Some : goal.returns-in-Some
+unfolding as_bound at_most
+returns-in-Some c = rw c.in-Some.is (search rules)

@@ -6,7 +6,7 @@ use native.Mathlib.Omega.{arith}
 use mathlib.Core.Path.{◌∙◌}
 use mir.Facts.{to_z-of_z}
 use Rattle.format.specs.File.{mode_at, lower_at, upper_at}
-use Rattle.fates.proofs.Judging.{rule_room_lem, byte_at, fate_mode, fate_lower, fate_upper}
+use Rattle.fates.proofs.Judging.{rule_room_lem, byte_at, fated, left_lower, left_upper, left_least, left_greatest}
 use Rattle.fates.proofs.rule.fate.Goals as goal
 
 pub less-lower-requires : goal.less-lower-requires
@@ -32,11 +32,10 @@ returns c =
     let leasts = to_z-of_z {w = w32} (record { sfits = c.total-least.type_inv }) ∙ c.total-least.ensures.0 in
     let greatests = to_z-of_z {w = w32} (record { sfits = c.total-greatest.type_inv }) ∙ c.total-greatest.ensures.0 in
     let lowers = to_z-of_z {w = w32} (record { sfits = c.less-lower.type_inv }) ∙ c.less-lower.ensures in
-    let uppers = to_z-of_z {w = w32} (record { sfits = c.less-upper.type_inv }) ∙ c.less-upper.ensures in (
-      c.fate_by.ensures.0 ∙ fate_mode s map at modes givens leasts greatests lowers uppers,
-      c.fate_by.ensures.1 ∙ fate_lower s map at modes givens leasts greatests lowers uppers,
-      c.fate_by.ensures.2 ∙ fate_upper s map at modes givens leasts greatests lowers uppers,
-    )
+    let uppers = to_z-of_z {w = w32} (record { sfits = c.less-upper.type_inv }) ∙ c.less-upper.ensures in
+    fated _ (c.by_mode.ensures.0 ∙ left_lower s map at modes givens leasts greatests lowers uppers)
+    (c.by_mode.ensures.1 ∙ left_upper s map at modes givens leasts greatests lowers uppers)
+    (left_least s map at modes givens leasts greatests lowers uppers) (left_greatest s map at modes givens leasts greatests lowers uppers) _ c.left.ensures
 
 pub total-given-requires : goal.total-given-requires
 total-given-requires c = c.requires

@@ -1,11 +1,8 @@
 -- `rules::put_rule` meets its contract: the terms are written first, then head and bounds before them.
 -- Assumes nothing.
-use mir.Syntax.{w32}
 use native.Mathlib.Omega.{arith}
 use mathlib.Core.Path.{sym, ap, ◌∙◌}
 use Prim.Native.Nat.{◌+◌}
-use mir.Facts.{to_z-of_z}
-use Rattle.words.specs.Words.{unsigned}
 use Rattle.format.specs.File.{terms_at}
 use Rattle.format.proofs.Peel.{length_terms_at}
 use Rattle.fates.specs.Codes.{decoded}
@@ -41,9 +38,7 @@ returns c =
     let a = c.args in
     let f = decoded a.map.now in
     let r = c.requires.0 in
-    let told = c.struct_told-1.given in
-    rule_laid_as a.file.now a.to a.fate.mode _ _ _ (c.to_unsigned.ensures ∙ ap unsigned (to_z-of_z {w = w32} (record { sfits = told.1.0.1 })))
-    (c.to_unsigned-2.ensures ∙ ap unsigned (to_z-of_z {w = w32} (record { sfits = told.1.1.0.1 })))
+    rule_laid_as a.file.now a.to _ _ _ _ c.mode.ensures c.number.ensures c.number-2.ensures
     (ap (λ k. terms_written f (terms_at a.file.now (a.at + 12) k)) c.terms_of-count.ensures ∙ ap (terms_written f) (sym (rule_terms r)))
     (omega (arith, rule_room_lem r, c.requires.1)) c.keep_terms-end.ensures.0 c.keep_terms-end.ensures.1 c.narrow-size.ensures
     c.put_bounds.ensures

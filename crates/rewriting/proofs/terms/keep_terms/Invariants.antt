@@ -1,11 +1,8 @@
--- `terms::keep_terms` meets its contract. The invariant: what is written and what the terms left still give is the whole. The measure is how many
--- are left.
+-- `terms::keep_terms` meets its contract. The invariant: what is written and what the terms left still give is the whole.
 -- Assumes nothing.
+use Prim.Native.Nat.{◌+◌, ◌*◌, ◌-◌}
 use Rattle.rewriting.proofs.Termwise.{Keeping}
 use Rattle.rewriting.proofs.terms.keep_terms.Given as goal
 
-abbrev pub invariant-loop-left : goal.invariant-loop-left
-invariant-loop-left l = Keeping l.initial.file l.map l.from l.count l.to l.file l.at l.left l.end
-
-abbrev pub decreases-loop-left : goal.decreases-loop-left
-decreases-loop-left l = l.left
+abbrev pub invariant-loop-i : goal.invariant-loop-i
+invariant-loop-i l = Keeping l.initial.file l.map l.from l.count l.to l.file (l.from + 6 * l.i) (l.count - l.i) l.end

@@ -1,9 +1,9 @@
--- `festival::room` meets its contract: the tests that led to each answer.
+-- `festival::has_room` meets its contract: the tests that led to each answer.
 -- Assumes nothing.
 use borrow.Author.Tests.{lt-ltb, le-ltb}
 use Rattle.plpb.specs.Lists.{◌or◌}
 use Rattle.festival.specs.Festival.{room_refusal}
-use Rattle.festival.proofs.room.Goals as goal
+use Rattle.festival.proofs.has_room.Goals as goal
 
 pub returns-then-settings-lt-ALL_SETTINGS : goal.returns-then-settings-lt-ALL_SETTINGS
 unfolding room_refusal ◌or◌

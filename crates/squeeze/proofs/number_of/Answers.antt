@@ -1,0 +1,12 @@
+-- `number_of` meets its contract, by the fault.
+-- Assumes nothing.
+use Rattle.squeeze.specs.Calls.{fault_number}
+use Rattle.squeeze.proofs.number_of.Goals as goal
+
+pub returns-in-AllLocked : goal.returns-in-AllLocked
+unfolding fault_number
+returns-in-AllLocked c = rw c.in-AllLocked.is
+
+pub returns-in-ClauseLost : goal.returns-in-ClauseLost
+unfolding fault_number
+returns-in-ClauseLost c = rw c.in-ClauseLost.is
