@@ -1,8 +1,8 @@
 -- An accepted text's plan is lawful.
 -- Assumes nothing.
-use Prim.Native.Nat.{ℕ, suc, ◌+◌, ◌≤◌, ◌<◌}
+use Prim.Native.Nat.{ℕ, ◌+◌, ◌≤◌}
 use native.Mathlib.Omega.{arith}
-use mathlib.Core.Path.{◌≡◌, refl, sym, ap, ap₂, ◌∙◌}
+use mathlib.Core.Path.{◌≡◌, refl, sym, ap, ◌∙◌}
 use mathlib.Core.Bool.{Bool, true, false, not, cond}
 use mathlib.Core.List.{List, [], ◌∷◌, map}
 use lib.Dec.{T, leb, ltb, eqb}
@@ -10,15 +10,14 @@ use lib.IntN.{nat_abs}
 use lib.ListN.{length, get_or, length-map}
 use borrow.Author.Tests.{eqb-true, ne_eqb, ltb-false, leb-true, le-leb, not-false}
 use Rattle.plpb.specs.Lists.{◌and◌, ◌or◌, all, keep, concat, sum_by, is_empty}
-use Rattle.plpb.specs.Plan.{Plan, Rule, Clause, rising, rising_above}
+use Rattle.plpb.specs.Plan.{Plan, Rule, rising, rising_above}
 use Rattle.plpb.specs.Tallies.{rules_of}
-use Rattle.plpb.proofs.Lists.{sum_by_map, all_map}
-use Rattle.format.specs.Limits.{terms_lawful, lock_terms, is_present, bound_lawful, rule_lawful, term_count, lawful}
+use Rattle.plpb.proofs.Lists.{sum_by_map}
+use Rattle.format.specs.Limits.{terms_lawful, is_present, bound_lawful, rule_lawful, term_count, lawful}
 use Rattle.format.specs.File.{Reading, refused, accepted, refuse}
 use Rattle.format.proofs.Bools.{and_left, and_right, and_join}
 use Rattle.format.proofs.Lawful.{LawfulPlan, clause_lawful, clause_whole, terms_parts, plan_whole}
-use Rattle.tokens.specs.Tokens.{line_end}
-use Rattle.statements.specs.Grammar.{is_comment, is_objective, is_constraint, sum_from, sum_at, sum_end, terms_in, is_exact, bound_at, rule_at}
+use Rattle.statements.specs.Grammar.{is_comment, is_objective, is_constraint, sum_from, sum_at, sum_end, has_terms, is_bounded, constraint_formed, terms_in, is_exact, bound_at, rule_at}
 use Rattle.opb_lines.specs.ReadText.{variables_in, constraints_in, first_formed, starts, objective_of, plan_of_text, objective_fault, constraint_fault, fault, judging, read_text}
 use Rattle.opb_judge.proofs.Faults.{met_none, constraint_few}
 
@@ -32,6 +31,10 @@ refuse_zero : (b : Bool) (x : ℕ) → refuse b 31 x ≡ 0 → (b ≡ false) × 
 unfolding refuse
 refuse_zero true x h = absurd (omega arith)
 refuse_zero false x h = (refl, h)
+
+-- A constraint has a sum and a bound.
+abbrev pub stated : List ℕ → ℕ → Bool
+stated s at = has_terms s at and is_bounded s (sum_end s at)
 
 -- What a line without a fault is.
 module _ (s : List ℕ) (free : Bool) (c t at : ℕ) (h : fault (variables_in s) s free c t at ≡ 0) (k : is_comment s at ≡ false) where
@@ -52,6 +55,12 @@ module _ (s : List ℕ) (free : Bool) (c t at : ℕ) (h : fault (variables_in s)
     some : is_empty (sum_at s at) ≡ false
     unfolding sum_from
     some = rw o at two.0
+
+    stated_right : stated s at ≡ true
+    unfolding has_terms constraint_fault constraint_formed
+    stated_right =
+        and_join (not (is_empty (sum_at s at))) (is_bounded s (sum_end s at)) (ap not some)
+        (and_left (is_bounded s (sum_end s at)) _ (not-false _ (met_none _ _ _ _ _ zero).0))
 
     bound_right : leb (nat_abs (bound_at s at)) 1_000_000_000 ≡ true
     unfolding constraint_fault
@@ -76,12 +85,13 @@ module _ (s : List ℕ) where
 
   pub record Kept (c t : ℕ) (ats : List ℕ) : Type 0 where
     pub rules : all (λ at. rule_lawful (variables_in s) (rule_at s at)) (cs ats) ≡ true
+    pub stated_all : all (stated s) (cs ats) ≡ true
     pub count : c + length (cs ats) ≤ 512
     pub terms : t + sum_by (λ at. length (sum_at s at)) (cs ats) ≤ 6_000
     pub objective : terms_lawful (variables_in s) (objective_of s ats) ≡ true
     pub number : c + length (cs ats) ≡ constraints_in s
 
-  not_objective : (at : ℕ) → is_comment s at ≡ true → is_objective s at ≡ false
+  pub not_objective : (at : ℕ) → is_comment s at ≡ true → is_objective s at ≡ false
   unfolding is_comment is_objective
   not_objective at h = let e = eqb-true (get_or s at 0) 42 h in ne_eqb (get_or s at 0) 109 (λ q. omega (arith, e, q))
 
@@ -91,6 +101,7 @@ module _ (s : List ℕ) where
       let o = not_objective at h in
       record {
         rules = rw h k.rules;
+        stated_all = rw h k.stated_all;
         count = rw h k.count;
         terms = rw h k.terms;
         objective = rw o k.objective;
@@ -102,6 +113,7 @@ module _ (s : List ℕ) where
   skip_objective c t at ats h o l k =
       record {
         rules = rw (h, o) k.rules;
+        stated_all = rw (h, o) k.stated_all;
         count = rw (h, o) k.count;
         terms = rw (h, o) k.terms;
         objective = rw o l;
@@ -110,11 +122,12 @@ module _ (s : List ℕ) where
 
   add_constraint :
       (c t at : ℕ) (ats : List ℕ) → is_comment s at ≡ false → is_objective s at ≡ false → rule_lawful (variables_in s) (rule_at s at) ≡ true
-      → Kept (c + 1) (t + length (sum_at s at)) ats → Kept c t (at ∷ ats)
+      → stated s at ≡ true → Kept (c + 1) (t + length (sum_at s at)) ats → Kept c t (at ∷ ats)
   unfolding keep is_constraint ◌and◌ objective_of all sum_by
-  add_constraint c t at ats h o l k =
+  add_constraint c t at ats h o l w k =
       record {
         rules = rw (h, o) (and_join _ _ l k.rules);
+        stated_all = rw (h, o) (and_join _ _ w k.stated_all);
         count = rw (h, o) (omega (arith, k.count));
         terms = rw (h, o) (omega (arith, k.terms));
         objective = rw o k.objective;
@@ -123,7 +136,7 @@ module _ (s : List ℕ) where
 
   kept_none : (c t : ℕ) → c ≡ constraints_in s → c ≤ 512 → t ≤ 6_000 → Kept c t []
   unfolding keep all sum_by objective_of terms_lawful rising rising_above ◌and◌
-  kept_none c t e a b = record { rules = refl; count = omega arith; terms = omega arith; objective = refl; number = omega arith }
+  kept_none c t e a b = record { rules = refl; stated_all = refl; count = omega arith; terms = omega arith; objective = refl; number = omega arith }
 
   abbrev Claim : Plan → ℕ → ℕ → List ℕ → Type 0
   Claim p c t ats = (p ≡ plan_of_text s) × Kept c t ats
@@ -150,7 +163,7 @@ module _ (s : List ℕ) where
       let h : fault (variables_in s) s free c t at ≡ 0 = let l = ltb-false 0 (fault (variables_in s) s free c t at) f in omega arith in
       let (m, n) = constraint_few _ s c t at (zero s free c t at h k o) in
       let (q, r) = more false (c + 1) (t + length (sum_at s at)) (rw (f, k, o) at e) (omega arith) n in
-      (q, add_constraint c t at ats k o (rule_right s free c t at h k o) r)
+      (q, add_constraint c t at ats k o (rule_right s free c t at h k o) (stated_right s free c t at h k o) r)
 
   kept : (free : Bool) (c t : ℕ) (ats : List ℕ) (p : Plan) → judging s free c t ats ≡ accepted p → c ≤ 512 → t ≤ 6_000 → Claim p c t ats
   kept free c t [] p e a b = end_by _ free c t p refl e a b
@@ -189,6 +202,14 @@ module _ (s : List ℕ) where
     by true true q r = (rw (q, r) at e, r)
     by true false q r = refused_accepted (rw (q, r) at e)
     by false y q r = refused_accepted (rw q at e)
+
+    formed_by : (x : Bool) → first_formed s ≡ x → first_formed s ≡ true
+    unfolding read_text
+    formed_by true q = q
+    formed_by false q = refused_accepted (rw q at e)
+
+    pub formed : first_formed s ≡ true
+    formed = formed_by _ refl
 
     pub said : Claim s p 0 0 (starts 0 s)
     said = kept s true 0 0 (starts 0 s) p (by _ _ refl refl).0 (omega arith) (omega arith)

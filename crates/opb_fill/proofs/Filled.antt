@@ -2,16 +2,16 @@
 -- Assumes nothing.
 use Prim.Native.Nat.{ℕ, zero, suc, ◌+◌, ◌*◌, ◌-◌, ◌≤◌, ◌<◌}
 use native.Mathlib.Omega.{arith}
-use mathlib.Core.Path.{◌≡◌, refl, sym, ap, ap₂, ◌∙◌, subst}
-use mathlib.Core.Bool.{Bool, true, false, not, cond}
+use mathlib.Core.Path.{◌≡◌, refl, sym, ap, ap₂, ◌∙◌}
+use mathlib.Core.Bool.{Bool, true, false, cond}
 use mathlib.Core.List.{List, [], ◌∷◌, ◌++◌, map, append_assoc, append-nil}
-use lib.Dec.{eqb, leb}
-use lib.IntN.{nat_abs, pos}
-use lib.ListN.{length, get_or, replicate, drop, length-append, length-map, length-replicate}
-use borrow.Author.Tests.{eq-eqb, ne_eqb, leb-true, le-leb, le-ltb}
+use lib.Dec.{eqb}
+use lib.IntN.{nat_abs}
+use lib.ListN.{length, get_or, replicate, length-append, length-map}
+use borrow.Author.Tests.{leb-true, le-leb}
 use borrow.Rule.Slice.PartMut.{mid_of, put_mid}
 use Rattle.plpb.specs.Lists.{◌and◌, ◌or◌, all, keep, concat, sum_by}
-use Rattle.plpb.specs.Plan.{Bound, absent, present, Term, Rule, Plan, rising, rising_above}
+use Rattle.plpb.specs.Plan.{Term, Rule, rising}
 use Rattle.plpb.specs.Tallies.{rules_of}
 use Rattle.words.specs.Words.{word_bytes, unsigned}
 use Rattle.words.specs.Writes.{front}
@@ -22,25 +22,26 @@ use Rattle.format.specs.Tables.{pad_to, clause_entries, rule_entries, term_entri
 use Rattle.format.specs.Writer.{mode, bound_number}
 use Rattle.format.proofs.Bools.{and_left, and_right, and_join}
 use Rattle.format.proofs.Lawful.{LawfulPlan, term_within, terms_short, rule_parts}
-use Rattle.format.proofs.Sections.{length_clause_entries, length_rule_entries, length_term_entries, length_all_terms}
+use Rattle.format.proofs.Sections.{length_rule_entries, length_term_entries, length_all_terms}
 use Rattle.format.specs.Layout.{clause_section_size, clause_word_count, rule_section_size, rule_word_count, term_size, term_word_count}
 use Rattle.tables.specs.Sections.{objective_words, clause_words, rule_words, placed, in_range}
 use Rattle.tables.proofs.Entered.{entries_more, terms_lent, front_long}
 use Rattle.tables.proofs.Filled.{words_lent, rest_lent}
 use Rattle.tables.proofs.Dense.{dense, lawful_range}
-use Rattle.tokens.specs.Tokens.{number_at, seen, is_digit, digits_end, blanks_end, word_end}
+use Rattle.tokens.specs.Tokens.{number_at, seen, blanks_end, word_end}
 use Rattle.tokens.proofs.Numbers.{seen_small}
-use Rattle.tokens.proofs.Runs.{run_end_lem}
 use Rattle.statements.specs.declared.Relation.{Relation}
-use Rattle.statements.specs.Parts.{RelationAt}
-use Rattle.statements.specs.Grammar.{min_word, unsigned_from, integer_end, is_integer, is_term, with_sign, integer_at, is_comment, is_objective, is_constraint, sum_from, sum_at, sum_end, terms_from, is_exact, bound_from, bound_at, rule_at}
-use Rattle.statements.proofs.Parts.{size_signed, sign_none}
-use Rattle.statements.proofs.Sums.{terms_none}
-use Rattle.opb_lines.specs.ReadText.{variables_in, starts, objective_of, plan_of_text, read_text}
+use Rattle.statements.specs.declared.Kind.{Kind}
+use Rattle.statements.specs.declared.Kind.TheVariants.{Comment, Objective, Constraint}
+use Rattle.statements.specs.Parts.{IsKind, RelationAt}
+use Rattle.statements.specs.Grammar.{min_word, unsigned_from, with_sign, integer_at, is_objective, is_constraint, sum_from, sum_at, sum_end, has_terms, is_bounded, is_exact, bound_from, bound_at, rule_at}
+use Rattle.statements.proofs.Parts.{size_signed}
+use Rattle.statements.proofs.Sums.{sum_none, no_term}
+use Rattle.opb_lines.specs.ReadText.{variables_in, objective_of, plan_of_text}
 use Rattle.opb_lines.specs.Lines.{next_line, lines_from}
-use Rattle.opb_lines.proofs.Lines.{lines_here, lines_none, lines_behind, lines_of, next_on}
+use Rattle.opb_lines.proofs.Lines.{lines_here, lines_none, lines_behind, lines_of}
 use Rattle.opb_fill.specs.Fill.{Says, constraints_from, Reaches, InRange, ConstraintHere}
-use Rattle.opb_fill.proofs.Accepted.{constraint_places, rules_are, terms_are, said, lawful_text}
+use Rattle.opb_fill.proofs.Accepted.{stated, not_objective, constraint_places, rules_are, terms_are, said, lawful_text}
 
 -- ---- from constraint to constraint
 
@@ -55,6 +56,23 @@ module _ (s : List ℕ) (at : ℕ) (l : at < length s) where
   pub constraint_skipped : is_constraint s at ≡ false → constraints_from s (next_line s at) ≡ constraints_from s at
   unfolding constraints_from keep
   constraint_skipped h = rw (line_split, h)
+
+-- What is known of a line by its kind.
+module _ (s : List ℕ) (at : ℕ) where
+  pub constraint_at : IsKind s at Constraint → is_constraint s at ≡ true
+  unfolding is_constraint ◌and◌
+  constraint_at (a, b) = rw (a, b)
+
+  pub constraint_not : (k : Kind) → IsKind s at k → (k ≡ Constraint → ⊥) → is_constraint s at ≡ false
+  unfolding is_constraint ◌and◌
+  constraint_not Comment a n = rw a
+  constraint_not Objective (a, b) n = rw (a, b)
+  constraint_not Constraint h n = absurd (n refl)
+
+  pub objective_not : (k : Kind) → IsKind s at k → (k ≡ Objective → ⊥) → is_objective s at ≡ false
+  objective_not Comment a n = not_objective s at a
+  objective_not Objective h n = absurd (n refl)
+  objective_not Constraint (a, b) n = b
 
 pub constraints_none : (s : List ℕ) (at : ℕ) → length s ≤ at → constraints_from s at ≡ []
 unfolding constraints_from keep
@@ -81,17 +99,17 @@ wider n (t ∷ ts) l h =
 
 -- The word of its bound.
 module _ (s : List ℕ) (at k : ℕ) (e : k ≡ sum_end s at) (r : Relation) (h : RelationAt s k r) (small : nat_abs (bound_at s at) ≤ 1_000_000_000) where
-  size_is : r.size ≡ number_at s (unsigned_from s (bound_from s (sum_end s at)))
+  size_is : r.bound.size ≡ number_at s (unsigned_from s (bound_from s (sum_end s at)))
   unfolding bound_at integer_at
   size_is =
       let n = number_at s (unsigned_from s (bound_from s (sum_end s at))) in
-      h.size
+      h.bound.size
       ∙ ap (λ j. seen (number_at s (unsigned_from s (bound_from s j)))) e
       ∙ seen_small n (omega (arith, small, size_signed (eqb (get_or s (bound_from s (sum_end s at)) 0) 45) n))
 
-  pub bound_word : {d : ℕ} → d ≡ unsigned (with_sign r.negative r.size) → d ≡ unsigned (bound_at s at)
+  pub bound_word : {d : ℕ} → d ≡ unsigned (with_sign r.bound.negative r.bound.size) → d ≡ unsigned (bound_at s at)
   unfolding bound_at integer_at
-  bound_word f = f ∙ ap₂ (λ b n. unsigned (with_sign b n)) (h.negative ∙ ap (λ j. eqb (get_or s (bound_from s j) 0) 45) e) size_is
+  bound_word f = f ∙ ap₂ (λ b n. unsigned (with_sign b n)) (h.bound.negative ∙ ap (λ j. eqb (get_or s (bound_from s j) 0) 45) e) size_is
 
 pub rule_entry_lem :
     (s : List ℕ) (at first : ℕ) (x : Bool) {a b c d f : ℕ} → x ≡ is_exact s (sum_end s at) → a ≡ first → b ≡ length (sum_at s at)
@@ -107,6 +125,7 @@ pub record Going (s : List ℕ) (at : ℕ) : Type 0 where
   pub inside : at ≤ length s
   pub here : (at < length s → is_constraint s at ≡ true)
   pub right : all (λ k. rule_lawful (variables_in s) (rule_at s k)) (constraints_from s at) ≡ true
+  pub stated_all : all (stated s) (constraints_from s at) ≡ true
 
 pub going_start : (s : List ℕ) (at : ℕ) → Says s → Reaches s (next_line s 0) at → Going s at
 going_start s at e r =
@@ -115,6 +134,7 @@ going_start s at e r =
       inside = r.inside;
       here = r.here;
       right = ap (all (λ k. rule_lawful (variables_in s) (rule_at s k))) (r.same ∙ sym (all_constraints s)) ∙ (said s (plan_of_text s) e).1.rules;
+      stated_all = ap (all (stated s)) (r.same ∙ sym (all_constraints s)) ∙ (said s (plan_of_text s) e).1.stated_all;
     }
 
 module _ {s : List ℕ} {at : ℕ} (g : Going s at) (l : at < length s) where
@@ -127,6 +147,12 @@ module _ {s : List ℕ} {at : ℕ} (g : Going s at) (l : at < length s) where
       let q : all (λ k. rule_lawful (variables_in s) (rule_at s k)) (at ∷ constraints_from s (next_line s at)) ≡ true = ap (all (λ k. rule_lawful (variables_in s) (rule_at s k))) (sym going_split) ∙ g.right in
       (and_left _ _ q, and_right _ _ q)
 
+  both_stated : (stated s at ≡ true) × (all (stated s) (constraints_from s (next_line s at)) ≡ true)
+  unfolding all
+  both_stated =
+      let q : all (stated s) (at ∷ constraints_from s (next_line s at)) ≡ true = ap (all (stated s)) (sym going_split) ∙ g.stated_all in
+      (and_left _ _ q, and_right _ _ q)
+
   pub going_here : ConstraintHere s at
   unfolding rule_at rising plan_of_text
   going_here =
@@ -135,6 +161,8 @@ module _ {s : List ℕ} {at : ℕ} (g : Going s at) (l : at < length s) where
       let r = (rule_parts n (rule_at s at) both.0).terms in
       record {
         inside = g.inside;
+        some = and_left (has_terms s at) (is_bounded s (sum_end s at)) both_stated.0;
+        bounded = and_right (has_terms s at) (is_bounded s (sum_end s at)) both_stated.0;
         bound = bound_small s at n both.0;
         few = omega (arith, terms_short n 0 (sum_at s at) r.rise r.within (omega arith), m);
         range = wider n (sum_at s at) m r.within;
@@ -147,6 +175,7 @@ module _ {s : List ℕ} {at : ℕ} (g : Going s at) (l : at < length s) where
         inside = h.inside;
         here = h.here;
         right = ap (all (λ k. rule_lawful (variables_in s) (rule_at s k))) h.same ∙ both.1;
+        stated_all = ap (all (stated s)) h.same ∙ both_stated.1;
       }
 
 front_same : (o ws : List ℕ) → 4 * length ws ≤ length o → length (front (word_bytes ws) o) ≡ length o
@@ -352,10 +381,10 @@ module _ {s o : List ℕ} {at end : ℕ} {t : List ℕ} (h : TermFill s o at end
     term_part = omega (arith, lent_long end t, term_more_space)
 
     pub term_more :
-        (on count : ℕ) (ys : List ℕ) → Reaches s (next_line s at) on → count ≡ length (sum_at s at)
+        (on size : ℕ) (ys : List ℕ) → Reaches s (next_line s at) on → size ≡ 8 * length (sum_at s at)
         → ys ≡ front (word_bytes (term_entries (sum_at s at))) (mid_of end (length t - end) t)
-        → TermFill s o on (end + 8 * count) (put_mid end (length t - end) t ys)
-    term_more on count ys r q k =
+        → TermFill s o on (end + size) (put_mid end (length t - end) t ys)
+    term_more on size ys r q k =
         let us = sum_at s at in
         let f = terms_lent o t h.done us end ys h.filled h.place term_space k in
         record {
@@ -482,25 +511,18 @@ module _ {clauses : ℕ} {o : List ℕ} {c : ℕ} {t : List ℕ} (h : ClauseFill
 
 -- ---- the objective
 
-no_term_lem : (s : List ℕ) (at : ℕ) → at ≡ length s → is_term s at ≡ false
-unfolding is_term is_integer integer_end ◌and◌
-no_term_lem s at h =
-    let a = sign_none s at h in
-    let b : digits_end s (unsigned_from s at) ≡ unsigned_from s at = sym (run_end_lem is_digit s (unsigned_from s at) (omega (arith, a, h))) in
-    rw (b, le-ltb (unsigned_from s at) (unsigned_from s at) (omega arith))
-
 module _ (s : List ℕ) (at : ℕ) where
-  pub objective_here_lem : {r : ℕ} → at < length s → get_or s at 0 ≡ 109 → r ≡ blanks_end s (word_end min_word s at) → sum_at s r ≡ objective_of s (lines_from s at)
-  unfolding objective_of is_objective sum_from
-  objective_here_lem l e q = rw (line_split s at l, eq-eqb (get_or s at 0) 109 e) (ap (sum_at s) q)
+  pub objective_here_lem : {r : ℕ} → at < length s → is_objective s at ≡ true → r ≡ blanks_end s (word_end min_word s at) → sum_at s r ≡ objective_of s (lines_from s at)
+  unfolding objective_of sum_from
+  objective_here_lem l e q = rw (line_split s at l, e) (ap (sum_at s) q)
 
-  pub objective_on : at < length s → (get_or s at 0 ≡ 109 → ⊥) → objective_of s (lines_from s (next_line s at)) ≡ objective_of s (lines_from s at)
-  unfolding objective_of is_objective
-  objective_on l e = rw (line_split s at l, ne_eqb (get_or s at 0) 109 e)
+  pub objective_on : at < length s → is_objective s at ≡ false → objective_of s (lines_from s (next_line s at)) ≡ objective_of s (lines_from s at)
+  unfolding objective_of
+  objective_on l e = rw (line_split s at l, e)
 
   pub objective_none : at ≤ length s → length s ≤ at → sum_at s at ≡ objective_of s (lines_from s at)
   unfolding objective_of
-  objective_none l k = rw (lines_none s at k) (terms_none s at (length s) (no_term_lem s at (omega arith))).0
+  objective_none l k = rw (lines_none s at k) (sum_none s at (no_term s at k)).0
 
 module _ (s : List ℕ) (e : Says s) (r : ℕ) (q : sum_at s r ≡ objective_of s (lines_from s (next_line s 0))) where
   is_objective_lem : sum_at s r ≡ (plan_of_text s).objective

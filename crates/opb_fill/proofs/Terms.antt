@@ -1,12 +1,11 @@
 -- Laws of a sum written term by term: behind each other, or each at its variable's place.
 -- Assumes nothing.
-use Prim.Native.Nat.{ℕ, zero, suc, ◌+◌, ◌*◌, ◌-◌, ◌≤◌, ◌<◌}
+use Prim.Native.Nat.{ℕ, zero, suc, ◌%◌, ◌+◌, ◌*◌, ◌-◌, ◌≤◌, ◌<◌}
 use native.Mathlib.Omega.{arith}
 use mathlib.Core.Path.{◌≡◌, refl, sym, ap, ap₂, ◌∙◌}
 use mathlib.Core.Bool.{Bool, true, false}
 use mathlib.Core.List.{List, [], ◌∷◌, ◌++◌, append_assoc, append-nil}
 use lib.Dec.{eqb}
-use lib.IntN.{pos, nat_abs}
 use lib.ListN.{length, get_or, length-append}
 use borrow.Author.Tests.{leb-true}
 use borrow.Rule.Slice.PartMut.{mid_of, put_mid}
@@ -19,16 +18,15 @@ use Rattle.format.specs.Layout.{term_size}
 use Rattle.format.specs.Tables.{term_entries}
 use Rattle.format.proofs.Bools.{and_left, and_right}
 use Rattle.format.proofs.Lawful.{term_within, weight_small}
-use Rattle.tables.specs.Sections.{placed, in_range}
 use Rattle.tables.proofs.Entered.{terms_lent, front_long}
 use Rattle.tables.proofs.Dense.{Placing, placing_more}
-use Rattle.tokens.specs.Tokens.{number_at, seen}
+use Rattle.tokens.specs.Tokens.{number_at}
 use Rattle.tokens.proofs.Numbers.{seen_small}
 use Rattle.statements.specs.declared.Weighted.{Weighted}
-use Rattle.statements.specs.Grammar.{unsigned_from, index_from, integer_at, with_sign, is_term, term_at, term_end, terms_from, sum_at}
+use Rattle.statements.specs.Grammar.{unsigned_from, index_from, integer_at, with_sign, is_term, term_at, sum_at}
 use Rattle.statements.specs.Parts.{WeightedAt}
 use Rattle.statements.proofs.Parts.{size_signed}
-use Rattle.statements.proofs.Sums.{terms_some}
+use Rattle.statements.proofs.Sums.{sum_some, sum_none}
 use Rattle.opb_fill.specs.Fill.{InRange}
 
 -- The word of a number with its sign.
@@ -36,15 +34,10 @@ pub positive : (b : Bool) (k : ℕ) → b ≡ false → k ≡ unsigned (with_sig
 unfolding with_sign unsigned
 positive b k e = rw e
 
-pub nothing : (b : Bool) (k : ℕ) → k ≡ 0 → 0 ≡ unsigned (with_sign b k)
+pub negated : (b : Bool) (k r : ℕ) → b ≡ true → k < 4_294_967_296 → r < 4_294_967_296 → (r + k) % 4_294_967_296 ≡ 0 → r ≡ unsigned (with_sign b k)
 unfolding with_sign unsigned
-nothing true k e = rw e
-nothing false k e = sym e
-
-pub negated : (b : Bool) (k : ℕ) → b ≡ true → (k ≡ 0 → ⊥) → 4_294_967_295 - (k - 1) ≡ unsigned (with_sign b k)
-unfolding with_sign unsigned
-negated b zero e n = absurd (n refl)
-negated b (suc k) e n = rw e (ap (λ j. 4_294_967_295 - j) (let q : suc k - 1 ≡ k = omega arith in q))
+negated b zero r e l m h = rw e (omega (arith, h, m))
+negated b (suc k) r e l m h = rw e (omega (arith, h, l, m))
 
 -- What is seen of a term in range is the term.
 module _ (s : List ℕ) (at : ℕ) (t : Weighted) (h : WeightedAt s at t) (r : term_within 512 (term_at s at) ≡ true) where
@@ -52,47 +45,47 @@ module _ (s : List ℕ) (at : ℕ) (t : Weighted) (h : WeightedAt s at t) (r : t
   unfolding term_at term_within
   variable_is = let l = leb-true (number_at s (index_from s at)) 512 (and_left _ _ r) in h.variable ∙ seen_small (number_at s (index_from s at)) (omega arith)
 
-  size_is : t.size ≡ number_at s (unsigned_from s at)
+  size_is : t.weight.size ≡ number_at s (unsigned_from s at)
   unfolding term_at term_within integer_at
   size_is =
       let k = number_at s (unsigned_from s at) in
       let l = weight_small (integer_at s at) (and_right _ _ r) in
-      h.size ∙ seen_small k (omega (arith, l, size_signed (eqb (get_or s at 0) 45) k))
+      h.weight.size ∙ seen_small k (omega (arith, l, size_signed (eqb (get_or s at 0) 45) k))
 
-  pub weight_is : {w : ℕ} → w ≡ unsigned (with_sign t.negative t.size) → w ≡ unsigned (term_at s at).weight
+  pub weight_is : {w : ℕ} → w ≡ unsigned (with_sign t.weight.negative t.weight.size) → w ≡ unsigned (term_at s at).weight
   unfolding term_at integer_at
-  weight_is e = e ∙ ap₂ (λ b k. unsigned (with_sign b k)) h.negative size_is
+  weight_is e = e ∙ ap₂ (λ b k. unsigned (with_sign b k)) h.weight.negative size_is
 
--- The first of the terms left is in range, and so are those behind it.
-module _ (s : List ℕ) (at left : ℕ) (t : Weighted) (h : WeightedAt s at t) (some : t.ok ≡ true) (more : 0 < left) (r : InRange (terms_from left s at)) where
-  pub here_and_rest : terms_from left s at ≡ term_at s at ∷ terms_from (left - 1) s t.next
-  here_and_rest = (terms_some s at left more (sym h.ok ∙ some)).0 ∙ ap (λ k. term_at s at ∷ terms_from (left - 1) s k) (sym h.next)
+-- The first of the terms to come is in range, and so are those behind it.
+module _ (s : List ℕ) (at : ℕ) (t : Weighted) (some : is_term s at ≡ true) (h : WeightedAt s at t) (r : InRange (sum_at s at)) where
+  pub here_and_rest : sum_at s at ≡ term_at s at ∷ sum_at s t.next
+  here_and_rest = (sum_some s at some).0 ∙ ap (λ k. term_at s at ∷ sum_at s k) (sym h.next)
 
-  range_both : (term_within 512 (term_at s at) ≡ true) × InRange (terms_from (left - 1) s t.next)
+  range_both : (term_within 512 (term_at s at) ≡ true) × InRange (sum_at s t.next)
   unfolding all
-  range_both = let q : all (term_within 512) (term_at s at ∷ terms_from (left - 1) s t.next) ≡ true = ap (all (term_within 512)) (sym here_and_rest) ∙ r in (and_left _ _ q, and_right _ _ q)
+  range_both = let q : all (term_within 512) (term_at s at ∷ sum_at s t.next) ≡ true = ap (all (term_within 512)) (sym here_and_rest) ∙ r in (and_left _ _ q, and_right _ _ q)
 
   pub range_here : term_within 512 (term_at s at) ≡ true
   range_here = range_both.0
 
-  pub range_rest : InRange (terms_from (left - 1) s t.next)
+  pub range_rest : InRange (sum_at s t.next)
   range_rest = range_both.1
 
 -- The terms of a sum written one behind the other.
-pub record Written (s : List ℕ) (from : ℕ) (o : List ℕ) (at end left : ℕ) (t : List ℕ) : Type 0 where
+pub record Written (s : List ℕ) (from : ℕ) (o : List ℕ) (at end : ℕ) (t : List ℕ) : Type 0 where
   pub done : List Term
   pub filled : t ≡ front (word_bytes (term_entries done)) o
   pub place : end ≡ 8 * length done
-  pub rest : done ++ terms_from left s at ≡ sum_at s from
-  pub range : InRange (terms_from left s at)
+  pub rest : done ++ sum_at s at ≡ sum_at s from
+  pub range : InRange (sum_at s at)
   pub inside : at ≤ length s
-  pub space : end + 8 * length (terms_from left s at) ≤ length o
+  pub space : end + 8 * length (sum_at s at) ≤ length o
   pub limit : length o ≤ term_size
   pub same : length t ≡ length o
 
 pub written_start :
     (s : List ℕ) (from : ℕ) (o : List ℕ) → from ≤ length s → InRange (sum_at s from) → 8 * length (sum_at s from) ≤ length o → length o ≤ term_size
-    → Written s from o from 0 (length s) o
+    → Written s from o from 0 o
 unfolding term_entries word_bytes
 written_start s from o h r l m =
     record {
@@ -107,24 +100,24 @@ written_start s from o h r l m =
       same = refl;
     }
 
-module _ {s : List ℕ} {from : ℕ} {o : List ℕ} {at end left : ℕ} {t : List ℕ} (h : Written s from o at end left t) where
-  module _ (x : Weighted) (k : WeightedAt s at x) (some : x.ok ≡ true) (more : 0 < left) where
+module _ {s : List ℕ} {from : ℕ} {o : List ℕ} {at end : ℕ} {t : List ℕ} (h : Written s from o at end t) where
+  module _ (x : Weighted) (some : is_term s at ≡ true) (k : WeightedAt s at x) where
     abbrev rest' : List Term
-    rest' = terms_from (left - 1) s x.next
+    rest' = sum_at s x.next
 
-    split : terms_from left s at ≡ term_at s at ∷ rest'
-    split = here_and_rest s at left x k some more h.range
+    split : sum_at s at ≡ term_at s at ∷ rest'
+    split = here_and_rest s at x some k h.range
 
     pub written_space : end + 8 ≤ length t
     written_space = omega (arith, h.space, h.same, ap length split)
 
     pub written_more :
-        (w : ℕ) (ys : List ℕ) → w ≡ unsigned (with_sign x.negative x.size)
+        (w : ℕ) (ys : List ℕ) → w ≡ unsigned (with_sign x.weight.negative x.weight.size)
         → ys ≡ front (word_bytes (x.variable ∷ w ∷ [])) (mid_of end (length t - end) t)
-        → Written s from o x.next (end + 8) (left - 1) (put_mid end (length t - end) t ys)
+        → Written s from o x.next (end + 8) (put_mid end (length t - end) t ys)
     unfolding term_entries
     written_more w ys q e =
-        let r = range_here s at left x k some more h.range in
+        let r = range_here s at x some k h.range in
         let us = term_at s at ∷ [] in
         let e' = e ∙ ap₂ (λ a b. front (word_bytes (a ∷ b ∷ [])) (mid_of end (length t - end) t)) (variable_is s at x k r) (weight_is s at x k r q) in
         let f = terms_lent o t h.done us end ys h.filled h.place (omega (arith, written_space)) e' in
@@ -134,24 +127,24 @@ module _ {s : List ℕ} {from : ℕ} {o : List ℕ} {at end left : ℕ} {t : Lis
           filled = f;
           place = omega (arith, n, h.place);
           rest = append_assoc h.done us rest' ∙ ap (λ l. h.done ++ l) (sym split) ∙ h.rest;
-          range = range_rest s at left x k some more h.range;
+          range = range_rest s at x some k h.range;
           inside = k.inside;
           space = omega (arith, h.space, ap length split);
           limit = h.limit;
           same = ap length f ∙ front_long o (h.done ++ us) (omega (arith, n, h.place, h.space, ap length split));
         }
 
-  pub written_end : terms_from left s at ≡ [] → t ≡ front (word_bytes (term_entries (sum_at s from))) o
-  written_end e =
-      h.filled
-      ∙ ap (λ ts. front (word_bytes (term_entries ts)) o) (sym (append-nil h.done) ∙ ap (λ ts. h.done ++ ts) (sym e) ∙ h.rest)
+  pub written_end : is_term s at ≡ false → (end ≡ 8 * length (sum_at s from)) × (t ≡ front (word_bytes (term_entries (sum_at s from))) o)
+  written_end none =
+      let all_done = sym (append-nil h.done) ∙ ap (λ ts. h.done ++ ts) (sym (sum_none s at none).0) ∙ h.rest in
+      (h.place ∙ ap (λ ts. 8 * length ts) all_done, h.filled ∙ ap (λ ts. front (word_bytes (term_entries ts)) o) all_done)
 
 -- The same, each at its variable's place.
 pub placed_more :
-    (s : List ℕ) (from at left : ℕ) (o t u : List ℕ) (x : Weighted) (k : WeightedAt s at x) (some : x.ok ≡ true) (more : 0 < left)
-    (r : InRange (terms_from left s at)) (w : ℕ) → w ≡ unsigned (with_sign x.negative x.size) → Placing (sum_at s from) o (terms_from left s at) t
-    → u ≡ put (4 * (x.variable - 1)) (bytes_of 4 w) t → Placing (sum_at s from) o (terms_from (left - 1) s x.next) u
-placed_more s from at left o t u x k some more r w q h e =
-    let i = range_here s at left x k some more r in
-    placing_more h _ _ (here_and_rest s at left x k some more r) u
+    (s : List ℕ) (from at : ℕ) (o t u : List ℕ) (x : Weighted) (some : is_term s at ≡ true) (k : WeightedAt s at x)
+    (r : InRange (sum_at s at)) (w : ℕ) → w ≡ unsigned (with_sign x.weight.negative x.weight.size) → Placing (sum_at s from) o (sum_at s at) t
+    → u ≡ put (4 * (x.variable - 1)) (bytes_of 4 w) t → Placing (sum_at s from) o (sum_at s x.next) u
+placed_more s from at o t u x some k r w q h e =
+    let i = range_here s at x some k r in
+    placing_more h _ _ (here_and_rest s at x some k r) u
     (e ∙ ap₂ (λ a b. put (4 * (a - 1)) (bytes_of 4 b) t) (variable_is s at x k i) (weight_is s at x k i q))

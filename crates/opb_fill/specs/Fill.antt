@@ -5,7 +5,7 @@ use Rattle.plpb.specs.Lists.{all, keep}
 use Rattle.plpb.specs.Plan.{Term}
 use Rattle.format.specs.File.{accepted}
 use Rattle.format.proofs.Lawful.{term_within}
-use Rattle.statements.specs.Grammar.{is_constraint, sum_at, bound_at}
+use Rattle.statements.specs.Grammar.{is_constraint, sum_at, sum_end, has_terms, is_bounded, bound_at}
 use Rattle.opb_lines.specs.ReadText.{plan_of_text, read_text}
 use Rattle.opb_lines.specs.Lines.{lines_from}
 
@@ -27,9 +27,11 @@ pub record Reaches (s : List ℕ) (from r : ℕ) : Type 0 where
 abbrev pub InRange : List Term → Type 0
 InRange ts = all (term_within 512) ts ≡ true
 
--- A constraint whose bound is in range, and which has no more terms than a plan may have.
+-- A constraint that has a sum and a bound, which is in range, and no more terms than a plan may have.
 pub record ConstraintHere (s : List ℕ) (at : ℕ) : Type 0 where
   pub inside : at ≤ length s
+  pub some : has_terms s at ≡ true
+  pub bounded : is_bounded s (sum_end s at) ≡ true
   pub bound : nat_abs (bound_at s at) ≤ 1_000_000_000
   pub few : length (sum_at s at) ≤ 6_000
   pub range : InRange (sum_at s at)

@@ -9,26 +9,15 @@ ghost use Rattle.format.specs.Limits.{term_count};
 ghost use Rattle.format.specs.Layout.{clause_section_size, rule_section_size, term_size};
 ghost use Rattle.format.specs.Tables.{rule_entries, term_entries, term_words};
 ghost use Rattle.tables.specs.Sections.{objective_words, clause_words, rule_words, placed, in_range};
-ghost use Rattle.statements.specs.Grammar.{is_constraint, sum_at, rule_at, with_sign};
+ghost use Rattle.statements.specs.Grammar.{sum_at, rule_at, with_sign};
 ghost use Rattle.opb_lines.specs.ReadText.{plan_of_text, objective_of};
 ghost use Rattle.opb_lines.specs.Lines.{next_line, lines_from};
 ghost use Rattle.opb_fill.specs.Fill.{Says, constraints_from, Reaches, InRange, ConstraintHere};
 
 use opb_lines::next_line;
-use statements::{relation_at, sum_at, term_at};
+use statements::{Kind, Signed, kind_at, objective_sum, relation_at, sum_at, term_at};
 use tables::entries::{put_clause, put5};
-use tokens::{past_blanks, past_word};
 use words::{clear, narrow, write_two, write_u32};
-
-fn is_constraint(s: &[u8], at: usize) -> bool
-    requires { at < length s.now }
-    ensures { result ≡ is_constraint s.now at }
-{
-    if s[at] == 42 {
-        return false;
-    }
-    s[at] != 109
-}
 
 // The first constraint from a line on, or the end of the text.
 fn constraint_from(s: &[u8], from: usize) -> usize
@@ -37,7 +26,7 @@ fn constraint_from(s: &[u8], from: usize) -> usize
 {
     let mut at = from;
     while at < s.len() {
-        if is_constraint(s, at) {
+        if let Kind::Constraint = kind_at(s, at) {
             return at;
         }
         at = next_line(s, at);
@@ -54,22 +43,14 @@ fn constraint_behind(s: &[u8], at: usize) -> usize
 }
 
 // The word of a signed number.
-fn signed_word(negative: bool, size: u32) -> u32
-    ensures { result ≡ unsigned (with_sign negative size) }
+fn signed_word(number: Signed) -> u32
+    ensures { result ≡ unsigned (with_sign number.negative number.size) }
 {
-    if !negative {
-        return size;
+    if number.negative {
+        number.size.wrapping_neg()
+    } else {
+        number.size
     }
-    if size == 0 {
-        return 0;
-    }
-    4294967295 - (size - 1)
-}
-
-fn either(which: bool, a: u32, b: u32) -> u32
-    ensures { result ≡ cond which a b }
-{
-    if which { a } else { b }
 }
 
 // A constraint's rule: `>=` has a lower bound, "`=` in mode 3"; it answers how many terms it has.
@@ -78,11 +59,11 @@ fn put_rule(s: &[u8], at: usize, first: usize, out: &mut [u8]) -> usize
     ensures { (result ≡ length (sum_at s.now at))
         × (out.new ≡ front (word_bytes (rule_entries first (rule_at s.now at ∷ []))) out.old) }
 {
-    let sum = sum_at(s, at, 0);
-    let relation = relation_at(s, sum.next);
-    let bound = signed_word(relation.negative, relation.size);
-    let mode = either(relation.exact, 3, 1);
-    let upper = either(relation.exact, bound, 0);
+    let sum = sum_at(s, at, 0).unwrap();
+    let relation = relation_at(s, sum.next).unwrap();
+    let bound = signed_word(relation.bound);
+    let mode = if relation.exact { 3 } else { 1 };
+    let upper = if relation.exact { bound } else { 0 };
     put5(out, narrow(first), narrow(sum.count), mode, bound, upper);
     sum.count
 }
@@ -123,11 +104,9 @@ pub fn clause_section(s: &[u8], clauses: usize, out: &mut [u8])
     requires clauses_value { (clauses ≡ length (plan_of_text s.now).clauses) × (length out.old ≡ clause_section_size) }
     ensures { out.new ≡ word_bytes (clause_words (plan_of_text s.now)) }
 {
-    let mut c = 0;
-    while c < clauses {
+    for c in 0..clauses {
         let place = 8 * c;
         put_clause(&mut out[place..], c, 1);
-        c += 1;
     }
     let end = 8 * clauses;
     clear(&mut out[end..]);
@@ -140,29 +119,20 @@ fn put_term(out: &mut [u8], variable: u32, weight: u32)
     write_two(out, 0, variable, weight);
 }
 
-// The terms of a sum, one behind the other.
-fn put_sum(s: &[u8], from: usize, out: &mut [u8])
+// The terms of a sum, one behind the other; it answers how many bytes they take.
+fn put_sum(s: &[u8], from: usize, out: &mut [u8]) -> usize
     requires { (from ≤ length s.now) × InRange (sum_at s.now from) × (8 * length (sum_at s.now from) ≤ length out.old)
         × (length out.old ≤ term_size) }
-    ensures { out.new ≡ front (word_bytes (term_entries (sum_at s.now from))) out.old }
+    ensures { (result ≡ 8 * length (sum_at s.now from)) × (out.new ≡ front (word_bytes (term_entries (sum_at s.now from))) out.old) }
 {
     let mut at = from;
     let mut end = 0;
-    let mut left = s.len();
-    while 0 < left {
-        let term = term_at(s, at);
-        if !term.ok {
-            return;
-        }
-        put_term(
-            &mut out[end..],
-            term.variable,
-            signed_word(term.negative, term.size),
-        );
+    while let Some(term) = term_at(s, at) {
+        put_term(&mut out[end..], term.variable, signed_word(term.weight));
         at = term.next;
         end += 8;
-        left -= 1;
     }
+    end
 }
 
 // The terms of the rules: the term table is lent from its current end onward to the function that writes one rule's terms.
@@ -174,9 +144,7 @@ pub fn term_section(s: &[u8], terms: &mut [u8])
     let mut at = constraint_behind(s, 0);
     let mut end = 0;
     while at < s.len() {
-        put_sum(s, at, &mut terms[end..]);
-        let sum = sum_at(s, at, 0);
-        end += 8 * sum.count;
+        end += put_sum(s, at, &mut terms[end..]);
         at = constraint_behind(s, at);
     }
     clear(&mut terms[end..]);
@@ -196,15 +164,9 @@ fn put_coefficients(s: &[u8], from: usize, out: &mut [u8])
     ensures { out.new ≡ placed (sum_at s.now from) out.old }
 {
     let mut at = from;
-    let mut left = s.len();
-    while 0 < left {
-        let term = term_at(s, at);
-        if !term.ok {
-            return;
-        }
-        put_coefficient(out, term.variable, signed_word(term.negative, term.size));
+    while let Some(term) = term_at(s, at) {
+        put_coefficient(out, term.variable, signed_word(term.weight));
         at = term.next;
-        left -= 1;
     }
 }
 
@@ -215,8 +177,8 @@ fn objective_begins(s: &[u8]) -> usize
 {
     let mut at = next_line(s, 0);
     while at < s.len() {
-        if s[at] == 109 {
-            return past_blanks(s, past_word(s, at, b"min:"));
+        if let Kind::Objective = kind_at(s, at) {
+            return objective_sum(s, at);
         }
         at = next_line(s, at);
     }

@@ -2,19 +2,22 @@
 -- Assumes nothing.
 use Prim.Native.Nat.{ℕ, ◌+◌, ◌≤◌, ◌<◌}
 use native.Mathlib.Omega.{arith}
-use mathlib.Core.Path.{◌≡◌, refl, sym, ap, ap₂, ◌∙◌}
-use mathlib.Core.Bool.{Bool, true, false, not, cond}
+use mathlib.Core.Path.{◌≡◌, refl, sym, ap, ◌∙◌}
+use mathlib.Core.Bool.{Bool, true, false, not}
 use mathlib.Core.List.{List, [], ◌∷◌}
 use lib.Dec.{leb, ltb, eqb}
 use lib.IntN.{nat_abs}
-use lib.ListN.{length, get_or}
-use borrow.Author.Tests.{eq-eqb, ne_eqb, le-leb, lt-leb, leb-false, ltb-false}
-use Rattle.plpb.specs.Lists.{◌and◌, ◌or◌, is_empty}
+use lib.ListN.{length, get_or, drop}
+use borrow.Author.Tests.{le-leb, lt-leb, leb-false, ltb-false}
+use Rattle.plpb.specs.Lists.{◌or◌, is_empty}
 use Rattle.format.specs.File.{refuse}
-use Rattle.tokens.specs.Tokens.{line_end, number_at, seen}
+use Rattle.std.specs.Prelude.{Option, Some, None, is_some}
+use Rattle.tokens.specs.Tokens.{blanks_end, line_end, number_at, begins, word_end, seen}
+use Rattle.tokens.specs.Found.{Found, EndsAt}
+use Rattle.tokens.proofs.Runs.{word_there}
 use Rattle.tokens.proofs.Numbers.{seen_ltb}
 use Rattle.statements.specs.declared.Sum.{Sum}
-use Rattle.statements.specs.Grammar.{unsigned_from, integer_at, bound_from, bound_at, is_comment, is_objective, sum_from, sum_at, sum_end, terms_in, closes}
+use Rattle.statements.specs.Grammar.{unsigned_from, integer_at, bound_from, bound_at, is_comment, is_objective, min_word, sum_from, sum_at, sum_end, terms_in}
 use Rattle.statements.specs.Parts.{SumAt}
 use Rattle.statements.proofs.Parts.{size_signed}
 use Rattle.opb_lines.specs.ReadText.{variables_in, first_met, objective_fault, constraint_fault, fault}
@@ -37,20 +40,46 @@ pub met_same :
     {a a' b b' c c' d d' e e' : Bool} → a ≡ a' → b ≡ b' → c ≡ c' → d ≡ d' → e ≡ e' → first_met (not a) b c d (not e) ≡ first_met (not a') b' c' d' (not e')
 met_same p q r u v i = first_met (not (p i)) (q i) (r i) (u i) (not (v i))
 
-empty_is : {A : Type 0} (xs : List A) → length xs ≡ 0 → is_empty xs ≡ true
-unfolding is_empty
-empty_is [] e = refl
-empty_is (x ∷ xs) e = absurd (omega arith)
+-- A sum without a term is malformed, before anything else is looked at.
+pub refused_none : (b : Bool) (x : ℕ) → not b ≡ false → 31 ≡ refuse b 31 x
+unfolding refuse
+refused_none true x h = refl
+refused_none false x h = absurd (false_true (sym h))
 
-pub some_is : {A : Type 0} (xs : List A) → (length xs ≡ 0 → ⊥) → is_empty xs ≡ false
-unfolding is_empty
-some_is [] n = absurd (n refl)
-some_is (x ∷ xs) n = refl
+pub refused_late : (b : Bool) {x : ℕ} → 31 ≡ x → 31 ≡ refuse b 31 x
+unfolding refuse
+refused_late true h = refl
+refused_late false h = h
 
--- Where the sum of a constraint begins.
-pub sum_plain : (s : List ℕ) (at : ℕ) → (get_or s at 0 ≡ 109 → ⊥) → sum_from s at ≡ at
-unfolding sum_from is_objective
-sum_plain s at h = rw (ne_eqb _ 109 h)
+pub refused_some : (b : Bool) (x : ℕ) → not b ≡ true → x ≡ refuse b 31 x
+unfolding refuse
+refused_some true x h = absurd (false_true h)
+refused_some false x h = refl
+
+pub refused_zero : (b : Bool) (x : ℕ) → refuse b 31 x ≡ 0 → (b ≡ false) × (x ≡ 0)
+unfolding refuse
+refused_zero true x h = absurd (omega arith)
+refused_zero false x h = (refl, h)
+
+-- A statement that is not formed is malformed.
+pub malformed_is : {a : Bool} (b c d e : Bool) → a ≡ false → 31 ≡ first_met (not a) b c d e
+unfolding first_met refuse
+malformed_is b c d e h = rw h
+
+-- "min:" is there where its end is behind its place.
+pub named_is : (s : List ℕ) (at : ℕ) (r : Option ℕ) → Found (begins min_word (drop at s)) (EndsAt s (word_end min_word s at)) r → is_some r ≡ ltb at (word_end min_word s at)
+named_is s at None e = sym (word_there 109 (105 ∷ 110 ∷ 58 ∷ []) s at ∙ e)
+named_is s at (Some k) (e, h) = sym (word_there 109 (105 ∷ 110 ∷ 58 ∷ []) s at ∙ e)
+
+-- Where the sum of a statement begins.
+module _ (s : List ℕ) (at : ℕ) where
+  pub sum_behind : is_objective s at ≡ true → blanks_end s (word_end min_word s at) ≡ sum_from s at
+  unfolding sum_from
+  sum_behind h = rw h
+
+  pub sum_plain : is_objective s at ≡ false → at ≡ sum_from s at
+  unfolding sum_from
+  sum_plain h = rw h
 
 pub sum_moved : {s : List ℕ} {x y n m : ℕ} {r : Sum} → x ≡ y → n ≡ m → SumAt s x n r → SumAt s y m r
 sum_moved e f h = rw (sym e, sym f) h
@@ -83,15 +112,12 @@ module _ (s : List ℕ) (free : Bool) (c t at : ℕ) where
     fault_comment h = rw (lt-leb (length s) (line_end s at) l, h)
 
     module _ (k : is_comment s at ≡ false) where
-      pub fault_none : length (terms_in s at) ≡ 0 → fault (variables_in s) s free c t at ≡ 31
+      pub fault_objective :
+          is_objective s at ≡ true → fault (variables_in s) s free c t at ≡ refuse (is_empty (terms_in s at)) 31 (objective_fault (variables_in s) s free at)
       unfolding fault refuse
-      fault_none h = rw (lt-leb (length s) (line_end s at) l, k, empty_is (terms_in s at) h)
+      fault_objective h = rw (lt-leb (length s) (line_end s at) l, k, h)
 
-      module _ (m : length (terms_in s at) ≡ 0 → ⊥) where
-        pub fault_objective : is_objective s at ≡ true → fault (variables_in s) s free c t at ≡ objective_fault (variables_in s) s free at
-        unfolding fault refuse
-        fault_objective h = rw (lt-leb (length s) (line_end s at) l, k, some_is (terms_in s at) m, h)
-
-        pub fault_constraint : is_objective s at ≡ false → fault (variables_in s) s free c t at ≡ constraint_fault (variables_in s) s c t at
-        unfolding fault refuse
-        fault_constraint h = rw (lt-leb (length s) (line_end s at) l, k, some_is (terms_in s at) m, h)
+      pub fault_constraint :
+          is_objective s at ≡ false → fault (variables_in s) s free c t at ≡ refuse (is_empty (terms_in s at)) 31 (constraint_fault (variables_in s) s c t at)
+      unfolding fault refuse
+      fault_constraint h = rw (lt-leb (length s) (line_end s at) l, k, h)

@@ -1,84 +1,89 @@
 -- A line judged, and the lines behind it.
 -- Assumes nothing.
-use Prim.Native.Nat.{ℕ, ◌+◌, ◌-◌, ◌≤◌, ◌<◌}
+use Prim.Native.Nat.{ℕ, ◌+◌, ◌≤◌, ◌<◌}
 use native.Mathlib.Omega.{arith}
 use mathlib.Core.Path.{◌≡◌, sym, ap, subst, ◌∙◌}
-use mathlib.Core.Bool.{Bool, true, false, not, cond}
-use mathlib.Core.List.{List, [], ◌∷◌}
-use lib.Dec.{leb, ltb, eqb}
+use mathlib.Core.Bool.{true, false}
+use mathlib.Core.List.{List}
+use lib.Dec.{eqb}
 use lib.ListN.{length, drop}
 use borrow.Author.Tests.{eq-eqb, ne_eqb, lt-ltb, le-leb, lt-leb}
-use Rattle.plpb.specs.Lists.{◌and◌}
+use Rattle.plpb.specs.Lists.{◌and◌, is_empty}
 use Rattle.plpb.specs.Plan.{Plan}
-use Rattle.format.specs.File.{Reading, refused, accepted}
-use Rattle.tokens.specs.Tokens.{most, seen}
+use Rattle.format.specs.File.{Reading, refuse}
+use Rattle.tokens.specs.Tokens.{seen}
 use Rattle.tokens.proofs.Numbers.{seen_eqb, seen_below, seen_le}
-use Rattle.statements.specs.Grammar.{is_comment, is_objective, sum_at}
-use Rattle.verdict.specs.Answers.{outcome}
-use Rattle.verdict.specs.declared.Answer.{Answer}
-use Rattle.verdict.specs.declared.Answer.TheVariants.{Accepted, Refused}
-use Rattle.opb_lines.specs.ReadText.{variables_in, constraints_in, first_formed, plan_of_text, starts, objective_fault, constraint_fault, fault, judging, read_text}
+use Rattle.statements.specs.Grammar.{is_comment, is_objective, sum_at, terms_in}
+use Rattle.verdict.specs.Answers.{Answer, Accepted, Refused, outcome}
+use Rattle.opb_lines.specs.ReadText.{variables_in, constraints_in, first_formed, starts, objective_fault, constraint_fault, fault, judging, read_text}
 use Rattle.opb_lines.specs.Lines.{next_line, lines_from}
 use Rattle.opb_lines.proofs.Lines.{lines_here, lines_none, lines_behind}
 use Rattle.opb_judge.specs.declared.Passed.{Passed}
-use Rattle.opb_judge.specs.declared.Step.{Step}
-use Rattle.opb_judge.specs.declared.Step.TheVariants.{Go, Stop}
-use Rattle.opb_judge.specs.Steps.{OnFault, Steps, fault_in}
-use Rattle.opb_judge.proofs.Faults.{constraint_few}
+use Rattle.opb_judge.specs.declared.Fault.{Fault}
+use Rattle.opb_judge.specs.declared.Fault.TheVariants.{Malformed, VariableAbove, ConstraintsMiscounted, OutOfRange, TermsUnlawful, BoundWide}
+use Rattle.std.specs.Prelude.{Result, Ok, Err}
+use Rattle.opb_judge.specs.Steps.{number_of, OnFault, Steps}
+use Rattle.opb_judge.proofs.Faults.{refused_zero, constraint_few}
+
+number_some : (f : Fault) → 0 < number_of f
+number_some Malformed = omega arith
+number_some VariableAbove = omega arith
+number_some ConstraintsMiscounted = omega arith
+number_some OutOfRange = omega arith
+number_some TermsUnlawful = omega arith
+number_some BoundWide = omega arith
 
 module _ (s : List ℕ) (at : ℕ) (p : Passed) where
   abbrev found : ℕ
   found = fault (variables_in s) s p.free p.constraints p.terms at
 
-  pub stopping : (number : ℕ) → found ≡ number → 0 < number → Steps s at p (Stop number)
-  unfolding Steps judging
-  stopping number e h ats = rw (e, lt-ltb 0 number h)
+  pub stopping : (f : Fault) → found ≡ number_of f → Steps s at p (Err f)
+  unfolding judging
+  stopping f e ats = rw (e, lt-ltb 0 (number_of f) (number_some f))
 
-  pub past_comment : found ≡ 0 → is_comment s at ≡ true → Steps s at p (Go p)
-  unfolding Steps judging
+  pub past_comment : found ≡ 0 → is_comment s at ≡ true → Steps s at p (Ok p)
+  unfolding judging
   past_comment e h = ((λ ats. rw (e, h)), λ k. k)
 
   module _ (none : is_comment s at ≡ false) where
     pub past_objective :
-        (step : Step) → is_objective s at ≡ true → found ≡ objective_fault (variables_in s) s p.free at
-        → OnFault (objective_fault (variables_in s) s p.free at) (record { free = false; constraints = p.constraints; terms = p.terms }) step
+        (step : Result Passed Fault) → is_objective s at ≡ true → found ≡ refuse (is_empty (terms_in s at)) 31 (objective_fault (variables_in s) s p.free at)
+        → OnFault (refuse (is_empty (terms_in s at)) 31 (objective_fault (variables_in s) s p.free at)) (record { free = false; constraints = p.constraints; terms = p.terms }) step
         → Steps s at p step
-    unfolding Steps judging OnFault
-    past_objective (Go q) h e (z, r) =
+    unfolding judging
+    past_objective (Ok q) h e (z, r) =
         ((λ ats. let y : found ≡ 0 = e ∙ z in rw (y, none, h) (ap (λ x. judging s x.free x.constraints x.terms ats) (sym r))), λ k. rw r k)
-    past_objective (Stop number) h e (z, r) = stopping number (e ∙ sym z) (rw z r)
+    past_objective (Err f) h e z = stopping f (e ∙ sym z)
 
     pub past_constraint :
-        (step : Step) → is_objective s at ≡ false → found ≡ constraint_fault (variables_in s) s p.constraints p.terms at
-        → OnFault (constraint_fault (variables_in s) s p.constraints p.terms at)
+        (step : Result Passed Fault) → is_objective s at ≡ false → found ≡ refuse (is_empty (terms_in s at)) 31 (constraint_fault (variables_in s) s p.constraints p.terms at)
+        → OnFault (refuse (is_empty (terms_in s at)) 31 (constraint_fault (variables_in s) s p.constraints p.terms at))
         (record { free = false; constraints = p.constraints + 1; terms = p.terms + length (sum_at s at) }) step
         → Steps s at p step
-    unfolding Steps judging OnFault
-    past_constraint (Go q) h e (z, r) =
-        let few = constraint_few (variables_in s) s p.constraints p.terms at z in (
+    unfolding judging
+    past_constraint (Ok q) h e (z, r) =
+        let few = constraint_few (variables_in s) s p.constraints p.terms at (refused_zero _ _ z).1 in (
           (λ ats. let y : found ≡ 0 = e ∙ z in rw (y, none, h) (ap (λ x. judging s x.free x.constraints x.terms ats) (sym r))),
           (λ k. rw r (omega arith)),
         )
-    past_constraint (Stop number) h e (z, r) = stopping number (e ∙ sym z) (rw z r)
+    past_constraint (Err f) h e z = stopping f (e ∙ sym z)
 
 -- The lines from a place on, once the first of them is judged.
-module _ (s : List ℕ) (at : ℕ) (p : Passed) (step : Step) (h : Steps s at p step) (l : at < length s) where
+module _ (s : List ℕ) (at : ℕ) (p : Passed) (step : Result Passed Fault) (h : Steps s at p step) (l : at < length s) where
   abbrev now : Reading Plan
   now = judging s p.free p.constraints p.terms (lines_from s at)
 
-  pub judged_stop : (number : ℕ) → step ≡ Stop number → outcome now ≡ Refused (fault_in step) at
-  unfolding Steps outcome fault_in
-  judged_stop number e =
+  pub judged_stop : (f : Fault) → step ≡ Err f → outcome now ≡ Refused (number_of f) at
+  unfolding outcome
+  judged_stop f e =
       let g = subst (Steps s at p) e h in
       ap (λ ats. outcome (judging s p.free p.constraints p.terms ats)) (lines_here s at l)
       ∙ ap outcome (g (starts at (drop at s)))
-      ∙ ap (λ x. Refused (fault_in x) at) (sym e)
 
   pub judged_go :
-      (q : Passed) → step ≡ Go q → {k : ℕ} → k ≡ next_line s at
+      (q : Passed) → step ≡ Ok q → {k : ℕ} → k ≡ next_line s at
       → (outcome (judging s q.free q.constraints q.terms (lines_from s k)) ≡ outcome now)
       × (p.constraints ≤ 512 → q.constraints ≤ 512)
-  unfolding Steps
   judged_go q e {k} f =
       let g = subst (Steps s at p) e h in (
         ap (λ ats. outcome (judging s q.free q.constraints q.terms ats)) (ap (lines_from s) f ∙ sym (lines_behind s at (omega arith)))

@@ -4,16 +4,16 @@
 ghost use Rattle.std.specs.Prelude.{◌≡◌, true, false, not, ◌+◌, ◌≤◌, ◌<◌, leb, ltb, length};
 ghost use Rattle.plpb.specs.Lists.{◌or◌};
 ghost use Rattle.tokens.specs.Tokens.{run_end, is_inside, seen};
-ghost use Rattle.statements.specs.Grammar.{sum_from, closes, sum_at};
+ghost use Rattle.statements.specs.Grammar.{is_objective, sum_from, closes, sum_at};
 ghost use Rattle.statements.specs.Parts.{SumAt};
-ghost use Rattle.verdict.specs.Answers.{outcome};
-ghost use Rattle.opb_lines.specs.ReadText.{variables_in, constraints_in, starts, first_met, objective_fault, constraint_fault, judging, read_text};
-ghost use Rattle.opb_judge.specs.Steps.{OnFault, Steps, fault_in};
+ghost use Rattle.verdict.specs.Answers.{Refused, outcome};
+ghost use Rattle.opb_lines.specs.ReadText.{variables_in, constraints_in, starts, first_met, judging, read_text};
+ghost use Rattle.opb_judge.specs.Steps.{objective_line, constraint_line, number_of, Finds, OnFault, Steps};
 
 use opb_lines::{first_line, next_line};
-use statements::{Sum, relation_at, sum_at};
-use tokens::{byte, line_end, past_blanks, past_word};
-use verdict::Answer;
+use statements::{Kind, Sum, kind_at, objective_sum, relation_at, sum_at};
+use tokens::{byte, line_end, past_word};
+use verdict::Refusal;
 
 // What the lines passed have: whether an objective may still stand, how many constraints there are, and how many terms these have.
 #[derive(Clone, Copy)]
@@ -23,11 +23,44 @@ pub struct Passed {
     pub terms: usize,
 }
 
-// One line read: what is passed behind it, or its refusal's number.
+// What is wrong with a text or a line of it.
+#[derive(Clone, Copy, Debug, PartialEq, Eq)]
+pub enum Fault {
+    Malformed,
+    VariableAbove,
+    ConstraintsMiscounted,
+    OutOfRange,
+    TermsUnlawful,
+    BoundWide,
+}
+
+impl Fault {
+    // Its number in a refusal.
+    fn number(self) -> u32
+        ensures { result ≡ number_of self }
+    {
+        match self {
+            Fault::Malformed => 31,
+            Fault::VariableAbove => 32,
+            Fault::ConstraintsMiscounted => 32,
+            Fault::OutOfRange => 4,
+            Fault::TermsUnlawful => 5,
+            Fault::BoundWide => 6,
+        }
+    }
+}
+
+// A line of a text of n variables, and where it ends.
 #[derive(Clone, Copy)]
-pub enum Step {
-    Go(Passed),
-    Stop(u32),
+pub struct Line<'a> {
+    pub text: &'a [u8],
+    pub at: usize,
+    pub end: usize,
+    pub n: u32,
+    ghost inside: { at ≤ length text.now },
+    ghost ends: { end ≡ run_end is_inside text.now at },
+    ghost named: { n ≡ variables_in text.now },
+    ghost few: { n ≤ 512 },
 }
 
 // ";" and the line feed that ends the line.
@@ -35,49 +68,42 @@ fn closed(s: &[u8], at: usize, end: usize) -> bool
     requires { at ≤ length s.now }
     ensures { result ≡ closes s.now at end }
 {
-    if byte(s, at) != 59 {
+    if byte(s, at) != b';' {
         return false;
     }
     at + 1 == end
 }
 
-// Where the sum of a line begins: behind "min:" and blanks, or at once.
-fn sum_begins(s: &[u8], at: usize) -> usize
-    requires { at ≤ length s.now }
-    ensures { (result ≡ sum_from s.now at) × (result ≤ length s.now) }
+// "32 for a variable above n, then 4 to 6 as in a plan": the first that a formed statement meets.
+fn first_met(above: bool, full: bool, wide: bool, lawful: bool) -> Result<(), Fault>
+    ensures { Finds (first_met false above full wide (not lawful)) result }
 {
-    if byte(s, at) == 109 {
-        return past_blanks(s, past_word(s, at, b"min:"));
-    }
-    at
-}
-
-// "31 for malformed text, 32 for a variable above n, then 4 to 6 as in a plan": the first that is met.
-fn first_met(formed: bool, above: bool, full: bool, wide: bool, lawful: bool) -> u32
-    ensures { result ≡ first_met (not formed) above full wide (not lawful) }
-{
-    if !formed {
-        return 31;
-    }
     if above {
-        return 32;
+        return Err(Fault::VariableAbove);
     }
     if full {
-        return 4;
+        return Err(Fault::OutOfRange);
     }
     if wide {
-        return 6;
+        return Err(Fault::BoundWide);
     }
-    if lawful { 0 } else { 5 }
+    if lawful {
+        Ok(())
+    } else {
+        Err(Fault::TermsUnlawful)
+    }
 }
 
-fn objective_fault(s: &[u8], at: usize, end: usize, sum: Sum, free: bool) -> u32
-    requires { (at ≤ length s.now) × (end ≡ run_end is_inside s.now at) × SumAt s.now (sum_from s.now at) (variables_in s.now) sum }
-    ensures { result ≡ objective_fault (variables_in s.now) s.now free at }
+fn objective_fault(line: Line<'_>, sum: Sum, free: bool) -> Result<(), Fault>
+    requires { SumAt line.text.now (sum_from line.text.now line.at) (variables_in line.text.now) sum }
+    ensures { Finds (objective_line line.entry.text.now free line.entry.at) result }
 {
-    let behind = past_word(s, at, b"min:");
-    let formed = free & ((at < behind) & closed(s, sum.next, end));
-    first_met(formed, sum.above, false, false, sum.lawful)
+    let named = past_word(line.text, line.at, b"min:").is_some();
+    let formed = free & (named & closed(line.text, sum.next, line.end));
+    if !formed {
+        return Err(Fault::Malformed);
+    }
+    first_met(sum.above, false, false, sum.lawful)
 }
 
 // "4: [..] the 513th clause, [..] or a field that brings terms of rules above 6,000."
@@ -93,86 +119,88 @@ fn full(constraints: usize, terms: usize, more: usize) -> bool
     6000 - terms < more
 }
 
-fn constraint_fault(s: &[u8], at: usize, end: usize, sum: Sum, passed: Passed) -> u32
-    requires { (end ≡ run_end is_inside s.now at) × SumAt s.now at (variables_in s.now) sum }
-    ensures { result ≡ constraint_fault (variables_in s.now) s.now passed.constraints passed.terms at }
+fn constraint_fault(line: Line<'_>, sum: Sum, passed: Passed) -> Result<(), Fault>
+    requires { SumAt line.text.now line.at (variables_in line.text.now) sum × (is_objective line.text.now line.at ≡ false) }
+    ensures { Finds (constraint_line line.entry.text.now passed.constraints passed.terms line.entry.at) result }
 {
-    let relation = relation_at(s, sum.next);
-    let formed = relation.ok & closed(s, relation.next, end);
+    let Some(relation) = relation_at(line.text, sum.next) else {
+        return Err(Fault::Malformed);
+    };
+    if !closed(line.text, relation.next, line.end) {
+        return Err(Fault::Malformed);
+    }
     let past = full(passed.constraints, passed.terms, sum.count);
     first_met(
-        formed,
         sum.above,
         past,
-        1000000000 < relation.size,
+        1000000000 < relation.bound.size,
         sum.lawful,
     )
 }
 
-fn objective_step(s: &[u8], at: usize, end: usize, sum: Sum, passed: Passed) -> Step
-    requires { (at ≤ length s.now) × (end ≡ run_end is_inside s.now at) × SumAt s.now (sum_from s.now at) (variables_in s.now) sum }
-    ensures { OnFault (objective_fault (variables_in s.now) s.now passed.free at)
+fn objective_step(line: Line<'_>, passed: Passed) -> Result<Passed, Fault>
+    requires { is_objective line.text.now line.at ≡ true }
+    ensures { OnFault (objective_line line.entry.text.now passed.free line.entry.at)
         (record { free = false; constraints = passed.constraints; terms = passed.terms }) result }
 {
-    let fault = objective_fault(s, at, end, sum, passed.free);
-    if fault != 0 {
-        return Step::Stop(fault);
-    }
-    Step::Go(Passed {
+    let Some(sum) = sum_at(line.text, objective_sum(line.text, line.at), line.n) else {
+        return Err(Fault::Malformed);
+    };
+    objective_fault(line, sum, passed.free)?;
+    Ok(Passed {
         free: false,
         constraints: passed.constraints,
         terms: passed.terms,
     })
 }
 
-fn constraint_step(s: &[u8], at: usize, end: usize, sum: Sum, passed: Passed) -> Step
-    requires { (end ≡ run_end is_inside s.now at) × SumAt s.now at (variables_in s.now) sum }
-    ensures { OnFault (constraint_fault (variables_in s.now) s.now passed.constraints passed.terms at)
-        (record { free = false; constraints = passed.constraints + 1; terms = passed.terms + length (sum_at s.now at) }) result }
+fn constraint_step(line: Line<'_>, passed: Passed) -> Result<Passed, Fault>
+    requires { is_objective line.text.now line.at ≡ false }
+    ensures { OnFault (constraint_line line.entry.text.now passed.constraints passed.terms line.entry.at)
+        (record { free = false; constraints = passed.constraints + 1; terms = passed.terms + length (sum_at line.entry.text.now line.entry.at) }) result }
 {
-    let fault = constraint_fault(s, at, end, sum, passed);
-    if fault != 0 {
-        return Step::Stop(fault);
-    }
-    Step::Go(Passed {
+    let Some(sum) = sum_at(line.text, line.at, line.n) else {
+        return Err(Fault::Malformed);
+    };
+    constraint_fault(line, sum, passed)?;
+    Ok(Passed {
         free: false,
         constraints: passed.constraints + 1,
         terms: passed.terms + sum.count,
     })
 }
 
-fn judge_line(s: &[u8], at: usize, n: u32, passed: Passed) -> Step
+fn judge_line(s: &[u8], at: usize, n: u32, passed: Passed) -> Result<Passed, Fault>
     requires { (at ≤ length s.now) × (n ≡ variables_in s.now) × (n ≤ 512) }
     ensures { Steps s.now at passed result }
 {
     let end = line_end(s, at);
     if end == s.len() {
-        return Step::Stop(31);
+        return Err(Fault::Malformed);
     }
-    let kind = byte(s, at);
-    if kind == 42 {
-        return Step::Go(passed);
+    let line = Line {
+        text: s,
+        at,
+        end,
+        n,
+    };
+    match kind_at(s, at) {
+        Kind::Comment => Ok(passed),
+        Kind::Objective => objective_step(line, passed),
+        Kind::Constraint => constraint_step(line, passed),
     }
-    let sum = sum_at(s, sum_begins(s, at), n);
-    if sum.count == 0 {
-        return Step::Stop(31);
-    }
-    if kind == 109 {
-        return objective_step(s, at, end, sum, passed);
-    }
-    constraint_step(s, at, end, sum, passed)
 }
 
-fn fault_of(step: Step) -> u32
-    ensures { result ≡ fault_in step }
+fn refused(fault: Fault, at: usize) -> Result<(), Refusal>
+    ensures { result ≡ Refused (number_of fault) at }
 {
-    match step {
-        Step::Go(_) => 0,
-        Step::Stop(number) => number,
-    }
+    Err(Refusal {
+        number: fault.number(),
+        offset: at,
+    })
 }
 
-fn judge_lines(s: &[u8], n: u32, constraints: u32) -> Answer
+fn judge_lines(s: &[u8], n: u32, constraints: u32) -> Result<(), Refusal>
     requires { (n ≡ variables_in s.now) × (n ≤ 512) × (constraints ≡ seen (constraints_in s.now)) }
     ensures { result ≡ outcome (judging s.now true 0 0 (starts 0 s.now)) }
 {
@@ -183,33 +211,31 @@ fn judge_lines(s: &[u8], n: u32, constraints: u32) -> Answer
         terms: 0,
     };
     while at < s.len() {
-        let step = judge_line(s, at, n, passed);
-        let Step::Go(behind) = step else {
-            return Answer::Refused(fault_of(step), at);
-        };
-        passed = behind;
+        match judge_line(s, at, n, passed) {
+            Ok(behind) => passed = behind,
+            Err(fault) => return refused(fault, at),
+        }
         at = next_line(s, at);
     }
     if passed.constraints == constraints as usize {
-        Answer::Accepted
+        Ok(())
     } else {
-        Answer::Refused(32, 0)
+        refused(Fault::ConstraintsMiscounted, 0)
     }
 }
 
 // "31 for malformed text", "4: variable count outside 1 to 512"; then the lines behind the first.
-pub fn judge_text(s: &[u8]) -> Answer
+pub fn judge_text(s: &[u8]) -> Result<(), Refusal>
     ensures { result ≡ outcome (read_text s.now) }
 {
-    let first = first_line(s);
-    if !first.formed {
-        return Answer::Refused(31, 0);
-    }
+    let Some(first) = first_line(s) else {
+        return refused(Fault::Malformed, 0);
+    };
     if first.variables < 1 {
-        return Answer::Refused(4, 0);
+        return refused(Fault::OutOfRange, 0);
     }
     if 512 < first.variables {
-        return Answer::Refused(4, 0);
+        return refused(Fault::OutOfRange, 0);
     }
     judge_lines(s, first.variables, first.constraints)
 }

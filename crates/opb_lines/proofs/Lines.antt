@@ -2,7 +2,7 @@
 -- Assumes nothing.
 use Prim.Native.Nat.{ℕ, suc, ◌+◌, ◌≤◌, ◌<◌}
 use native.Mathlib.Omega.{arith}
-use mathlib.Core.Path.{◌≡◌, refl, sym, ap, ap₂, ◌∙◌}
+use mathlib.Core.Path.{◌≡◌, refl, sym, ap, ◌∙◌}
 use mathlib.Core.Bool.{Bool, true, false, not, cond}
 use mathlib.Core.List.{List, [], ◌∷◌}
 use lib.Dec.{ltb, eqb}
@@ -11,7 +11,7 @@ use lib.Seq.{drop-drop}
 use borrow.Author.Tests.{lt-ltb, le-ltb, ltb-true, ltb-false}
 use Rattle.plpb.specs.Lists.{◌and◌, is_empty}
 use Rattle.tokens.specs.Tokens.{run, run_end, is_inside, line_end}
-use Rattle.tokens.proofs.Runs.{here, run_within, run_from}
+use Rattle.tokens.proofs.Runs.{here, run_from}
 use Rattle.opb_lines.specs.ReadText.{starts}
 use Rattle.opb_lines.specs.Lines.{next_line, lines_from}
 

@@ -1,18 +1,16 @@
 -- Tables that a text was read into are tables that an accepted loading leaves.
 -- Assumes nothing.
 use Prim.Native.Nat.{ℕ}
-use mathlib.Core.Path.{◌≡◌, refl, sym, ap, ◌∙◌}
+use mathlib.Core.Path.{◌≡◌, refl, sym}
 use mathlib.Core.Bool.{Bool, true, false}
 use mathlib.Core.List.{List}
 use Rattle.plpb.specs.Plan.{Plan}
-use Rattle.format.specs.File.{Reading, refused, accepted}
+use Rattle.format.specs.File.{accepted}
 use Rattle.format.specs.Tables.{Holds, Loaded}
 use Rattle.format.specs.Writer.{write}
 use Rattle.format.proofs.RoundTrip.{read_write}
 use Rattle.format.proofs.WriteBytes.{write_bytes}
-use Rattle.verdict.specs.declared.Answer.{Answer}
-use Rattle.verdict.specs.declared.Answer.TheVariants.{Accepted, Refused}
-use Rattle.verdict.specs.Answers.{outcome}
+use Rattle.verdict.specs.Answers.{Accepted}
 use Rattle.tables.specs.Load.{too_small, tables_of, terms_of}
 use Rattle.tables.proofs.Whole.{not_accepted}
 use Rattle.tables.proofs.Holding.{words_hold}

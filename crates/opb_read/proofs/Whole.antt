@@ -1,33 +1,30 @@
 -- What reading a text comes to, and the sections that no constraint fills.
 -- Assumes nothing.
-use Prim.Native.Nat.{ℕ, ◌+◌, ◌≤◌, ◌<◌}
+use Prim.Native.Nat.{ℕ, ◌≤◌, ◌<◌}
 use native.Mathlib.Omega.{arith}
 use mathlib.Core.Path.{◌≡◌, refl, sym, ap, ◌∙◌}
 use mathlib.Core.Bool.{Bool, true, false, cond}
-use mathlib.Core.List.{List, [], ◌∷◌, ◌++◌, map}
+use mathlib.Core.List.{List, [], ◌∷◌, ◌++◌}
 use lib.Dec.{ltb}
 use lib.ListN.{length, drop, replicate, length-map}
 use borrow.Author.Tests.{lt-ltb, le-ltb}
-use Rattle.plpb.specs.Lists.{◌or◌, row}
-use Rattle.plpb.specs.Plan.{Plan, Bound, absent, lock_among, lock_of, is_variable, rising, rising_above}
+use Rattle.plpb.specs.Lists.{◌or◌}
+use Rattle.plpb.specs.Plan.{Plan, absent, lock_among, lock_of, is_variable, rising, rising_above}
 use Rattle.plpb.specs.Lists.{all}
-use Rattle.plpb.specs.Tallies.{rules_of}
 use Rattle.plpb.proofs.Lists.{or_true}
 use Rattle.words.specs.Words.{word_bytes, unsigned}
 use Rattle.words.specs.Writes.{front}
 use Rattle.words.proofs.Words.{length_word_bytes}
 use Rattle.format.specs.File.{Reading, refused, accepted}
 use Rattle.format.specs.Tables.{coefficient, lock_word, table_words, term_words, table_size, term_size}
-use Rattle.format.proofs.Lawful.{LawfulPlan, room_for}
+use Rattle.format.proofs.Lawful.{room_for}
 use Rattle.format.proofs.Sections.{length_table_words}
-use Rattle.verdict.specs.declared.Answer.{Answer}
-use Rattle.verdict.specs.declared.Answer.TheVariants.{Accepted, Refused}
+use Rattle.verdict.specs.Answers.{Answer, Accepted, Refused}
 use Rattle.verdict.specs.Answers.{outcome}
 use Rattle.tables.specs.Load.{too_small, tables_of, terms_of}
 use Rattle.tables.specs.Sections.{lock_words, placed}
 use Rattle.tables.proofs.Whole.{terms_long, not_accepted, refused_tables, refused_terms}
 use Rattle.tables.proofs.Dense.{dense}
-use Rattle.tokens.specs.Tokens.{seen}
 use Rattle.tokens.proofs.Numbers.{seen_small}
 use Rattle.statements.specs.Grammar.{rule_at}
 use Rattle.opb_lines.specs.ReadText.{variables_in, constraints_in, plan_of_text, read_text}

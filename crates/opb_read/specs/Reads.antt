@@ -4,8 +4,7 @@ use Rattle.std.specs.Prelude.{ℕ, ◌≡◌, cond, List}
 use Rattle.plpb.specs.Plan.{Plan}
 use Rattle.format.specs.File.{accepted}
 use Rattle.format.specs.Tables.{Holds, Loaded}
-use Rattle.verdict.specs.declared.Answer.{Answer}
-use Rattle.verdict.specs.declared.Answer.TheVariants.{Accepted, Refused}
+use Rattle.verdict.specs.Answers.{Answer, Accepted, Refused}
 use Rattle.verdict.specs.Answers.{outcome}
 use Rattle.tables.specs.Load.{too_small, tables_of, terms_of}
 use Rattle.opb_lines.specs.ReadText.{read_text}

@@ -15,14 +15,7 @@ use opb_fill::{clause_section, objective_section, rule_section, term_section};
 use opb_judge::judge_text;
 use opb_lines::first_line;
 use tables::entries::put_head;
-use verdict::Answer;
-
-// A number of constraints as a count.
-fn widen(n: u32) -> usize
-    ensures { result ≡ n }
-{
-    n as usize
-}
+use verdict::Refusal;
 
 // No variable is locked.
 fn put_no_locks(out: &mut [u8])
@@ -38,8 +31,8 @@ fn fill_tables(text: &[u8], tables: &mut [u8])
     requires table_size_in_bounds { table_size ≤ length tables.old }
     ensures { tables.new ≡ front (word_bytes (base_words (plan_of_text text.now))) tables.old }
 {
-    let first = first_line(text);
-    let clauses = widen(first.constraints);
+    let first = first_line(text).unwrap();
+    let clauses = first.constraints as usize;
     objective_section(
         text,
         &mut tables[format::OBJECTIVE_BYTE..format::CLAUSES_BYTE],
@@ -70,23 +63,26 @@ fn fill_terms(text: &[u8], terms: &mut [u8])
 }
 
 // Fills the two tables from an OPB text, or refuses it: 21, then the text.
-pub fn read_opb(text: &[u8], tables: &mut [u8], terms: &mut [u8]) -> Answer
+pub fn read_opb(text: &[u8], tables: &mut [u8], terms: &mut [u8]) -> Result<(), Refusal>
     ensures value { result ≡ reading text.now tables.old terms.old }
     ensures tables_after { tables.new ≡ tables_read text.now tables.old terms.old }
     ensures terms_after { terms.new ≡ terms_read text.now tables.old terms.old }
 {
     if tables.len() < format::TABLES {
-        return Answer::Refused(21, 0);
+        return Err(Refusal {
+            number: 21,
+            offset: 0,
+        });
     }
     if terms.len() < format::TERMS {
-        return Answer::Refused(21, 0);
+        return Err(Refusal {
+            number: 21,
+            offset: 0,
+        });
     }
-    let verdict = judge_text(text);
-    let Answer::Accepted = verdict else {
-        return verdict;
-    };
+    judge_text(text)?;
     fill_tables(text, tables);
     fill_terms(text, terms);
     derive(tables, terms);
-    Answer::Accepted
+    Ok(())
 }

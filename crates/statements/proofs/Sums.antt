@@ -3,24 +3,28 @@
 use Prim.Native.Nat.{ℕ, zero, suc, ◌+◌, ◌-◌, ◌≤◌, ◌<◌}
 use native.Mathlib.Omega.{arith}
 use mathlib.Core.Path.{◌≡◌, refl, sym, ap, ap₂, ◌∙◌}
-use mathlib.Core.Bool.{Bool, true, false, cond, ◌&&◌, ◌||◌}
+use mathlib.Core.Bool.{Bool, true, false, not, cond, ◌&&◌, ◌||◌}
 use mathlib.Core.List.{List, [], ◌∷◌}
-use lib.Dec.{leb, ltb, eqb}
-use lib.IntN.{ℤ, pos}
+use lib.Dec.{ltb, eqb}
+use lib.IntN.{pos}
 use lib.ListN.{length, get_or}
-use Rattle.plpb.specs.Lists.{◌and◌, ◌or◌, any, all}
-use Rattle.plpb.specs.Plan.{Term, rising, rising_above}
+use borrow.Author.Tests.{ltb-true, le-ltb}
+use Rattle.std.specs.Prelude.{Some}
+use Rattle.plpb.specs.Lists.{◌and◌, ◌or◌, any, all, is_empty}
+use Rattle.plpb.specs.Plan.{Term, rising_above}
 use Rattle.plpb.proofs.Lists.{and_middle, and_assoc, and_true, or_assoc, or_false}
-use Rattle.format.specs.Limits.{weight_lawful, terms_lawful}
+use Rattle.format.specs.Limits.{terms_lawful}
+use Rattle.format.proofs.Bools.{and_left, and_right}
 use Rattle.bodies.specs.Terms.{term_lawful, lawful_above}
 use Rattle.bodies.proofs.TermLaws.{lawful_start}
-use Rattle.tokens.specs.Tokens.{number_at, seen}
+use Rattle.tokens.specs.Tokens.{is_digit, digits_end, number_at}
+use Rattle.tokens.specs.Found.{Found}
+use Rattle.tokens.proofs.Runs.{both_is, run_end_lem}
 use Rattle.tokens.proofs.Numbers.{seen_ltb}
 use Rattle.statements.specs.declared.Weighted.{Weighted}
-use Rattle.statements.specs.declared.Sum.{Sum}
-use Rattle.statements.specs.Grammar.{unsigned_from, index_from, integer_at, with_sign, is_term, term_at, term_end, terms_from, end_from, sum_at, sum_end}
+use Rattle.statements.specs.Grammar.{unsigned_from, integer_end, is_integer, letter_at, index_from, index_end, integer_at, is_term, term_at, term_end, terms_from, end_from, sum_at, sum_end, has_terms}
 use Rattle.statements.specs.Parts.{WeightedAt, SumAt, passes}
-use Rattle.statements.proofs.Parts.{and_is, term_seen, variable_seen}
+use Rattle.statements.proofs.Parts.{sign_from, sign_none, term_seen, variable_seen}
 
 or_is : (a b : Bool) → (a || b) ≡ (a or b)
 unfolding ◌or◌
@@ -34,11 +38,6 @@ module _ (s : List ℕ) (at : ℕ) where
   terms_none zero h = (refl, refl)
   terms_none (suc left) h = (rw h, rw h)
 
-  pub terms_done : (left : ℕ) → left ≤ 0 → (terms_from left s at ≡ []) × (end_from left s at ≡ at)
-  unfolding terms_from end_from
-  terms_done zero h = (refl, refl)
-  terms_done (suc left) h = absurd (omega arith)
-
   pub terms_some :
       (left : ℕ) → 0 < left → is_term s at ≡ true
       → (terms_from left s at ≡ term_at s at ∷ terms_from (left - 1) s (term_end s at)) × (end_from left s at ≡ end_from (left - 1) s (term_end s at))
@@ -48,26 +47,84 @@ module _ (s : List ℕ) (at : ℕ) where
       let e : left ≡ suc left - 1 = omega arith in
       (rw h (ap (λ k. term_at s at ∷ terms_from k s (term_end s at)) e), rw h (ap (λ k. end_from k s (term_end s at)) e))
 
+-- A term ends behind its place, and none stands beyond the end of the text.
+pub term_on : (s : List ℕ) (at : ℕ) → is_term s at ≡ true → at < term_end s at
+unfolding is_term is_integer
+term_on s at h =
+    let d = ltb-true (index_end s at) (term_end s at) (and_right _ _ h) in
+    let h1 = and_left _ _ h in
+    let c = ltb-true (index_from s at) (index_end s at) (and_right _ _ h1) in
+    let h2 = and_left _ _ h1 in
+    let b = ltb-true (letter_at s at) (index_from s at) (and_right _ _ h2) in
+    let h3 = and_left _ _ h2 in
+    let a = ltb-true (integer_end s at) (letter_at s at) (and_right _ _ h3) in
+    let i = ltb-true (unsigned_from s at) (integer_end s at) (and_left _ _ h3) in
+    omega (arith, sign_from s at)
+
+pub no_term : (s : List ℕ) (at : ℕ) → length s ≤ at → is_term s at ≡ false
+unfolding is_term is_integer integer_end ◌and◌
+no_term s at h =
+    let a = sign_none s at h in
+    let b : digits_end s (unsigned_from s at) ≡ unsigned_from s at = sym (run_end_lem is_digit s (unsigned_from s at) (omega (arith, a, h))) in
+    rw (b, le-ltb (unsigned_from s at) (unsigned_from s at) (omega arith))
+
+-- As many terms as there are bytes left are enough: no more are read.
+more_by :
+    (t : Bool) (x : Term) (at : ℕ) {xs ys : List Term} {m n : ℕ} → (t ≡ true → (xs ≡ ys) × (m ≡ n))
+    → (cond t (x ∷ xs) [] ≡ cond t (x ∷ ys) []) × (cond t m at ≡ cond t n at)
+more_by true x at h = let (p, q) = h refl in (ap (λ ts. x ∷ ts) p, q)
+more_by false x at h = (refl, refl)
+
+enough :
+    (a b : ℕ) (s : List ℕ) (at : ℕ) → length s ≤ at + a → length s ≤ at + b
+    → (terms_from a s at ≡ terms_from b s at) × (end_from a s at ≡ end_from b s at)
+unfolding terms_from end_from
+enough zero b s at h k = let (p, q) = terms_none s at b (no_term s at (omega arith)) in (sym p, sym q)
+enough (suc a) zero s at h k = terms_none s at (suc a) (no_term s at (omega arith))
+enough (suc a) (suc b) s at h k =
+    more_by (is_term s at) (term_at s at) at (λ e. let on = term_on s at e in enough a b s (term_end s at) (omega arith) (omega arith))
+
+module _ (s : List ℕ) (at : ℕ) where
+  pub sum_none : is_term s at ≡ false → (sum_at s at ≡ []) × (sum_end s at ≡ at)
+  sum_none h = terms_none s at (length s) h
+
+  one_more :
+      (k : ℕ) → is_term s at ≡ true
+      → (terms_from (suc k) s at ≡ term_at s at ∷ terms_from k s (term_end s at)) × (end_from (suc k) s at ≡ end_from k s (term_end s at))
+  unfolding terms_from end_from
+  one_more k h = (rw h, rw h)
+
+  pub sum_some : is_term s at ≡ true → (sum_at s at ≡ term_at s at ∷ sum_at s (term_end s at)) × (sum_end s at ≡ sum_end s (term_end s at))
+  sum_some h =
+      let (p, q) = enough (length s) (suc (length s)) s at (omega arith) (omega arith) in
+      let (u, v) = one_more (length s) h in
+      (p ∙ u, q ∙ v)
+
 lawful_cons : (n v : ℕ) (t : Term) (ts : List Term) → lawful_above n v (t ∷ ts) ≡ term_lawful n v t and lawful_above n t.variable ts
 unfolding lawful_above rising_above all term_lawful
 lawful_cons n v t ts = and_middle (ltb v t.variable) _ _ _
 
--- A sum of which some terms are passed: what is left makes the rest.
-module _ (s : List ℕ) (n from : ℕ) where
-  pub record Summing (at left before count : ℕ) (above lawful : Bool) : Type 0 where
-    pub inside : at ≤ length s
-    pub steps : count + left ≡ length s
-    pub small : n ≤ 512
-    pub end : end_from left s at ≡ sum_end s from
-    pub number : count + length (terms_from left s at) ≡ length (sum_at s from)
-    pub over : above or passes n (terms_from left s at) ≡ passes n (sum_at s from)
-    pub right : lawful and lawful_above n before (terms_from left s at) ≡ terms_lawful n (sum_at s from)
+some_by : {A : Type 0} (xs : List A) (k : ℕ) → k ≡ length xs → ((k ≡ 0 → ⊥) → not (is_empty xs) ≡ true) × (k ≡ 0 → not (is_empty xs) ≡ false)
+unfolding is_empty
+some_by [] k e = ((λ n. absurd (n e)), λ z. refl)
+some_by (x ∷ xs) k e = ((λ n. refl), λ z. absurd (omega arith))
 
-  pub summing_start : from ≤ length s → n ≤ 512 → Summing from (length s) 0 0 false true
+-- A sum of which some terms are passed: those from the present place on make the rest.
+module _ (s : List ℕ) (n from : ℕ) where
+  pub record Summing (at before count : ℕ) (above lawful : Bool) : Type 0 where
+    pub inside : at ≤ length s
+    pub few : count ≤ at
+    pub small : n ≤ 512
+    pub end : sum_end s at ≡ sum_end s from
+    pub number : count + length (sum_at s at) ≡ length (sum_at s from)
+    pub over : above or passes n (sum_at s at) ≡ passes n (sum_at s from)
+    pub right : lawful and lawful_above n before (sum_at s at) ≡ terms_lawful n (sum_at s from)
+
+  pub summing_start : from ≤ length s → n ≤ 512 → Summing from 0 0 false true
   unfolding ◌and◌ ◌or◌
   summing_start h k = record {
     inside = h;
-    steps = omega arith;
+    few = omega arith;
     small = k;
     end = refl;
     number = omega arith;
@@ -75,35 +132,47 @@ module _ (s : List ℕ) (n from : ℕ) where
     right = lawful_start n (sum_at s from);
   }
 
-  module _ {at left before count : ℕ} {above lawful : Bool} (inv : Summing at left before count above lawful) where
+  module _ {at before count : ℕ} {above lawful : Bool} (inv : Summing at before count above lawful) where
     -- No term is left.
-    pub summing_end :
-        (terms_from left s at ≡ []) × (end_from left s at ≡ at) → SumAt s from n (record { count = count; above = above; lawful = lawful; next = at })
-    unfolding passes any lawful_above rising_above all ◌and◌
-    summing_end (e, f) = record {
-      count = sym (sym inv.number ∙ ap (λ ts. count + length ts) e ∙ omega arith);
-      above = sym (sym inv.over ∙ ap (λ ts. above or passes n ts) e ∙ or_false above);
-      lawful = sym (sym inv.right ∙ ap (λ ts. lawful and lawful_above n before ts) e ∙ and_true lawful);
-      next = sym f ∙ inv.end;
-      inside = inv.inside;
-    }
+    module _ (none : is_term s at ≡ false) where
+      number_is : count ≡ length (sum_at s from)
+      number_is = sym (sym inv.number ∙ ap (λ ts. count + length ts) (sum_none s at none).0 ∙ omega arith)
+
+      pub summing_none : count ≡ 0 → has_terms s from ≡ false
+      unfolding has_terms
+      summing_none z = (some_by (sum_at s from) count number_is).1 z
+
+      pub summing_end : (count ≡ 0 → ⊥) → Found (has_terms s from) (SumAt s from n) (Some (record { count = count; above = above; lawful = lawful; next = at }))
+      unfolding has_terms passes any lawful_above rising_above all ◌and◌
+      summing_end z =
+          let (e, f) = sum_none s at none in (
+            (some_by (sum_at s from) count number_is).0 z,
+            record {
+              some = (some_by (sum_at s from) count number_is).0 z;
+              count = number_is;
+              above = sym (sym inv.over ∙ ap (λ ts. above or passes n ts) e ∙ or_false above);
+              lawful = sym (sym inv.right ∙ ap (λ ts. lawful and lawful_above n before ts) e ∙ and_true lawful);
+              next = sym f ∙ inv.end;
+              inside = inv.inside;
+            },
+          )
 
     -- One term more is passed.
-    module _ (t : Weighted) (h : WeightedAt s at t) (some : t.ok ≡ true) (more : 0 < left) {f : Bool} (fit : f ≡ term_lawful n before (record { variable = t.variable; weight = pos t.size })) where
+    module _ (t : Weighted) (some : is_term s at ≡ true) (h : WeightedAt s at t) {f : Bool} (fit : f ≡ term_lawful n before (record { variable = t.variable; weight = pos t.weight.size })) where
       abbrev rest : List Term
-      rest = terms_from (left - 1) s (term_end s at)
+      rest = sum_at s (term_end s at)
 
       abbrev here : Term
       here = term_at s at
 
-      parts : (terms_from left s at ≡ here ∷ rest) × (end_from left s at ≡ end_from (left - 1) s (term_end s at))
-      parts = terms_some s at left more (sym h.ok ∙ some)
+      parts : (sum_at s at ≡ here ∷ rest) × (sum_end s at ≡ sum_end s (term_end s at))
+      parts = sum_some s at some
 
       fit_is : f ≡ term_lawful n before here
       unfolding term_at integer_at
       fit_is =
           fit
-          ∙ ap₂ (λ x k. term_lawful n before (record { variable = x; weight = pos k })) h.variable h.size
+          ∙ ap₂ (λ x k. term_lawful n before (record { variable = x; weight = pos k })) h.variable h.weight.size
           ∙ term_seen n before (number_at s (index_from s at)) (number_at s (unsigned_from s at)) (eqb (get_or s at 0) 45) inv.small
 
       over_is : ltb n t.variable ≡ ltb n here.variable
@@ -117,24 +186,24 @@ module _ (s : List ℕ) (n from : ℕ) where
           ∙ ap (λ x. lawful and lawful_above n x rest) (h.variable ∙ variable_seen n before (number_at s (index_from s at)) (integer_at s at) inv.small e)
       right_by false e = and_assoc lawful false (lawful_above n t.variable rest)
 
-      pub summing_more : Summing t.next (left - 1) t.variable (count + 1) (above || ltb n t.variable) (lawful && f)
+      pub summing_on : at < t.next
+      summing_on = omega (arith, h.next, term_on s at some)
+
+      pub summing_more : Summing t.next t.variable (count + 1) (above || ltb n t.variable) (lawful && f)
       unfolding passes any
       summing_more = record {
         inside = h.inside;
-        steps = omega (arith, inv.steps);
+        few = omega (arith, inv.few, summing_on);
         small = inv.small;
-        end = ap (end_from (left - 1) s) h.next ∙ sym parts.1 ∙ inv.end;
-        number =
-            ap (λ k. count + 1 + length (terms_from (left - 1) s k)) h.next
-            ∙ omega (arith, ap length parts.0)
-            ∙ inv.number;
+        end = ap (sum_end s) h.next ∙ sym parts.1 ∙ inv.end;
+        number = ap (λ k. count + 1 + length (sum_at s k)) h.next ∙ omega (arith, ap length parts.0) ∙ inv.number;
         over =
-            ap₂ (λ g k. g or passes n (terms_from (left - 1) s k)) (or_is above (ltb n t.variable) ∙ ap (λ g. above or g) over_is) h.next
+            ap₂ (λ g k. g or passes n (sum_at s k)) (or_is above (ltb n t.variable) ∙ ap (λ g. above or g) over_is) h.next
             ∙ or_assoc above (ltb n here.variable) (passes n rest)
             ∙ sym (ap (λ ts. above or passes n ts) parts.0)
             ∙ inv.over;
         right =
-            ap₂ (λ g k. g and lawful_above n t.variable (terms_from (left - 1) s k)) (and_is lawful f ∙ ap (λ g. lawful and g) fit_is) h.next
+            ap₂ (λ g k. g and lawful_above n t.variable (sum_at s k)) (both_is lawful f ∙ ap (λ g. lawful and g) fit_is) h.next
             ∙ right_by (term_lawful n before here) refl
             ∙ sym (ap (λ ts. lawful and lawful_above n before ts) parts.0 ∙ ap (λ g. lawful and g) (lawful_cons n before here rest))
             ∙ inv.right;

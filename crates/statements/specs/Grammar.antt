@@ -9,8 +9,8 @@
 -- A part that is not there ends where it begins.
 -- Assumes nothing.
 use Rattle.std.specs.Prelude.{ℕ, zero, suc, ◌+◌, Bool, not, cond, List, [], ◌∷◌, ltb, eqb, ℤ, pos, neg_ℤ, length, get_or}
-use Rattle.plpb.specs.Lists.{◌and◌, ◌or◌}
-use Rattle.plpb.specs.Plan.{Bound, absent, present, Term, Rule}
+use Rattle.plpb.specs.Lists.{◌and◌, ◌or◌, is_empty}
+use Rattle.plpb.specs.Plan.{absent, present, Term, Rule}
 use Rattle.tokens.specs.Tokens.{blanks_end, digits_end, line_end, number_at, word_end}
 
 -- Where the digits of an integer begin and end, whether there are any, and its value.
@@ -65,6 +65,10 @@ sum_at s at = terms_from (length s) s at
 
 abbrev pub sum_end : List ℕ → ℕ → ℕ
 sum_end s at = end_from (length s) s at
+
+-- A sum has a term at least.
+unfoldable pub has_terms : List ℕ → ℕ → Bool
+has_terms s at = not (is_empty (sum_at s at))
 
 -- What a line begins with tells its kind: "*" a comment, "m" an objective, anything else a constraint.
 unfoldable pub is_comment : List ℕ → ℕ → Bool

@@ -1,27 +1,37 @@
--- What the code answers of the parts of a statement: their places as they are, their numbers as they are seen.
+-- What the code answers of the parts of a statement that are there: their places as they are, their numbers as they are seen.
 -- Assumes nothing.
-use Rattle.std.specs.Prelude.{ℕ, ◌≤◌, ◌≡◌, Bool, List, ltb, eqb, length, get_or}
+use Rattle.std.specs.Prelude.{ℕ, ◌≤◌, ◌≡◌, Bool, true, false, List, ltb, eqb, length, get_or}
 use Rattle.plpb.specs.Lists.{any}
 use Rattle.plpb.specs.Plan.{Term}
 use Rattle.format.specs.Limits.{terms_lawful}
 use Rattle.tokens.specs.Tokens.{number_at, seen}
+use Rattle.statements.specs.declared.Kind.{Kind}
+use Rattle.statements.specs.declared.Kind.TheVariants.{Comment, Objective, Constraint}
+use Rattle.statements.specs.declared.Signed.{Signed}
 use Rattle.statements.specs.declared.Integer.{Integer}
 use Rattle.statements.specs.declared.Weighted.{Weighted}
 use Rattle.statements.specs.declared.Sum.{Sum}
 use Rattle.statements.specs.declared.Relation.{Relation}
-use Rattle.statements.specs.Grammar.{unsigned_from, integer_end, is_integer, index_from, term_end, is_term, sum_at, sum_end, is_exact, bound_from, bound_end, is_bounded}
+use Rattle.statements.specs.Grammar.{is_comment, is_objective, has_terms, unsigned_from, integer_end, index_from, term_end, sum_at, sum_end, is_exact, bound_from, bound_end}
 
-pub record IntegerAt (s : List ℕ) (at : ℕ) (r : Integer) : Type 0 where
-  pub ok : r.ok ≡ is_integer s at
+-- The kind that a line's first byte tells.
+abbrev pub IsKind : List ℕ → ℕ → Kind → Type 0
+IsKind s at Comment = is_comment s at ≡ true
+IsKind s at Objective = (is_comment s at ≡ false) × (is_objective s at ≡ true)
+IsKind s at Constraint = (is_comment s at ≡ false) × (is_objective s at ≡ false)
+
+-- A number with its sign, as it is seen.
+pub record SignedAt (s : List ℕ) (at : ℕ) (r : Signed) : Type 0 where
   pub negative : r.negative ≡ eqb (get_or s at 0) 45
   pub size : r.size ≡ seen (number_at s (unsigned_from s at))
+
+pub record IntegerAt (s : List ℕ) (at : ℕ) (r : Integer) : Type 0 where
+  pub value : SignedAt s at r.value
   pub next : r.next ≡ integer_end s at
   pub inside : r.next ≤ length s
 
 pub record WeightedAt (s : List ℕ) (at : ℕ) (r : Weighted) : Type 0 where
-  pub ok : r.ok ≡ is_term s at
-  pub negative : r.negative ≡ eqb (get_or s at 0) 45
-  pub size : r.size ≡ seen (number_at s (unsigned_from s at))
+  pub weight : SignedAt s at r.weight
   pub variable : r.variable ≡ seen (number_at s (index_from s at))
   pub next : r.next ≡ term_end s at
   pub inside : r.next ≤ length s
@@ -31,6 +41,7 @@ unfoldable pub passes : ℕ → List Term → Bool
 passes n ts = any (λ t. ltb n t.variable) ts
 
 pub record SumAt (s : List ℕ) (at n : ℕ) (r : Sum) : Type 0 where
+  pub some : has_terms s at ≡ true
   pub count : r.count ≡ length (sum_at s at)
   pub above : r.above ≡ passes n (sum_at s at)
   pub lawful : r.lawful ≡ terms_lawful n (sum_at s at)
@@ -38,9 +49,7 @@ pub record SumAt (s : List ℕ) (at n : ℕ) (r : Sum) : Type 0 where
   pub inside : r.next ≤ length s
 
 pub record RelationAt (s : List ℕ) (at : ℕ) (r : Relation) : Type 0 where
-  pub ok : r.ok ≡ is_bounded s at
   pub exact : r.exact ≡ is_exact s at
-  pub negative : r.negative ≡ eqb (get_or s (bound_from s at) 0) 45
-  pub size : r.size ≡ seen (number_at s (unsigned_from s (bound_from s at)))
+  pub bound : SignedAt s (bound_from s at) r.bound
   pub next : r.next ≡ bound_end s at
   pub inside : r.next ≤ length s

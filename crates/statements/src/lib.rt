@@ -1,20 +1,52 @@
-// The parts of a statement of an OPB text, read from left to right by a cursor that is a place. Each part is read on whether or not those before it are
-// there; `ok` says that all are.
+// The parts of a statement of an OPB text, read from left to right by a cursor that is a place: None where one of them is not there.
 #![tactic(auto)]
 
-ghost use Rattle.std.specs.Prelude.{◌≡◌, ◌≤◌, length};
-ghost use Rattle.statements.specs.Grammar.{unsigned_from, relation_end};
-ghost use Rattle.statements.specs.Parts.{IntegerAt, WeightedAt, SumAt, RelationAt};
+ghost use Rattle.std.specs.Prelude.{◌≡◌, ◌≤◌, length, ltb};
+ghost use Rattle.tokens.specs.Found.{Found, EndsAt};
+ghost use Rattle.tokens.specs.Tokens.{blanks_end, word_end};
+ghost use Rattle.statements.specs.Grammar.{min_word, unsigned_from, is_integer, is_term, has_terms, relation_end, is_bounded};
+ghost use Rattle.statements.specs.Parts.{IsKind, IntegerAt, WeightedAt, SumAt, RelationAt};
 
 use bodies::terms::term_fits;
-use tokens::{byte, past_blanks, past_word, read_number};
+use tokens::{byte, past_blanks, past_some_blanks, past_word, read_number};
+
+// What a line begins with tells its kind.
+#[derive(Clone, Copy, Debug, PartialEq, Eq)]
+pub enum Kind {
+    Comment,
+    Objective,
+    Constraint,
+}
+
+pub fn kind_at(s: &[u8], at: usize) -> Kind
+    ensures { IsKind s.now at result }
+{
+    match byte(s, at) {
+        b'*' => Kind::Comment,
+        b'm' => Kind::Objective,
+        _ => Kind::Constraint,
+    }
+}
+
+// Where the sum of an objective begins: behind "min:" and blanks.
+pub fn objective_sum(s: &[u8], at: usize) -> usize
+    requires { at ≤ length s.now }
+    ensures { EndsAt s.now (blanks_end s.now (word_end min_word s.now at)) result }
+{
+    past_blanks(s, past_word(s, at, b"min:").unwrap_or(at))
+}
+
+// A number with its sign.
+#[derive(Clone, Copy, Debug, PartialEq, Eq)]
+pub struct Signed {
+    pub negative: bool,
+    pub size: u32,
+}
 
 // integer ::= unsigned_integer | "+" unsigned_integer | "-" unsigned_integer
 #[derive(Clone, Copy)]
 pub struct Integer {
-    pub ok: bool,
-    pub negative: bool,
-    pub size: u32,
+    pub value: Signed,
     pub next: usize,
 }
 
@@ -25,62 +57,57 @@ fn past_sign(s: &[u8], at: usize) -> usize
     if at == s.len() {
         return at;
     }
-    if s[at] == 43 {
+    if s[at] == b'+' {
         return at + 1;
     }
-    if s[at] == 45 {
+    if s[at] == b'-' {
         return at + 1;
     }
     at
 }
 
-pub fn integer_at(s: &[u8], at: usize) -> Integer
+pub fn integer_at(s: &[u8], at: usize) -> Option<Integer>
     requires { at ≤ length s.now }
-    ensures { IntegerAt s.now at result }
+    ensures { Found (is_integer s.now at) (IntegerAt s.now at) result }
 {
     let from = past_sign(s, at);
-    let number = read_number(s, from);
-    Integer {
-        ok: from < number.next,
-        negative: byte(s, at) == 45,
+    let number = read_number(s, from)?;
+    let value = Signed {
+        negative: byte(s, at) == b'-',
         size: number.value,
+    };
+    Some(Integer {
+        value,
         next: number.next,
-    }
+    })
 }
 
 // weightedterm ::= integer oneOrMoreSpace "x" unsigned_integer oneOrMoreSpace
 #[derive(Clone, Copy)]
 pub struct Weighted {
-    pub ok: bool,
-    pub negative: bool,
-    pub size: u32,
+    pub weight: Signed,
     pub variable: u32,
     pub next: usize,
 }
 
-pub fn term_at(s: &[u8], at: usize) -> Weighted
+pub fn term_at(s: &[u8], at: usize) -> Option<Weighted>
     requires { at ≤ length s.now }
-    ensures { WeightedAt s.now at result }
+    ensures { Found (is_term s.now at) (WeightedAt s.now at) result }
 {
-    let weight = integer_at(s, at);
-    let letter = past_blanks(s, weight.next);
-    let from = past_word(s, letter, b"x");
-    let index = read_number(s, from);
-    let next = past_blanks(s, index.next);
-    Weighted {
-        ok: weight.ok
-            & (weight.next < letter)
-            & (letter < from)
-            & (from < index.next)
-            & (index.next < next),
-        negative: weight.negative,
-        size: weight.size,
+    let weight = integer_at(s, at)?;
+    let letter = past_some_blanks(s, weight.next)?;
+    let from = past_word(s, letter, b"x")?;
+    let index = read_number(s, from)?;
+    let next = past_some_blanks(s, index.next)?;
+    Some(Weighted {
+        weight: weight.value,
         variable: index.value,
         next,
-    }
+    })
 }
 
 // sum ::= weightedterm | weightedterm sum, judged by the way: how many terms there are, whether a variable is above n, whether the terms are lawful.
+// The two flags stay apart: a statement's other faults come between theirs, so that one optional fault would be taken apart again.
 #[derive(Clone, Copy)]
 pub struct Sum {
     pub count: usize,
@@ -89,75 +116,63 @@ pub struct Sum {
     pub next: usize,
 }
 
-pub fn sum_at(s: &[u8], from: usize, n: u32) -> Sum
+pub fn sum_at(s: &[u8], from: usize, n: u32) -> Option<Sum>
     requires { (from ≤ length s.now) × (n ≤ 512) }
-    ensures { SumAt s.now from n result }
+    ensures { Found (has_terms s.now from) (SumAt s.now from n) result }
 {
     let mut at = from;
-    let mut left = s.len();
     let mut before = 0;
     let mut count = 0;
     let mut above = false;
     let mut lawful = true;
-    while 0 < left {
-        let term = term_at(s, at);
-        if !term.ok {
-            return Sum {
-                count,
-                above,
-                lawful,
-                next: at,
-            };
-        }
+    while let Some(term) = term_at(s, at) {
         above = above | (n < term.variable);
-        lawful = lawful & term_fits(term.variable, term.size, before, n);
+        lawful = lawful & term_fits(term.variable, term.weight.size, before, n);
         before = term.variable;
         at = term.next;
         count += 1;
-        left -= 1;
     }
-    Sum {
+    if count == 0 {
+        return None;
+    }
+    Some(Sum {
         count,
         above,
         lawful,
         next: at,
-    }
+    })
 }
 
 // relational_operator zeroOrMoreSpace integer zeroOrMoreSpace
 #[derive(Clone, Copy)]
 pub struct Relation {
-    pub ok: bool,
     pub exact: bool,
-    pub negative: bool,
-    pub size: u32,
+    pub bound: Signed,
     pub next: usize,
 }
 
-fn past_relation(s: &[u8], at: usize) -> usize
+fn past_relation(s: &[u8], at: usize) -> Option<usize>
     requires { at ≤ length s.now }
-    ensures { (result ≡ relation_end s.now at) × (result ≤ length s.now) }
+    ensures { Found (ltb at (relation_end s.now at)) (EndsAt s.now (relation_end s.now at)) result }
 {
     if at == s.len() {
-        return at;
+        return None;
     }
-    if s[at] == 61 {
-        return at + 1;
+    if s[at] == b'=' {
+        return Some(at + 1);
     }
     past_word(s, at, b">=")
 }
 
-pub fn relation_at(s: &[u8], at: usize) -> Relation
+pub fn relation_at(s: &[u8], at: usize) -> Option<Relation>
     requires { at ≤ length s.now }
-    ensures { RelationAt s.now at result }
+    ensures { Found (is_bounded s.now at) (RelationAt s.now at) result }
 {
-    let behind = past_relation(s, at);
-    let bound = integer_at(s, past_blanks(s, behind));
-    Relation {
-        ok: (at < behind) & bound.ok,
-        exact: byte(s, at) == 61,
-        negative: bound.negative,
-        size: bound.size,
+    let behind = past_relation(s, at)?;
+    let bound = integer_at(s, past_blanks(s, behind))?;
+    Some(Relation {
+        exact: byte(s, at) == b'=',
+        bound: bound.value,
         next: past_blanks(s, bound.next),
-    }
+    })
 }

@@ -10,7 +10,8 @@ use lib.ListN.{length, get_or, drop, drop_of_length-le}
 use borrow.Author.Tests.{lt-ltb, le-ltb, lt-leb, ltb-true, ltb-false, leb-true, ne_eqb}
 use Rattle.plpb.specs.Lists.{◌and◌}
 use Rattle.tokens.specs.Tokens.{is_digit, number, most, seen}
-use Rattle.tokens.proofs.Runs.{here}
+use Rattle.std.specs.Char.{is_ascii_digit}
+use Rattle.tokens.proofs.Runs.{both_is, here}
 
 -- A number up to the most is seen as it is, and one above it as the most.
 pub seen_small : (v : ℕ) → v ≤ most → seen v ≡ v
@@ -104,6 +105,11 @@ seen_number (b ∷ bs) v =
     (sym (seen_number bs (10 * seen v + (b - 48)))
     ∙ ap (λ k. seen (number k bs)) (seen_digit v (b - 48))
     ∙ seen_number bs (10 * v + (b - 48)))
+
+-- The library's test of a digit.
+pub digit_ascii : (b : ℕ) {r : Bool} → r ≡ is_ascii_digit b → is_digit b ≡ r
+unfolding is_digit
+digit_ascii b e = sym (e ∙ both_is (leb 48 b) (leb b 57))
 
 -- A digit's byte.
 pub digit_range : (b : ℕ) → is_digit b ≡ true → (48 ≤ b) × (b ≤ 57)

@@ -1,16 +1,21 @@
--- Bytes passed one after another, and a word compared byte by byte.
+-- Bytes passed one after another, and a word that stands at a place.
 -- Assumes nothing.
-use Prim.Native.Nat.{ℕ, suc, ◌+◌, ◌-◌, ◌≤◌, ◌<◌}
+use Prim.Native.Nat.{ℕ, zero, suc, ◌+◌, ◌-◌, ◌≤◌, ◌<◌}
 use native.Mathlib.Omega.{arith}
 use native.Mathlib.Numerals.{add-one}
-use mathlib.Core.Path.{◌≡◌, refl, sym, ap, ap₂, ◌∙◌}
-use mathlib.Core.Bool.{Bool, true, false, cond}
+use mathlib.Core.Path.{◌≡◌, refl, sym, ap, ap₂, subst, ◌∙◌}
+use mathlib.Core.Bool.{Bool, true, false, cond, ◌&&◌}
 use mathlib.Core.List.{List, [], ◌∷◌}
-use lib.Dec.{eqb}
-use lib.ListN.{length, get_or, drop, length-drop, drop_of_length-le}
+use lib.Dec.{eqb, ltb}
+use lib.Pointwise.{pointwise}
+use lib.ListN.{length, get_or, take, drop, length-drop, drop_of_length-le}
 use lib.Seq.{drop-cons}
-use borrow.Author.Tests.{eq-eqb, ne_eqb}
+use borrow.Author.Tests.{eq-eqb, ne_eqb, eqb-true, eqb-false, lt-ltb, le-ltb, ltb-true, ltb-false}
+use Rattle.std.proofs.lemmas.List.{take_all}
 use Rattle.plpb.specs.Lists.{◌and◌}
+use Rattle.std.specs.Prelude.{Option, Some, None}
+use Rattle.std.specs.Option.{unwrap_or}
+use Rattle.tokens.specs.Found.{Found, EndsAt}
 use Rattle.tokens.specs.Tokens.{run, run_end, begins, word_end}
 
 -- The byte at a place and those behind it.
@@ -48,43 +53,70 @@ module _ (such : ℕ → Bool) (s : List ℕ) (at : ℕ) where
     unfolding run_end run
     run_go h = rw (here s at l, h) (omega arith)
 
--- A word, of which the first i bytes stand at their places.
+-- The bytes up to a place are such, and the one there is not.
+module _ (such : ℕ → Bool) (s : List ℕ) (r : ℕ) (inside : r ≤ length s) (stop : r < length s → such (get_or s r 0) ≡ false) where
+  run_none : (from : ℕ) → from ≡ r → from ≡ run_end such s from
+  run_none from e = go (ltb from (length s)) refl
+    where
+      go : (t : Bool) → ltb from (length s) ≡ t → from ≡ run_end such s from
+      go true h =
+          let l = ltb-true from (length s) h in
+          run_stop such s from l (subst (λ k. such (get_or s k 0) ≡ false) (sym e) (stop (omega (arith, e, l))))
+      go false h = run_end_lem such s from (ltb-false from (length s) h)
+
+  run_some : (n from : ℕ) → from + n ≡ r → ((k : ℕ) → from ≤ k → k < r → such (get_or s k 0) ≡ true) → r ≡ run_end such s from
+  run_some zero from e h = let q : from ≡ r = omega (arith, e) in sym q ∙ run_none from q
+  run_some (suc n) from e h =
+      run_some n (from + 1) (omega (arith, e)) (λ k a b. h k (omega (arith, a)) b)
+      ∙ run_go such s from (omega (arith, e, inside)) (h from (omega arith) (omega (arith, e)))
+
+  pub run_is : (from : ℕ) → from ≤ r → ((k : ℕ) → from ≤ k → k < r → such (get_or s k 0) ≡ true) → r ≡ run_end such s from
+  run_is from h p = run_some (r - from) from (omega (arith, h)) p
+
+-- A word compared by the library's test.
+pub both_is : (a b : Bool) → (a && b) ≡ (a and b)
+unfolding ◌and◌
+both_is true b = refl
+both_is false b = refl
+
+eqb_swap : (a b : ℕ) → eqb a b ≡ eqb b a
+eqb_swap a b = go (eqb b a) refl
+  where
+    go : (t : Bool) → eqb b a ≡ t → eqb a b ≡ eqb b a
+    go true e = rw e (eq-eqb a b (sym (eqb-true b a e)))
+    go false e = rw e (ne_eqb a b (λ q. eqb-false b a e (sym q)))
+
+word_is : (word s : List ℕ) → pointwise eqb word (take (length word) s) ≡ begins word s
+unfolding begins
+word_is [] s = refl
+word_is (w ∷ ws) [] = refl
+word_is (w ∷ ws) (b ∷ bs) = both_is (eqb w b) _ ∙ ap₂ (λ x y. x and y) (eqb_swap w b) (word_is ws bs)
+
 module _ (word s : List ℕ) (at : ℕ) where
-  abbrev pub Left : ℕ → Type 0
-  Left i = (i ≤ length word) × (at + i ≤ length s) × (begins (drop i word) (drop (at + i) s) ≡ begins word (drop at s))
+  rest_is : take (length s - at) (drop at s) ≡ drop at s
+  rest_is = take_all (length s - at) (drop at s) (omega (arith, length-drop at s))
 
-  pub left_start : at ≤ length s → Left 0
-  left_start h = (omega arith, omega arith, ap (λ k. begins word (drop k s)) (let e : at + 0 ≡ at = omega arith in e))
+  pub word_at : {b : Bool} → b ≡ pointwise eqb word (take (length word) (take (length s - at) (drop at s))) → begins word (drop at s) ≡ b
+  word_at e = sym (e ∙ ap (λ xs. pointwise eqb word (take (length word) xs)) rest_is ∙ word_is word (drop at s))
 
-  absent : begins word (drop at s) ≡ false → at ≡ word_end word s at
+  pub word_fits : at ≤ length s → length word ≤ length (take (length s - at) (drop at s)) → at + length word ≤ length s
+  word_fits h k = omega (arith, ap length rest_is, length-drop at s)
+
+  pub word_end_is : begins word (drop at s) ≡ true → at + length word ≡ word_end word s at
   unfolding word_end
-  absent e = rw e
+  word_end_is e = rw e
 
-  pub left_none : {i : ℕ} → Left i → i < length word → at + i ≡ length s → at ≡ word_end word s at
-  unfolding begins
-  left_none {i} (a, b, e) h q = absent (sym e ∙ rw (here word i h, drop_of_length-le s {i = at + i} (omega (arith, q))))
+-- A word that has a byte is there where it ends behind its place.
+pub word_there : (b : ℕ) (word s : List ℕ) (at : ℕ) → ltb at (word_end (b ∷ word) s at) ≡ begins (b ∷ word) (drop at s)
+unfolding word_end
+word_there b word s at = go (begins (b ∷ word) (drop at s)) refl
+  where
+    go : (t : Bool) → begins (b ∷ word) (drop at s) ≡ t → ltb at (cond (begins (b ∷ word) (drop at s)) (at + length (b ∷ word)) at) ≡ begins (b ∷ word) (drop at s)
+    go true e = rw e (lt-ltb at (at + length (b ∷ word)) (omega arith))
+    go false e = rw e (le-ltb at at (omega arith))
 
-  module _ {i : ℕ} (inv : Left i) (h : i < length word) (k : at + i < length s) where
-    two : begins (drop i word) (drop (at + i) s) ≡ eqb (get_or s (at + i) 0) (get_or word i 0) and begins (drop (i + 1) word) (drop (at + i + 1) s)
-    unfolding begins
-    two = rw (here word i h, here s (at + i) k)
-
-    pub left_wrong : (get_or s (at + i) 0 ≡ get_or word i 0 → ⊥) → at ≡ word_end word s at
-    unfolding ◌and◌
-    left_wrong n = absent (sym inv.2 ∙ two ∙ rw (ne_eqb _ _ n))
-
-    pub left_more : get_or s (at + i) 0 ≡ get_or word i 0 → Left (i + 1)
-    unfolding ◌and◌
-    left_more e = (
-      omega arith,
-      omega arith,
-      ap (λ n. begins (drop (i + 1) word) (drop n s)) (let q : at + (i + 1) ≡ at + i + 1 = omega arith in q)
-          ∙ sym (two ∙ rw (eq-eqb _ _ e)) ∙ inv.2,
-    )
-
-  pub left_whole : {i : ℕ} → Left i → length word ≤ i → at + i ≡ word_end word s at
-  unfolding begins word_end
-  left_whole {i} (a, b, e) h =
-      let n : i ≡ length word = omega arith in
-      let t : begins word (drop at s) ≡ true = sym e ∙ rw (drop_of_length-le word h) in
-      rw t (ap (λ k. at + k) n)
+-- The word's end, or its place where it is not there.
+pub word_or : (word s : List ℕ) (at : ℕ) (r : Option ℕ) → Found (begins word (drop at s)) (EndsAt s (word_end word s at)) r → unwrap_or r at ≡ word_end word s at
+unfolding word_end
+word_or word s at None e = rw e
+word_or word s at (Some k) (e, (q, l)) = q

@@ -1,6 +1,5 @@
 -- The goals that the search leaves.
 use native.Mathlib.Omega.{arith}
-use Prim.Native.Nat.{◌-◌}
 use mathlib.Core.Path.{refl}
 use Rattle.opb_fill.proofs.Accepted.{lawful_text}
 use Rattle.opb_fill.proofs.Filled.{clause_start, clause_space, clause_same, clause_all_space, clause_part, clause_more, clause_end}
@@ -21,35 +20,17 @@ loop-c-preserved c = clause_more c.loop-c.invariant c.loop-c-test.true _ c.put_c
 pub returns : goal.returns
 returns c = clause_end c.loop-c.invariant _ c.requires.clauses_value.0 c.loop-c-test.false refl _ c.clear.ensures
 
-pub overflow_mul-place : goal.overflow_mul-place
-overflow_mul-place c = omega (arith, c.loop-c.invariant.few)
-
 pub slice_bounds-put_clause-count : goal.slice_bounds-put_clause-count
 slice_bounds-put_clause-count c = clause_space c.loop-c.invariant
 
 pub slice_bounds-put_clause-start : goal.slice_bounds-put_clause-start
 slice_bounds-put_clause-start c = clause_space c.loop-c.invariant
 
-pub slice_bounds-put_clause-end : goal.slice_bounds-put_clause-end
-slice_bounds-put_clause-end c = omega arith
-
-pub overflow_add-c : goal.overflow_add-c
-overflow_add-c c = omega arith
-
-pub loop-c-smaller : goal.loop-c-smaller
-loop-c-smaller c = omega arith
-
-pub overflow_mul-end : goal.overflow_mul-end
-overflow_mul-end c = omega (arith, c.loop-c.invariant.few)
-
 pub slice_bounds-clear-count : goal.slice_bounds-clear-count
 slice_bounds-clear-count c = clause_all_space c.loop-c.invariant
 
 pub slice_bounds-clear-start : goal.slice_bounds-clear-start
 slice_bounds-clear-start c = clause_all_space c.loop-c.invariant
-
-pub slice_bounds-clear-end : goal.slice_bounds-clear-end
-slice_bounds-clear-end c = omega arith
 
 pub shape_of-out : goal.shape_of-out
 shape_of-out c = clause_same c.loop-c.invariant _ _ c.clear.ensures

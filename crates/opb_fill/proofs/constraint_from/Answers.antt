@@ -1,16 +1,15 @@
 -- The goals that the search leaves.
 use native.Mathlib.Omega.{arith}
-use Prim.Native.Nat.{◌-◌}
-use mathlib.Core.Path.{refl, sym, ap, ◌∙◌}
+use mathlib.Core.Path.{ap, ◌∙◌}
 use Rattle.opb_lines.proofs.Lines.{next_on}
 use Rattle.opb_fill.specs.Fill.{constraints_from}
-use Rattle.opb_fill.proofs.Filled.{constraint_skipped}
+use Rattle.opb_fill.proofs.Filled.{constraint_at, constraint_not, constraint_skipped}
 use Rattle.opb_fill.proofs.constraint_from.Goals as goal
 
-pub returns-then-is_constraint : goal.returns-then-is_constraint
-returns-then-is_constraint c =
+pub returns-in-Constraint : goal.returns-in-Constraint
+returns-in-Constraint c =
     let at = c.loop-at in
-    record { inside = at.invariant.0; behind = at.invariant.1; same = at.invariant.2; here = λ l. sym c.is_constraint.ensures ∙ c.if-is_constraint.true }
+    record { inside = at.invariant.0; behind = at.invariant.1; same = at.invariant.2; here = λ l. constraint_at _ _ c.in-Constraint.ensures }
 
 pub loop-at-smaller : goal.loop-at-smaller
 loop-at-smaller c =
@@ -24,16 +23,5 @@ loop-at-preserved c =
     let next = c.next_line-at.ensures in (
       next.1,
       omega (arith, next.0, at.invariant.1, next_on s at.at at.invariant.0 c.loop-at-test.true),
-      ap (constraints_from s) next.0 ∙ constraint_skipped s at.at c.loop-at-test.true (sym c.is_constraint.ensures ∙ c.if-is_constraint.false) ∙ at.invariant.2,
+      ap (constraints_from s) next.0 ∙ constraint_skipped s at.at c.loop-at-test.true (constraint_not _ _ _ c.kind_at.ensures c.in_default.not-Constraint) ∙ at.invariant.2,
     )
-
-pub returns : goal.returns
-returns c =
-    let at = c.loop-at in
-    record { inside = at.invariant.0; behind = at.invariant.1; same = at.invariant.2; here = λ l. absurd (omega (arith, l, c.loop-at-test.false)) }
-
-pub loop-at-init : goal.loop-at-init
-loop-at-init c = (c.requires, omega arith, refl)
-
-pub next_line-at-requires : goal.next_line-at-requires
-next_line-at-requires c = c.loop-at.invariant.0

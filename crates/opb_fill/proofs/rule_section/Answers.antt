@@ -1,6 +1,5 @@
 -- The goals that the search leaves.
 use native.Mathlib.Omega.{arith}
-use Prim.Native.Nat.{◌-◌}
 use Rattle.opb_lines.proofs.Lines.{next_on}
 use Rattle.opb_fill.proofs.Filled.{going_here, rule_start, rule_few, rule_space, rule_first, rule_same, rule_part, rule_more_terms, rule_more, rule_count_lem, rule_terms, rule_end}
 use Rattle.opb_fill.proofs.rule_section.Goals as goal
@@ -31,9 +30,6 @@ returns c =
     let l = c.loop-at-test.false in
     (rule_count_lem inv l, rule_terms inv l, rule_end inv l _ c.clear.ensures)
 
-pub constraint_behind-at-requires : goal.constraint_behind-at-requires
-constraint_behind-at-requires c = omega arith
-
 pub loop-at-init : goal.loop-at-init
 loop-at-init c = rule_start _ _ _ c.requires.says c.requires.out_len c.constraint_behind-at.ensures
 
@@ -46,14 +42,8 @@ slice_bounds-put_rule-count c = rule_space c.loop-at.invariant
 pub slice_bounds-put_rule-start : goal.slice_bounds-put_rule-start
 slice_bounds-put_rule-start c = rule_space c.loop-at.invariant
 
-pub slice_bounds-put_rule-end : goal.slice_bounds-put_rule-end
-slice_bounds-put_rule-end c = omega arith
-
 pub overflow_add-rules : goal.overflow_add-rules
 overflow_add-rules c = omega (arith, rule_few c.loop-at.invariant)
-
-pub constraint_behind-at-requires-in-loop-at : goal.constraint_behind-at-requires-in-loop-at
-constraint_behind-at-requires-in-loop-at c = c.loop-at.invariant.going.inside
 
 pub overflow_mul-end : goal.overflow_mul-end
 overflow_mul-end c = omega (arith, rule_few c.loop-at.invariant)
@@ -63,9 +53,6 @@ slice_bounds-clear-count c = rule_space c.loop-at.invariant
 
 pub slice_bounds-clear-start : goal.slice_bounds-clear-start
 slice_bounds-clear-start c = rule_space c.loop-at.invariant
-
-pub slice_bounds-clear-end : goal.slice_bounds-clear-end
-slice_bounds-clear-end c = omega arith
 
 pub shape_of-out : goal.shape_of-out
 shape_of-out c = rule_same c.loop-at.invariant _ c.clear.ensures

@@ -1,7 +1,6 @@
 -- `opb_fill::rule_section` meets its contract. The invariant: the entries of the rules passed stand at the front, and with those of the rules left they are all entries. The
 -- measure is what is left of the text.
 -- Assumes nothing.
-use borrow.Author.Rules.{rules}
 use Prim.Native.Nat.{◌-◌}
 use lib.ListN.{length}
 use Rattle.opb_fill.proofs.Filled.{RuleFill}

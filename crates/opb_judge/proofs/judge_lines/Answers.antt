@@ -1,10 +1,8 @@
 -- The goals that the search leaves.
-use Prim.Native.Nat.{◌-◌}
 use native.Mathlib.Omega.{arith}
 use mathlib.Core.Bool.{true}
 use mathlib.Core.Path.{sym, ap, ◌∙◌}
 use Rattle.verdict.specs.Answers.{outcome}
-use Rattle.verdict.specs.declared.Answer.TheVariants.{Refused}
 use Rattle.opb_lines.specs.ReadText.{judging}
 use Rattle.opb_lines.specs.Lines.{lines_from}
 use Rattle.opb_lines.proofs.Lines.{lines_of, next_on}
@@ -17,10 +15,10 @@ loop-at-init c =
     let next = c.next_line-at.ensures in
     (next.1, omega arith, ap (λ k. outcome (judging s true 0 0 (lines_from s k))) next.0 ∙ sym (ap (λ ats. outcome (judging s true 0 0 ats)) (lines_of s)))
 
-pub returns-in_default : goal.returns-in_default
-returns-in_default c =
-    ap (λ k. Refused k c.loop-at.at) c.fault_of.ensures
-    ∙ sym (judged_stop _ _ _ _ c.judge_line-step.ensures c.loop-at-test.true _ c.in_default.is)
+pub returns-in-Err : goal.returns-in-Err
+returns-in-Err c =
+    c.refused.ensures
+    ∙ sym (judged_stop _ _ _ c.judge_line.result c.judge_line.ensures c.loop-at-test.true _ c.in-Err.is)
     ∙ c.loop-at.invariant.2
 
 pub loop-at-smaller : goal.loop-at-smaller
@@ -31,7 +29,7 @@ loop-at-smaller c =
 pub loop-at-preserved : goal.loop-at-preserved
 loop-at-preserved c =
     let next = c.next_line-at-in-loop-at.ensures in
-    let q = judged_go _ _ _ _ c.judge_line-step.ensures c.loop-at-test.true _ c.in-Go.is next.0 in
+    let q = judged_go _ _ _ c.judge_line.result c.judge_line.ensures c.loop-at-test.true _ c.in-Ok.is next.0 in
     (next.1, q.1 c.loop-at.invariant.1, q.0 ∙ c.loop-at.invariant.2)
 
 pub returns-then-passed-constraints : goal.returns-then-passed-constraints
@@ -40,13 +38,4 @@ returns-then-passed-constraints c =
 
 pub returns-else-passed-constraints : goal.returns-else-passed-constraints
 returns-else-passed-constraints c =
-    judged_wrong _ _ _ c.loop-at-test.false c.loop-at.invariant.1 c.requires.2 c.if-passed-constraints.false ∙ c.loop-at.invariant.2
-
-pub next_line-at-requires : goal.next_line-at-requires
-next_line-at-requires c = omega arith
-
-pub judge_line-step-requires : goal.judge_line-step-requires
-judge_line-step-requires c = (c.loop-at.invariant.0, c.requires.0, c.requires.1)
-
-pub next_line-at-requires-in-loop-at : goal.next_line-at-requires-in-loop-at
-next_line-at-requires-in-loop-at c = c.loop-at.invariant.0
+    c.refused-else-passed-constraints.ensures ∙ judged_wrong _ _ _ c.loop-at-test.false c.loop-at.invariant.1 c.requires.2 c.if-passed-constraints.false ∙ c.loop-at.invariant.2

@@ -1,19 +1,27 @@
 -- `opb_judge::objective_fault` meets its contract.
 -- Assumes nothing.
-use mathlib.Core.Path.{refl, ap, ap₂, ◌∙◌}
-use lib.Dec.{ltb}
-use Rattle.plpb.specs.Lists.{◌and◌}
-use Rattle.statements.specs.Grammar.{objective_formed, closes}
-use Rattle.statements.proofs.Parts.{and_is}
+use mathlib.Core.Path.{refl, sym, ap, ap₂, subst, ◌∙◌}
+use Rattle.plpb.specs.Lists.{◌and◌, is_empty}
+use Rattle.statements.specs.Grammar.{objective_formed, closes, terms_in, has_terms}
+use Rattle.tokens.proofs.Runs.{both_is}
 use Rattle.opb_lines.specs.ReadText.{objective_fault}
-use Rattle.opb_judge.proofs.Faults.{met_same}
+use Rattle.opb_judge.specs.Steps.{Finds}
+use Rattle.opb_judge.proofs.Faults.{refused_late, refused_some, met_same, malformed_is, named_is}
 use Rattle.opb_judge.proofs.objective_fault.Goals as goal
 
+pub returns-then-not-formed : goal.returns-then-not-formed
+unfolding objective_fault objective_formed has_terms
+returns-then-not-formed c =
+    let named = c.is_some-named.ensures ∙ named_is c.args.line.text.now c.args.line.at c.past_word.result c.past_word.ensures in
+    let shut = c.closed.ensures ∙ ap₂ (closes c.args.line.text.now) c.requires.next c.args.line.ends in
+    let formed = both_is _ _ ∙ ap (λ b. c.args.free and b) (both_is _ _ ∙ ap₂ ◌and◌ named shut) in
+    refused_late _ (malformed_is _ _ _ _ (sym formed ∙ c.if-not-formed.true))
+
 pub returns : goal.returns
-unfolding objective_fault objective_formed
+unfolding objective_fault objective_formed has_terms
 returns c =
-    let s = c.args.s.now in
-    let sum = c.requires.2 in
-    let shut = c.closed.ensures ∙ ap₂ (closes s) sum.next c.requires.1 in
-    let formed = and_is _ _ ∙ ap (λ b. c.args.free and b) (and_is _ _ ∙ ap₂ ◌and◌ (ap (ltb c.args.at) c.past_word-behind.ensures.0) shut) in
-    c.first_met.ensures ∙ met_same formed sum.above refl refl sum.lawful
+    let sum = c.requires in
+    let named = c.is_some-named.ensures ∙ named_is c.args.line.text.now c.args.line.at c.past_word.result c.past_word.ensures in
+    let shut = c.closed.ensures ∙ ap₂ (closes c.args.line.text.now) sum.next c.args.line.ends in
+    let formed = both_is _ _ ∙ ap (λ b. c.args.free and b) (both_is _ _ ∙ ap₂ ◌and◌ named shut) in
+    subst (λ k. Finds k c.first_met.result) (met_same (sym c.if-not-formed.false ∙ formed) sum.above refl refl sum.lawful ∙ refused_some (is_empty (terms_in c.args.line.text.now c.args.line.at)) _ sum.some) c.first_met.ensures

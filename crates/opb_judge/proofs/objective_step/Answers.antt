@@ -1,14 +1,15 @@
 -- `opb_judge::objective_step` meets its contract.
 -- Assumes nothing.
-use native.Mathlib.Omega.{arith}
-use mathlib.Core.Path.{refl, sym, ◌∙◌}
-use Rattle.opb_judge.specs.Steps.{OnFault}
+use mathlib.Core.Bool.{false}
+use mathlib.Core.Path.{◌≡◌, subst, ◌∙◌}
+use Rattle.statements.specs.Grammar.{has_terms}
+use Rattle.opb_judge.proofs.Faults.{refused_none, sum_behind, sum_moved}
 use Rattle.opb_judge.proofs.objective_step.Goals as goal
 
-pub returns-then-fault-ne0 : goal.returns-then-fault-ne0
-unfolding OnFault
-returns-then-fault-ne0 c = (c.objective_fault-fault.ensures, omega (arith, c.objective_fault-fault.ensures, c.if-fault-ne0.true))
+pub returns-in_default : goal.returns-in_default
+unfolding has_terms
+returns-in_default c =
+    refused_none _ _ (subst (λ k. has_terms c.args.line.text.now k ≡ false) (c.objective_sum.ensures.0 ∙ sum_behind _ _ c.requires) c.in_default.ensures)
 
-pub returns : goal.returns
-unfolding OnFault
-returns c = (sym c.objective_fault-fault.ensures ∙ c.if-fault-ne0.false, refl)
+pub objective_fault-requires : goal.objective_fault-requires
+objective_fault-requires c = sum_moved (c.objective_sum.ensures.0 ∙ sum_behind _ _ c.requires) c.args.line.named c.in-Some.ensures.1

@@ -1,34 +1,46 @@
 -- `opb_lines::first_line` meets its contract.
 -- Assumes nothing.
-use mathlib.Core.Path.{ap, ap₂, ◌∙◌}
-use lib.Dec.{ltb, eqb}
-use lib.ListN.{get_or}
-use Rattle.plpb.specs.Lists.{◌and◌}
-use Rattle.tokens.specs.Tokens.{blanks_end, number_at, seen}
-use Rattle.statements.proofs.Parts.{and_is}
-use Rattle.opb_lines.specs.ReadText.{variable_name, constraint_name, named_from, named_end, is_named, variables_at, constraints_at, first_end, first_formed, variables_in, constraints_in}
+use mathlib.Core.Path.{ap, ◌∙◌}
+use Rattle.tokens.specs.Tokens.{number_at, seen}
+use Rattle.opb_lines.specs.ReadText.{variable_name, constraint_name, named_from, variables_in, constraints_in}
+use Rattle.opb_lines.proofs.FirstLine.{no_star, no_variables, no_blanks, no_constraints, no_feed, first_is, second_is, first_there}
 use Rattle.opb_lines.proofs.first_line.Goals as goal
 
+pub returns-in_err-behind : goal.returns-in_err-behind
+returns-in_err-behind c = rw c.from_residual.ensures (no_star _ c.in_err-behind.ensures)
+
+pub returns-in_err-variables : goal.returns-in_err-variables
+returns-in_err-variables c =
+    rw c.from_residual-in_err-variables.ensures (no_variables _ c.in_ok-behind.ensures.1.0 c.past_blanks.ensures.0 c.in_err-variables.ensures)
+
+pub returns-in_err-second : goal.returns-in_err-second
+returns-in_err-second c =
+    rw c.from_residual-in_err-second.ensures
+    (no_blanks _ c.in_ok-behind.ensures.1.0 c.past_blanks.ensures.0 c.in_ok-variables.ensures.1.next c.in_err-second.ensures)
+
+pub returns-in_err-constraints : goal.returns-in_err-constraints
+returns-in_err-constraints c =
+    rw c.from_residual-in_err-constraints.ensures
+    (no_constraints _ c.in_ok-behind.ensures.1.0 c.past_blanks.ensures.0 c.in_ok-variables.ensures.1.next c.in_ok-second.ensures.1.0 c.in_err-constraints.ensures)
+
+pub returns-then-byte-ne10 : goal.returns-then-byte-ne10
+returns-then-byte-ne10 c =
+    no_feed _ c.in_ok-behind.ensures.1.0 c.past_blanks.ensures.0 c.in_ok-variables.ensures.1.next c.in_ok-second.ensures.1.0 c.in_ok-constraints.ensures.1.next
+    c.past_blanks-end.ensures.0 c.byte.ensures c.if-byte-ne10.true
+
 pub returns : goal.returns
-unfolding variables_at constraints_at first_end first_formed variables_in constraints_in
+unfolding variables_in constraints_in
 returns c =
     let s = c.args.s.now in
-    let behind = c.past_word-behind.ensures.0 in
-    let from = c.past_blanks.ensures.0 ∙ ap (blanks_end s) behind in
-    let variables = c.named_at-variables.ensures in
-    let end = variables.next ∙ ap (named_end variable_name s) from in
-    let from2 = c.past_blanks-second.ensures.0 ∙ ap (blanks_end s) end in
-    let constraints = c.named_at-constraints.ensures in
-    let end2 = c.past_blanks-end.ensures.0 ∙ ap (blanks_end s) (constraints.next ∙ ap (named_end constraint_name s) from2) in
-    record {
-      formed =
-          and_is _ _
-          ∙ ap₂ ◌and◌
-          (and_is _ _
-          ∙ ap₂ ◌and◌
-          (and_is _ _ ∙ ap₂ ◌and◌ (and_is _ _ ∙ ap₂ ◌and◌ (ap (ltb 0) behind) (variables.ok ∙ ap (is_named variable_name s) from)) (ap₂ ltb end from2))
-          (constraints.ok ∙ ap (is_named constraint_name s) from2))
-          (ap (λ b. eqb b 10) (c.byte.ensures ∙ ap (λ k. get_or s k 0) end2));
-      variables = variables.value ∙ ap (λ k. seen (number_at s (named_from variable_name s k))) from;
-      constraints = constraints.value ∙ ap (λ k. seen (number_at s (named_from constraint_name s k))) from2;
-    }
+    let star = c.in_ok-behind.ensures in
+    let from = c.past_blanks.ensures.0 in
+    let variables = c.in_ok-variables.ensures in
+    let second = c.in_ok-second.ensures in
+    let constraints = c.in_ok-constraints.ensures in (
+      first_there _ star.1.0 from variables.1.next second.1.0 constraints.1.next c.past_blanks-end.ensures.0 c.byte.ensures star.0 variables.0 second.0 constraints.0
+          c.if-byte-ne10.false,
+      record {
+        variables = variables.1.value ∙ ap (λ k. seen (number_at s (named_from variable_name s k))) (first_is _ star.1.0 from);
+        constraints = constraints.1.value ∙ ap (λ k. seen (number_at s (named_from constraint_name s k))) (second_is _ star.1.0 from variables.1.next second.1.0);
+      },
+    )

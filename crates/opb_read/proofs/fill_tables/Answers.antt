@@ -4,14 +4,18 @@ use borrow.Author.Rules.{rules}
 use native.Mathlib.Omega.{arith}
 use mathlib.Core.Path.{ap, ◌∙◌}
 use lib.ListN.{length}
+use Rattle.std.proofs.lemmas.Option.{MatchOption-at_some}
 use Rattle.tables.proofs.Whole.{three_long, behind_long, tables_whole, base_size_lem}
-use Rattle.opb_fill.proofs.Accepted.{lawful_text}
+use Rattle.opb_fill.proofs.Accepted.{formed, lawful_text}
 use Rattle.opb_read.proofs.Whole.{first_variables, first_constraints, no_locks}
 use Rattle.opb_read.proofs.fill_tables.Goals as goal
 
+pub unwrap-first-requires : goal.unwrap-first-requires
+unwrap-first-requires c = let e = formed c.args.text.now _ c.requires.says in search rules
+
 pub clause_section-requires : goal.clause_section-requires
 clause_section-requires c =
-    record { says = c.requires.says; clauses_value = (c.widen-clauses.ensures ∙ first_constraints _ c.requires.says _ c.first_line-first.ensures, search rules) }
+    record { says = c.requires.says; clauses_value = (first_constraints _ c.requires.says _ (MatchOption-at_some _ _ _ c.unwrap-first.ensures c.first_line.ensures).1, search rules) }
 
 pub slice_bounds-put_no_locks-end : goal.slice_bounds-put_no_locks-end
 slice_bounds-put_no_locks-end c =
@@ -32,18 +36,18 @@ put_head-requires c =
             c.objective_section.ensures c.clause_section.ensures rules.2 _ (c.put_no_locks.ensures ∙ no_locks _),
         c.requires.table_size_in_bounds,
       ),
-      omega (arith, c.widen-clauses.ensures, first_constraints _ c.requires.says _ c.first_line-first.ensures, q.clause_count),
+      omega (arith, first_constraints _ c.requires.says _ (MatchOption-at_some _ _ _ c.unwrap-first.ensures c.first_line.ensures).1, q.clause_count),
       omega (arith, rules.0, q.rule_count),
       omega (arith, rules.1, q.terms),
     )
 
 pub returns : goal.returns
 returns c =
-    let first = c.first_line-first.ensures in
+    let first = (MatchOption-at_some _ _ _ c.unwrap-first.ensures c.first_line.ensures).1 in
     let rules = c.rule_section-counted.ensures in
     tables_whole _ (lawful_text _ _ c.requires.says) c.args.tables.now _ _ _ c.requires.table_size_in_bounds
     c.objective_section.ensures c.clause_section.ensures rules.2 _ (c.put_no_locks.ensures ∙ no_locks _) _
-    (first_variables _ c.requires.says _ first) (c.widen-clauses.ensures ∙ first_constraints _ c.requires.says _ first)
+    (first_variables _ c.requires.says _ first) (first_constraints _ c.requires.says _ first)
     rules.0 rules.1 c.put_head.ensures
 
 pub shape_of-tables : goal.shape_of-tables

@@ -4,26 +4,28 @@ use mathlib.Core.Path.{sym, ◌∙◌}
 use Rattle.tables.proofs.Ordered.{order_ready, order_left}
 use Rattle.opb_fill.proofs.Accepted.{lawful_text}
 use Rattle.opb_read.proofs.Whole.{says, small_tables, small_terms_lem, kept, filled}
+use Rattle.verdict.proofs.Passed.{passed_on}
 use Rattle.opb_read.proofs.read_opb.Goals as goal
 
-pub returns-in_default : goal.returns-in_default
-returns-in_default c = let whole = kept _ _ _ c.if-tables-lt-TABLES.false c.if-terms-lt-TERMS.false _ _ _ c.judge_text-verdict.ensures c.in_default.is in record { value = whole.0; tables_after = whole.1.0; terms_after = whole.1.1 }
+pub returns-in_err-judge_text : goal.returns-in_err-judge_text
+returns-in_err-judge_text c = let whole = let same = passed_on _ _ c.from_residual.ensures.1 in
+    kept _ _ _ c.if-tables-lt-TABLES.false c.if-terms-lt-TERMS.false _ _ _ (same ∙ c.in_err-judge_text.ensures) same in record { value = whole.0; tables_after = whole.1.0; terms_after = whole.1.1 }
 
 pub fill_tables-requires : goal.fill_tables-requires
-fill_tables-requires c = record { says = says _ (sym c.in-Accepted.is ∙ c.judge_text-verdict.ensures); table_size_in_bounds = c.if-tables-lt-TABLES.false }
+fill_tables-requires c = record { says = says _ (c.in_ok-judge_text.ensures); table_size_in_bounds = c.if-tables-lt-TABLES.false }
 
 pub fill_terms-requires : goal.fill_terms-requires
-fill_terms-requires c = record { says = says _ (sym c.in-Accepted.is ∙ c.judge_text-verdict.ensures); term_size_in_bounds = c.if-terms-lt-TERMS.false }
+fill_terms-requires c = record { says = says _ (c.in_ok-judge_text.ensures); term_size_in_bounds = c.if-terms-lt-TERMS.false }
 
 -- What stands in the two tables before the order is built.
 pub derive-requires : goal.derive-requires
 derive-requires c =
-    let said = says _ (sym c.in-Accepted.is ∙ c.judge_text-verdict.ensures) in
+    let said = says _ (c.in_ok-judge_text.ensures) in
     order_ready _ (lawful_text _ _ said) _ _ c.if-tables-lt-TABLES.false c.fill_tables.ensures c.fill_terms.ensures
 
 pub returns : goal.returns
 returns c =
-    let said = says _ (sym c.in-Accepted.is ∙ c.judge_text-verdict.ensures) in
+    let said = says _ (c.in_ok-judge_text.ensures) in
     let tables = order_left _ (lawful_text _ _ said) _ _ c.if-tables-lt-TABLES.false c.fill_tables.ensures c.fill_terms.ensures c.derive.ensures in
     let whole = filled _ _ _ c.if-tables-lt-TABLES.false c.if-terms-lt-TERMS.false _ _ said tables c.fill_terms.ensures in record { value = whole.0; tables_after = whole.1.0; terms_after = whole.1.1 }
 

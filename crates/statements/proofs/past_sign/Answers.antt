@@ -5,7 +5,7 @@ use Rattle.statements.proofs.Parts.{sign_none, sign_plus, sign_minus, sign_other
 use Rattle.statements.proofs.past_sign.Goals as goal
 
 pub returns-then-at-s : goal.returns-then-at-s
-returns-then-at-s c = (sign_none _ _ c.if-at-s.true, c.requires)
+returns-then-at-s c = (sign_none _ _ (omega (arith, c.if-at-s.true)), c.requires)
 
 pub returns-then-s-at-eq43 : goal.returns-then-s-at-eq43
 returns-then-s-at-eq43 c = (sign_plus _ _ c.if-s-at-eq43.true, omega arith)

@@ -1,11 +1,13 @@
--- `statements::sum_at` meets its contract. The invariant: what is known of the terms passed and of those left is known of all. The measure is how many
--- terms there may be still.
+-- `statements::sum_at` meets its contract. The invariant: what is known of the terms passed and of those to come is known of all. The measure is what is left of
+-- the text.
 -- Assumes nothing.
+use Prim.Native.Nat.{◌-◌}
+use lib.ListN.{length}
 use Rattle.statements.proofs.Sums.{Summing}
 use Rattle.statements.proofs.sum_at.Given as goal
 
-abbrev pub invariant-loop-left : goal.invariant-loop-left
-invariant-loop-left l = Summing l.s l.n l.from l.at l.left l.before l.count l.above l.lawful
+abbrev pub invariant-loop-term : goal.invariant-loop-term
+invariant-loop-term l = Summing l.s l.n l.from l.at l.before l.count l.above l.lawful
 
-abbrev pub decreases-loop-left : goal.decreases-loop-left
-decreases-loop-left l = l.left
+abbrev pub decreases-loop-term : goal.decreases-loop-term
+decreases-loop-term l = length l.s - l.at

@@ -1,26 +1,39 @@
 -- `statements::term_at` meets its contract.
 -- Assumes nothing.
 use mathlib.Core.Path.{ap, ◌∙◌}
-use mathlib.Core.List.{[], ◌∷◌}
-use Rattle.tokens.specs.Tokens.{blanks_end, digits_end, word_end, number_at, seen}
-use Rattle.statements.specs.Grammar.{letter_at, index_from, index_end, term_end, is_term}
-use Rattle.statements.proofs.Parts.{each_there}
+use Rattle.tokens.specs.Tokens.{number_at, seen}
+use Rattle.statements.proofs.Parts.{no_weight, no_letter, no_x, no_index, no_last, from_is, end_is, all_there}
 use Rattle.statements.proofs.term_at.Goals as goal
 
+pub returns-in_err-weight : goal.returns-in_err-weight
+returns-in_err-weight c = rw c.from_residual.ensures (no_weight _ _ c.in_err-weight.ensures)
+
+pub returns-in_err-letter : goal.returns-in_err-letter
+returns-in_err-letter c = rw c.from_residual-in_err-letter.ensures (no_letter _ _ c.in_ok-weight.ensures.1.next c.in_err-letter.ensures)
+
+pub returns-in_err-from : goal.returns-in_err-from
+returns-in_err-from c = rw c.from_residual-in_err-from.ensures (no_x _ _ c.in_ok-weight.ensures.1.next c.in_ok-letter.ensures.1.0 c.in_err-from.ensures)
+
+pub returns-in_err-index : goal.returns-in_err-index
+returns-in_err-index c = rw c.from_residual-in_err-index.ensures (no_index _ _ c.in_ok-weight.ensures.1.next c.in_ok-letter.ensures.1.0 c.in_ok-from.ensures.1.0 c.in_err-index.ensures)
+
+pub returns-in_err-next : goal.returns-in_err-next
+returns-in_err-next c =
+    rw c.from_residual-in_err-next.ensures (no_last _ _ c.in_ok-weight.ensures.1.next c.in_ok-letter.ensures.1.0 c.in_ok-from.ensures.1.0 c.in_ok-index.ensures.1.next c.in_err-next.ensures)
+
 pub returns : goal.returns
-unfolding letter_at index_from index_end term_end is_term
 returns c =
     let s = c.args.s.now in
-    let weight = c.integer_at-weight.ensures in
-    let letter = c.past_blanks-letter.ensures.0 ∙ ap (blanks_end s) weight.next in
-    let from = c.past_word-from.ensures.0 ∙ ap (word_end (120 ∷ []) s) letter in
-    let end = c.read_number-index.ensures.1 ∙ ap (digits_end s) from in
-    let last = c.past_blanks-next.ensures.0 ∙ ap (blanks_end s) end in
-    record {
-      ok = each_there weight.ok weight.next letter from end last;
-      negative = weight.negative;
-      size = weight.size;
-      variable = c.read_number-index.ensures.0 ∙ ap (λ k. seen (number_at s k)) from;
-      next = last;
-      inside = c.past_blanks-next.ensures.1;
-    }
+    let weight = c.in_ok-weight.ensures in
+    let letter = c.in_ok-letter.ensures in
+    let from = c.in_ok-from.ensures in
+    let index = c.in_ok-index.ensures in
+    let last = c.in_ok-next.ensures in (
+      all_there _ _ weight.1.next letter.1.0 from.1.0 index.1.next weight.0 letter.0 from.0 index.0 last.0,
+      record {
+        weight = weight.1.value;
+        variable = index.1.value ∙ ap (λ k. seen (number_at s k)) (from_is _ _ weight.1.next letter.1.0 from.1.0);
+        next = end_is _ _ weight.1.next letter.1.0 from.1.0 index.1.next last.1.0;
+        inside = last.1.1;
+      },
+    )

@@ -1,32 +1,13 @@
--- The goals that the search leaves.
-use borrow.Author.Tests.{eq-eqb, ne_eqb}
-use Prim.Native.Nat.{◌-◌}
-use native.Mathlib.Omega.{arith}
-use mathlib.Core.Path.{refl, ◌∙◌}
+-- `tokens::line_end` meets its contract.
+-- Assumes nothing.
+use borrow.Author.Rules.{rules}
+use borrow.Author.Tests.{tests}
 use Rattle.tokens.specs.Tokens.{is_inside}
-use Rattle.tokens.proofs.Runs.{run_end_lem, run_stop, run_go}
+use Rattle.tokens.proofs.Runs.{run_is}
 use Rattle.tokens.proofs.line_end.Goals as goal
 
-pub returns-then-s-at-eq10 : goal.returns-then-s-at-eq10
-unfolding is_inside
-returns-then-s-at-eq10 c =
-    let at = c.loop-at in
-    (run_stop is_inside _ _ c.loop-at-test.true (rw (eq-eqb _ 10 c.if-s-at-eq10.true)) ∙ at.invariant.1, at.invariant.0)
-
-pub loop-at-preserved : goal.loop-at-preserved
-unfolding is_inside
-loop-at-preserved c =
-    let at = c.loop-at in
-    (omega arith, run_go is_inside _ _ c.loop-at-test.true (rw (ne_eqb _ 10 c.if-s-at-eq10.false)) ∙ at.invariant.1)
-
 pub returns : goal.returns
-returns c = (run_end_lem is_inside _ _ c.loop-at-test.false ∙ c.loop-at.invariant.1, c.loop-at.invariant.0)
-
-pub loop-at-init : goal.loop-at-init
-loop-at-init c = (c.requires, refl)
-
-pub overflow_add-at : goal.overflow_add-at
-overflow_add-at c = omega arith
-
-pub loop-at-smaller : goal.loop-at-smaller
-loop-at-smaller c = omega arith
+unfolding is_inside
+returns c =
+    let end = c.past_such.ensures in
+    (run_is is_inside _ _ end.inside.1 (λ l. let e = end.stop l in search (rules, tests)) _ end.inside.0 (λ k a b. let e = end.passed k a b in search (rules, tests)), end.inside.1)

@@ -1,21 +1,21 @@
 -- The goals that the search leaves.
-use Prim.Native.Nat.{◌-◌}
 use native.Mathlib.Omega.{arith}
-use mathlib.Core.Path.{refl, sym, ap, ◌∙◌}
+use mathlib.Core.Path.{◌≡◌, refl, sym, ap, ◌∙◌}
+use lib.ListN.{length}
 use Rattle.tokens.specs.Tokens.{is_digit, number_at, seen}
 use Rattle.tokens.proofs.Runs.{run_end_lem, run_stop, run_go}
-use Rattle.tokens.proofs.Numbers.{digit_range, number_end, number_stop, number_go, seen_small, seen_most}
-use Rattle.tokens.proofs.read_number.Goals as goal
+use Rattle.tokens.proofs.Numbers.{digit_ascii, digit_range, number_end, number_stop, number_go, seen_small, seen_most}
+use Rattle.tokens.proofs.digits_from.Goals as goal
 
 pub loop-at-init : goal.loop-at-init
 unfolding number_at
 loop-at-init c = (c.requires, refl, omega arith, refl)
 
-pub returns-then-not-is_digit : goal.returns-then-not-is_digit
-returns-then-not-is_digit c =
+pub returns-then-not-is_ascii_digit : goal.returns-then-not-is_ascii_digit
+returns-then-not-is_ascii_digit c =
     let at = c.loop-at in
     let in-text = c.loop-at-test.true in
-    let none = sym c.is_digit.ensures ∙ c.if-not-is_digit.true in (
+    let none = digit_ascii _ c.is_ascii_digit.ensures.value ∙ c.if-not-is_ascii_digit.true in (
       sym (seen_small _ at.invariant.2) ∙ ap seen (number_stop _ _ _ in-text none) ∙ at.invariant.3,
       run_stop is_digit _ _ in-text none ∙ at.invariant.1,
       at.invariant.0,
@@ -23,14 +23,14 @@ returns-then-not-is_digit c =
 
 pub with_digit-value-requires : goal.with_digit-value-requires
 with_digit-value-requires c =
-    let (a, b) = digit_range _ (sym c.is_digit.ensures ∙ c.if-not-is_digit.false) in
+    let (a, b) = digit_range _ (digit_ascii _ c.is_ascii_digit.ensures.value ∙ c.if-not-is_ascii_digit.false) in
     (c.loop-at.invariant.2, a, b)
 
 pub loop-at-preserved : goal.loop-at-preserved
 loop-at-preserved c =
     let at = c.loop-at in
     let in-text = c.loop-at-test.true in
-    let some = sym c.is_digit.ensures ∙ c.if-not-is_digit.false in (
+    let some = digit_ascii _ c.is_ascii_digit.ensures.value ∙ c.if-not-is_ascii_digit.false in (
       omega arith,
       run_go is_digit _ _ in-text some ∙ at.invariant.1,
       rw c.with_digit-value.ensures (seen_most _),
@@ -39,14 +39,9 @@ loop-at-preserved c =
 
 pub returns : goal.returns
 returns c =
-    let at = c.loop-at in (
+    let at = c.loop-at in
+    let end : length c.args.s.now ≡ at.at = omega (arith, at.invariant.0, c.loop-at-test.false) in (
       sym (seen_small _ at.invariant.2) ∙ ap seen (number_end _ _ _ c.loop-at-test.false) ∙ at.invariant.3,
-      run_end_lem is_digit _ _ c.loop-at-test.false ∙ at.invariant.1,
-      at.invariant.0,
+      end ∙ run_end_lem is_digit _ _ c.loop-at-test.false ∙ at.invariant.1,
+      omega arith,
     )
-
-pub overflow_add-at : goal.overflow_add-at
-overflow_add-at c = omega arith
-
-pub loop-at-smaller : goal.loop-at-smaller
-loop-at-smaller c = omega arith
