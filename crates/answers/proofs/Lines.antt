@@ -2,41 +2,27 @@
 -- Assumes nothing.
 use Prim.Native.Nat.{ℕ, suc, ◌+◌, ◌-◌, ◌^◌, ◌≤◌, ◌<◌}
 use native.Mathlib.Omega.{arith}
-use mathlib.Core.Path.{◌≡◌, ap, ap₂, ◌∙◌}
+use mathlib.Core.Path.{◌≡◌, refl, ap, ap₂, ◌∙◌}
 use mathlib.Core.Bool.{Bool, true, false}
 use mathlib.Core.List.{List, [], ◌∷◌, ◌++◌}
-use lib.Dec.{eqb}
 use lib.IntN.{ℤ, pos, negsuc}
-use lib.ListN.{length, drop, length-append}
+use lib.ListN.{length, take, drop, length-append}
+use Rattle.std.proofs.Common.{Bor, IfSome}
+use Rattle.std.specs.Option.{option_copied}
+use Rattle.std.specs.Bool.{then_some}
 use mir.Syntax.{w64}
 use mir.Val.{SFits, to_z, of_z}
 use mir.Facts.{to_z-of_z}
-use borrow.Author.Tests.{ne_eqb}
 use borrow.Rule.Slice.PartMut.{mid_of, put_mid}
-use Rattle.plpb.specs.Lists.{◌or◌}
 use Rattle.plpb.specs.Search.{Ending, floor, ended, none, short_found, short_none}
 use Rattle.words.specs.Words.{word_at}
 use Rattle.words.specs.Writes.{front}
 use Rattle.words.proofs.Writes.{lent_tail}
 use Rattle.answers.specs.Found.{has_plan}
-use Rattle.lines.specs.Text.{text, line, decimal, signed_decimal, ending_of, ending_word, result_line, assignment_line}
+use Rattle.lines.specs.Text.{text, line, decimal, signed_decimal, ending_of, ending_word, result_line, assignment_line, bits_line}
 use Rattle.texts.proofs.Decimal.{twenty}
 use Rattle.lines.proofs.Writing.{characters, length_characters}
 use Rattle.lines.proofs.Items.{next_item, result_items}
-
--- ---- which endings come with a plan
-
-pub found_1 : (e : ℕ) → e ≡ 1 → true ≡ has_plan e
-unfolding has_plan ◌or◌
-found_1 e h = rw h
-
-pub found_2 : (e : ℕ) → (e ≡ 1 → ⊥) → e ≡ 2 → true ≡ has_plan e
-unfolding has_plan ◌or◌
-found_2 e n h = rw h
-
-pub found_4 : (e : ℕ) → (e ≡ 1 → ⊥) → (e ≡ 2 → ⊥) → eqb e 4 ≡ has_plan e
-unfolding has_plan ◌or◌
-found_4 e n m = rw (ne_eqb e 1 n, ne_eqb e 2 m)
 
 -- ---- the first line is short
 
@@ -84,6 +70,23 @@ pub second_short : (found : Bool) (n : ℕ) (bytes : List ℕ) → n ≤ length 
 unfolding assignment_line line text
 second_short true n bytes h = omega (arith, length-append (characters n bytes) (10 ∷ []), length_characters n bytes h)
 second_short false n bytes h = omega arith
+
+-- The bytes that are handed on where something was found.
+module _ (found : Bool) (b : Bor (List ℕ)) where
+  pub bits_short : length b.now ≤ 512 → IfSome (then_some found b) (λ x. length x.now ≤ 512)
+  bits_short h = go found
+    where
+      go : (f : Bool) → IfSome (then_some f b) (λ x. length x.now ≤ 512)
+      go true = h
+      go false = tt
+
+  pub bits_told : (n : ℕ) (bytes : List ℕ) → b.now ≡ take n bytes → bits_line (option_copied (then_some found b)) ≡ assignment_line found n bytes
+  unfolding bits_line assignment_line
+  bits_told n bytes e = go found
+    where
+      go : (f : Bool) → bits_line (option_copied (then_some f b)) ≡ assignment_line f n bytes
+      go true = rw e
+      go false = refl
 
 -- ---- the two lines one behind the other, the second through a lent tail
 

@@ -10,7 +10,7 @@ ghost use Rattle.lines.specs.Text.{ending_of, result_line, assignment_line};
 use lines::{assignment_line, result_line};
 use words::index;
 
-// What a search answers: its ending by number, 0 with a refusal; then all else is 0 too.
+// What a search answers: its ending by number, 0 with a refusal; then all else is 0 too. The C interface hands it out as it stands.
 #[repr(C)]
 #[derive(Clone, Copy)]
 pub struct Answer {
@@ -26,13 +26,7 @@ pub struct Answer {
 fn is_found(ending: u32) -> bool
     ensures { result ≡ has_plan ending }
 {
-    if ending == 1 {
-        return true;
-    }
-    if ending == 2 {
-        return true;
-    }
-    ending == 4
+    matches!(ending, 1 | 2 | 4)
 }
 
 // The lines of a search's answer. Answers their length.
@@ -54,6 +48,7 @@ pub fn write_answer(tables: &[u8], assignment: &[u8], r: Answer, out: &mut [u8])
         r.used as u64,
     );
     let n = index(tables, 0);
-    let second = assignment_line(&mut out[first..], is_found(r.ending), assignment, n);
+    let bits = is_found(r.ending).then_some(&assignment[..n]);
+    let second = assignment_line(&mut out[first..], bits);
     first + second
 }

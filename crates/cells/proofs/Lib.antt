@@ -1,3 +1,2 @@
 -- The laws of fields.
-pub mod Tests
 pub mod Fields

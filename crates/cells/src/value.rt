@@ -60,14 +60,14 @@ fn with_digit(n: u64, b: u8) -> u64
 fn is_digit(b: u8) -> bool
     ensures { result ≡ is_digit b }
 {
-    if b < 48 { false } else { b <= 57 }
+    b.is_ascii_digit()
 }
 
 // Digits so far, and another.
 fn still_digits(digits: bool, b: u8) -> bool
     ensures { result ≡ (digits and is_digit b) }
 {
-    if digits { is_digit(b) } else { false }
+    digits && is_digit(b)
 }
 
 // The value with one byte more.
@@ -101,11 +101,5 @@ pub fn with(v: Value, b: u8) -> Value
 pub fn same(a: Value, b: Value) -> bool
     ensures { result ≡ same_value a b }
 {
-    if a.length != b.length {
-        return false;
-    }
-    if a.low != b.low {
-        return false;
-    }
-    a.high == b.high
+    a.length == b.length && a.low == b.low && a.high == b.high
 }

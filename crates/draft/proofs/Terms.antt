@@ -13,13 +13,13 @@ use lib.IntN.{pos}
 use lib.ListN.{length, take, length-map}
 use lib.Seq.{take-suc, length-take-le}
 use borrow.Author.Tests.{ltb-false}
-use Rattle.plpb.specs.Lists.{◌or◌, all, concat}
+use Rattle.plpb.specs.Lists.{◌or◌, concat}
 use Rattle.plpb.specs.Plan.{Term}
 use Rattle.words.specs.Words.{bytes_of, unsigned}
 use Rattle.format.specs.Writer.{term_bytes}
 use Rattle.cells.specs.declared.value.Value.{Value}
 use Rattle.cells.specs.Grammar.{column_of}
-use Rattle.cells.specs.Values.{gather, gather_from, no_bytes, same_value}
+use Rattle.cells.specs.Values.{gather, same_value}
 use Rattle.lists.specs.Lists.{Site, Zone, in_zone, terms_by}
 use Rattle.lists.specs.Refusals.{Entry, is_number, number_of, yes_bytes, site_of, zone_of, site_formed, zone_formed, site_fault, zone_fault, entry_at}
 use Rattle.lists.proofs.Counts.{or_left_false, or_right_false}
@@ -116,11 +116,6 @@ terms_next zoned name xs k w l e =
 pub terms_none : (zoned : Bool) (name : List ℕ) (xs : List Entry) → terms_of zoned name (take 0 xs) ≡ []
 unfolding terms_of terms_by concat
 terms_none zoned name xs = refl
-
--- No zone is wanted where metres are weighed.
-pub no_name : (v : Value) → v ≡ no_bytes → Named v []
-unfolding gather_from all
-no_name v e = record { gathered = e; short = omega arith; bytes = refl }
 
 -- ---- what a zone's row says
 

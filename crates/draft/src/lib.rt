@@ -1,7 +1,8 @@
 // The plan file of the mapper's two lists, written into a lent buffer.
 #![tactic(auto)]
 
-ghost use Rattle.std.specs.Prelude.{◌≡◌, true, false, cond, List, [], ◌∷◌, ◌++◌, map, ℕ, ◌+◌, ◌*◌, ◌%◌, ◌≤◌, eqb, length};
+ghost use Rattle.std.specs.Prelude.{◌≡◌, true, false, cond, List, [], ◌∷◌, ◌++◌, map, ℕ, ◌+◌, ◌*◌, ◌%◌, ◌≤◌, eqb, length, IfSome};
+ghost use Rattle.std.specs.Option.{is_some};
 ghost use Rattle.words.specs.Words.{bytes_of};
 ghost use Rattle.words.specs.Writes.{put, front};
 ghost use Rattle.format.specs.Writer.{field, clause_fields, write};
@@ -12,9 +13,9 @@ ghost use Rattle.lists.specs.Refusals.{Entry, site_of, site_fault, site_rows, zo
 ghost use Rattle.entries.specs.Judging.{OfBytes, Well};
 ghost use Rattle.draft.specs.Draft.{weigh, terms_of, Named, rule_body, clauses_of, Wrote};
 
-use cells::value::{Value, empty, same};
+use cells::value::{Value, same};
 use entries::is_yes;
-use rows::row::read_row;
+use rows::row::{Listed, read_row};
 use words::write_u32;
 
 // The tags of the fields, and the modes of the two rules of a zone.
@@ -31,6 +32,15 @@ const END: u8 = 5;
 const UPPER: u8 = 2;
 
 const BOTH: u8 = 3;
+
+// The list of sites, where nothing in it is at fault, and how many sites there are.
+#[derive(Clone, Copy)]
+struct Sites<'a> {
+    list: &'a [u8],
+    count: usize,
+    ghost well: { Well false list.now },
+    ghost counted: { count ≡ length (site_rows list.now) },
+}
 
 fn low_byte(n: usize) -> u8
     ensures { result ≡ n % 256 }
@@ -71,15 +81,16 @@ fn number_of(v: Value) -> u32
     (v.number % 4294967296) as u32
 }
 
-// What a site weighs: 1 in the zone and 0 elsewhere, or its metres.
-fn weight(metres: Value, own: Value, zoned: bool, zone: Value) -> u32
+// What a site weighs: 1 in the zone and 0 elsewhere, or with no zone its metres.
+fn weight(metres: Value, own: Value, zone: Option<Value>) -> u32
     ensures { (x : Entry) (name : List ℕ) → metres ≡ gather (column_of 1 x) → own ≡ gather (column_of 2 x) → OfBytes x
-        → site_fault x ≡ 0 → Named zone name → result ≡ weigh zoned name (site_of x) }
+        → site_fault x ≡ 0 → IfSome zone (λ v. Named v name) → result ≡ weigh (is_some zone) name (site_of x) }
 {
-    if !zoned {
-        return number_of(metres);
+    match zone {
+        None => number_of(metres),
+        Some(zone) if same(own, zone) => 1,
+        Some(_) => 0,
     }
-    if same(own, zone) { 1 } else { 0 }
 }
 
 // A term, or none for weight 0. Answers the next place.
@@ -95,24 +106,20 @@ fn put_term(out: &mut [u8], at: usize, variable: usize, weight: u32) -> usize
     at + 6
 }
 
-// The terms of the sites, one for each that weighs anything. Answers the next place.
-fn put_terms(out: &mut [u8], from: usize, sites: &[u8], n: usize, zoned: bool, zone: Value) -> usize
-    requires { Well false sites.now × (n ≡ length (site_rows sites.now)) × (from + 6 * n ≤ length out.old) }
-    ensures { ((name : List ℕ) → Named zone name
-        → Wrote from (terms_of zoned name (site_rows sites.now)) out.old out.new result)
-        × (result ≤ from + 6 * n) × (from ≤ result) }
+// The terms of the sites, one for each that weighs anything in the zone, or with no zone by its metres. Answers the next place.
+fn put_terms(out: &mut [u8], from: usize, sites: Sites<'_>, zone: Option<Value>) -> usize
+    requires { from + 6 * sites.count ≤ length out.old }
+    ensures { ((name : List ℕ) → IfSome zone (λ v. Named v name)
+        → Wrote from (terms_of (is_some zone) name (site_rows sites.entry.list.now)) out.old out.new result)
+        × (result ≤ from + 6 * sites.entry.count) × (from ≤ result) }
 {
     let mut to = from;
     let mut at = 0;
-    let mut k = 0;
-    while k < n {
-        let row = read_row(sites, at, false);
-        let metres = row.second;
-        let own = row.third;
-        let w = weight(metres, own, zoned, zone);
+    for k in 0..sites.count {
+        let row = read_row(sites.list, at, Listed::Sites).unwrap();
+        let w = weight(row.second, row.third, zone);
         to = put_term(out, to, k + 1, w);
         at = row.next;
-        k += 1;
     }
     to
 }
@@ -132,19 +139,18 @@ fn write_rule_head(out: &mut [u8], at: usize, size: usize, mode: u8, least: u32,
 fn put_rule(
     out: &mut [u8],
     at: usize,
-    sites: &[u8],
-    n: usize,
+    sites: Sites<'_>,
     zone: Value,
     mode: u8,
     least: u32,
     most: u32,
 ) -> usize
-    requires { Well false sites.now × (n ≡ length (site_rows sites.now)) × (at + 12 + 6 * n ≤ length out.old) }
+    requires { at + 12 + 6 * sites.count ≤ length out.old }
     ensures { ((name : List ℕ) → Named zone name
-        → Wrote at (field 4 (rule_body mode least most (terms_of true name (site_rows sites.now)))) out.old out.new result)
-        × (result ≤ at + 12 + 6 * n) }
+        → Wrote at (field 4 (rule_body mode least most (terms_of true name (site_rows sites.entry.list.now)))) out.old out.new result)
+        × (result ≤ at + 12 + 6 * sites.entry.count) }
 {
-    let end = put_terms(out, at + 12, sites, n, true, zone);
+    let end = put_terms(out, at + 12, sites, Some(zone));
     write_rule_head(out, at, end - at - 3, mode, least, most);
     end
 }
@@ -153,67 +159,52 @@ fn put_rule(
 fn put_clause(
     out: &mut [u8],
     at: usize,
-    sites: &[u8],
-    n: usize,
+    sites: Sites<'_>,
     zone: Value,
     least: u32,
     most: u32,
     optional: bool,
 ) -> usize
-    requires { Well false sites.now × (n ≡ length (site_rows sites.now)) × (at + 27 + 12 * n ≤ length out.old) }
+    requires { at + 27 + 12 * sites.count ≤ length out.old }
     ensures { (name : List ℕ) → Named zone name
-        → Wrote at (clause_fields (zone_clause (map site_of (site_rows sites.now))
+        → Wrote at (clause_fields (zone_clause (map site_of (site_rows sites.entry.list.now))
         (record { name = name; least = least; most = most; may_be_empty = optional }))) out.old out.new result }
 {
     write_head(out, at, CLAUSE, 0);
-    let end = put_rule(out, at + 3, sites, n, zone, BOTH, least, most);
+    let end = put_rule(out, at + 3, sites, zone, BOTH, least, most);
     if optional {
-        return put_rule(out, end, sites, n, zone, UPPER, 0, 0);
+        return put_rule(out, end, sites, zone, UPPER, 0, 0);
     }
     end
 }
 
 // "One clause per zone in list order". Answers the next place.
-fn put_clauses(out: &mut [u8], from: usize, sites: &[u8], n: usize, zones: &[u8], m: usize) -> usize
-    requires { Well false sites.now × (n ≡ length (site_rows sites.now)) × Well true zones.now × (m ≡ length (zone_rows zones.now))
-        × (from + length (clauses_of (site_rows sites.now) (zone_rows zones.now)) + 27 + 12 * n ≤ length out.old) }
-    ensures { Wrote from (clauses_of (site_rows sites.now) (zone_rows zones.now)) out.old out.new result }
+fn put_clauses(out: &mut [u8], from: usize, sites: Sites<'_>, zones: &[u8], m: usize) -> usize
+    requires { Well true zones.now × (m ≡ length (zone_rows zones.now))
+        × (from + length (clauses_of (site_rows sites.list.now) (zone_rows zones.now)) + 27 + 12 * sites.count ≤ length out.old) }
+    ensures { Wrote from (clauses_of (site_rows sites.entry.list.now) (zone_rows zones.now)) out.old out.new result }
 {
     let mut to = from;
     let mut at = 0;
-    let mut k = 0;
-    while k < m {
-        let row = read_row(zones, at, true);
-        let zone = row.first;
-        let least = row.second;
-        let most = row.third;
-        let answer = row.fourth;
-        let yes = is_yes(answer);
-        to = put_clause(
-            out,
-            to,
-            sites,
-            n,
-            zone,
-            number_of(least),
-            number_of(most),
-            yes,
-        );
+    for k in 0..m {
+        let row = read_row(zones, at, Listed::Zones).unwrap();
+        let least = number_of(row.second);
+        let most = number_of(row.third);
+        to = put_clause(out, to, sites, row.first, least, most, is_yes(row.fourth));
         at = row.next;
-        k += 1;
     }
     to
 }
 
 // "One variable per site in file order; the objective is metres". Answers the next place.
-fn put_front(out: &mut [u8], sites: &[u8], n: usize) -> usize
-    requires { Well false sites.now × (n ≡ length (site_rows sites.now)) × (8 + 6 * n ≤ length out.old) }
-    ensures { Wrote 0 (field 1 (bytes_of 2 n) ++ field 2 (terms_of false [] (site_rows sites.now))) out.old out.new result
-        × (result ≤ 8 + 6 * n) }
+fn put_front(out: &mut [u8], sites: Sites<'_>) -> usize
+    requires { 8 + 6 * sites.count ≤ length out.old }
+    ensures { Wrote 0 (field 1 (bytes_of 2 sites.entry.count) ++ field 2 (terms_of false [] (site_rows sites.entry.list.now))) out.old out.new result
+        × (result ≤ 8 + 6 * sites.entry.count) }
 {
     write_head(out, 0, COUNT, 2);
-    write_u16(out, 3, n);
-    let end = put_terms(out, 8, sites, n, false, empty());
+    write_u16(out, 3, sites.count);
+    let end = put_terms(out, 8, sites, None);
     write_head(out, 5, OBJECTIVE, end - 8);
     end
 }
@@ -225,8 +216,12 @@ pub fn put_plan(out: &mut [u8], sites: &[u8], n: usize, zones: &[u8], m: usize) 
     ensures { (out.new ≡ front (write (plan_of (site_rows sites.now) (zone_rows zones.now))) out.old)
         × (result ≡ length (write (plan_of (site_rows sites.now) (zone_rows zones.now)))) }
 {
-    let end = put_front(out, sites, n);
-    let last = put_clauses(out, end, sites, n, zones, m);
+    let sites = Sites {
+        list: sites,
+        count: n,
+    };
+    let end = put_front(out, sites);
+    let last = put_clauses(out, end, sites, zones, m);
     write_head(out, last, END, 0);
     last + 3
 }

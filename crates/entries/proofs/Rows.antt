@@ -3,25 +3,30 @@
 use Prim.Native.Nat.{ℕ, suc, ◌+◌, ◌-◌, ◌≤◌, ◌<◌}
 use native.Mathlib.Omega.{arith}
 use native.Mathlib.Numerals.{add-one}
-use mathlib.Core.Path.{◌≡◌, sym, ap, ap₂, ◌∙◌}
+use mathlib.Core.Path.{◌≡◌, refl, sym, ap, ap₂, ◌∙◌}
 use mathlib.Core.Bool.{Bool, true, false, not, cond}
 use mathlib.Core.List.{List}
+use mathlib.Core.Option.{none}
+use Rattle.std.proofs.Common.{rules, Option, Some, None, IsSome}
 use lib.ListN.{length, take, drop}
 use lib.Seq.{take-length}
 use borrow.Author.Tests.{eq-eqb, ne_eqb}
-use Rattle.plpb.specs.Lists.{◌or◌, any}
+use Rattle.plpb.specs.Lists.{◌and◌, any}
 use Rattle.cells.specs.declared.value.Value.{Value}
 use Rattle.rows.specs.declared.row.Row.{Row}
-use Rattle.cells.specs.Grammar.{row_of, column_of}
+use Rattle.std.proofs.lemmas.Option.{MatchOption-at_some}
+use Rattle.cells.specs.Grammar as Grammar
+use Rattle.cells.specs.Grammar.{malformed, row_of, column_of}
 use Rattle.cells.specs.Values.{gather, same_value}
-use Rattle.rows.specs.Reading.{Holds, ReadsRow, columns}
-use Rattle.rows.proofs.Rows.{Place, is_row, row_held, place_next, rows_short}
-use Rattle.lists.specs.Refusals.{Entry, entry_at, has, repeated, row_fault, Judged, judged_from}
+use Rattle.rows.specs.Reading.{is_some, Holds, ReadsRow, Reads, columns}
+use Rattle.rows.proofs.Rows.{Place, is_row, row_held, place_next, malformed_last, rows_short}
+use Rattle.lists.specs.Refusals.{site_formed, zone_formed, site_fault, zone_fault, Entry, entry_at, has, repeated, row_fault, Judged, judged_from}
 use Rattle.lists.proofs.RowBytes.{rows_bytes}
 use Rattle.lists.proofs.Judging.{judged_on, judged_stop, judged_end, judged_none}
 use Rattle.lists.proofs.Accepted.{own_none}
-use Rattle.entries.specs.declared.Judged.{Judged as JudgedT}
-use Rattle.entries.specs.Judging.{entries_of, OfBytes, own_fault, Well, zone_column, missing, Says}
+use Rattle.entries.specs.declared.Fault.{Fault}
+use Rattle.entries.specs.declared.Fault.TheVariants.{Malformed, OutOfRange, Repeated, Unlisted, Unused}
+use Rattle.entries.specs.Judging.{entries_of, OfBytes, own_fault, Well, zone_column, fault_number, missing, IsAt}
 use Rattle.entries.proofs.Tests.{has_alike, key_short, zone_short}
 
 -- A row's fault by its parts.
@@ -87,8 +92,16 @@ module _ (f : ℕ → ℕ) (n k : ℕ) where
   pub judge_end : n ≤ k → from ≡ record { fault = 0; rows = k }
   judge_end h = let e : n - k ≡ 0 = omega arith in ap (λ (j : ℕ). judged_from f j k) e ∙ judged_end f k
 
-pub says : {j : Judged} {r : JudgedT} (fault rows : ℕ) → j ≡ record { fault = fault; rows = rows } → r.fault ≡ fault → r.rows ≡ rows → Says j r
-says fault rows e p q = rw e (record { fault_is = p; rows_are = q })
+-- The code's faults have numbers above 0.
+pub some_fault : (f : Fault) → fault_number f ≡ 0 → ⊥
+some_fault Malformed e = omega arith
+some_fault OutOfRange e = omega arith
+some_fault Repeated e = omega arith
+some_fault Unlisted e = omega arith
+some_fault Unused e = omega arith
+
+pub at_fault : {j : Judged} (f : Fault) (rows : ℕ) → j ≡ record { fault = fault_number f; rows = rows } → IsAt j (record { fault = f; row = rows + 1 })
+at_fault f rows e = (ap (λ (j : Judged). j.fault) e, ap (λ (j : Judged). j.rows + 1) (sym e))
 
 pub missing_none : (fault : ℕ) (zones : Bool) (xs others : List Entry) (k : ℕ)
     → has (zone_column (not zones)) (column_of (zone_column zones) (entry_at xs k)) others ≡ true → missing fault zones xs others k ≡ 0
@@ -105,12 +118,44 @@ pub well_own : (zones : Bool) (s : List ℕ) → Well zones s → (k : ℕ) → 
 well_own zones s h k l =
     own_sound zones (entries_of zones s) k (judged_none (row_fault zones (entries_of zones s)) (length (entries_of zones s)) 0 h k (omega arith) (omega arith))
 
-pub column_known : (zones : Bool) → zone_column zones < 4
-column_known true = omega arith
-column_known false = omega arith
-
 pub judge_start : (f : ℕ → ℕ) (n : ℕ) → judged_from f (n - 0) 0 ≡ judged_from f n 0
 judge_start f n = let e : n - 0 ≡ n = omega arith in ap (λ (j : ℕ). judged_from f j 0) e
+
+-- At a malformed row.
+own_malformed : (zones : Bool) → own_fault zones none ≡ 51
+unfolding site_fault zone_fault site_formed zone_formed is_some ◌and◌
+own_malformed true = refl
+own_malformed false = refl
+
+module _ (zones : Bool) (s : List ℕ) (k at : ℕ) (p : Place zones s k at) (l : at < length s) (w : row_of (columns zones) (drop at s) ≡ malformed) where
+  abbrev broken : ℕ
+  broken = own_fault zones (entry_at (entries_of zones s) k)
+
+  is_broken : broken ≡ 51
+  is_broken = ap (own_fault zones) (malformed_last zones s k at p l w).1 ∙ own_malformed zones
+
+  broken_here : k < length (entries_of zones s)
+  broken_here = (malformed_last zones s k at p l w).0
+
+  pub broken_fits : k < length s
+  broken_fits = omega (arith, broken_here, rows_short (columns zones) s)
+
+  pub stop_malformed : judged_from (row_fault zones (entries_of zones s)) (length (entries_of zones s) - k) k ≡ record { fault = 51; rows = k }
+  stop_malformed =
+      let f : row_fault zones (entries_of zones s) k ≡ 51 = fault_own zones (entries_of zones s) k (λ z. omega (arith, is_broken, z)) ∙ is_broken in
+      judge_stop (row_fault zones (entries_of zones s)) (length (entries_of zones s)) k broken_here (λ z. omega (arith, f, z)) ∙ ap (λ (x : ℕ). record { fault = x; rows = k }) f
+
+  none_broken : Well zones s → ⊥
+  none_broken h = omega (arith, is_broken, well_own zones s h k broken_here)
+
+-- Where nothing is wrong with a list, the code reads a row.
+pub well_read :
+    (zones : Bool) (s : List ℕ) (k at : ℕ) → Place zones s k at → at < length s → Well zones s → (r : Option Row) → Reads s (row_of (columns zones) (drop at s)) r → IsSome r
+well_read zones s k at p l h None w = absurd (none_broken zones s k at p l w h)
+well_read zones s k at p l h (Some row) w = search rules
+
+pub row_read : {s : List ℕ} {w : Grammar.Row} {r : Option Row} {row : Row} → r ≡ Some row → Reads s w r → ReadsRow s w row
+row_read e h = MatchOption-at_some _ _ _ e h
 
 -- At a row that the code has read.
 module _ (zones : Bool) (s : List ℕ) (k at : ℕ) (p : Place zones s k at) (r : Row) (l : at < length s) (h : ReadsRow s (row_of (columns zones) (drop at s)) r) where

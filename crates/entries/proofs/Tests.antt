@@ -2,78 +2,26 @@
 -- Assumes nothing.
 use Prim.Native.Nat.{ℕ, suc, ◌≤◌, ◌<◌}
 use native.Mathlib.Omega.{arith}
-use mathlib.Core.Path.{◌≡◌, refl, sym, ap, ap₂, ◌∙◌}
+use mathlib.Core.Path.{◌≡◌, refl, ap, ap₂, ◌∙◌}
 use mathlib.Core.Bool.{Bool, true, false, not, cond}
 use mathlib.Core.List.{List, [], ◌∷◌}
 use mathlib.Core.Option.{none}
-use lib.Dec.{eqb, leb, ltb}
+use lib.Dec.{eqb, ltb}
 use lib.ListN.{length, get_or, take, length-take}
 use lib.Seq.{get_or-take}
-use borrow.Author.Tests.{le-leb, lt-leb, lt-ltb, le-ltb, leb-true, eq-eqb, ne_eqb}
+use borrow.Author.Tests.{lt-ltb, le-ltb, leb-true}
 use Rattle.plpb.specs.Lists.{◌and◌, ◌or◌, any, all}
 use Rattle.format.proofs.Bools.{and_left, and_right}
 use Rattle.cells.specs.declared.value.Value.{Value}
-use Rattle.rows.specs.declared.row.Row.{Row}
 use Rattle.cells.specs.Grammar.{rows_of, column_of, same_bytes}
 use Rattle.cells.specs.Values.{gather, gather_from, added, same_value}
-use Rattle.rows.specs.Reading.{is_some, Holds}
+use Rattle.rows.specs.Reading.{is_some}
 use Rattle.lists.specs.Refusals.{Entry, is_name, is_number, number_of, yes_bytes, no_bytes, is_yes, is_no, site_formed, zone_formed, site_fault, zone_fault, has}
-use Rattle.lists.proofs.Values.{name_value, name_alike, number_value, number_alike, number_says, Bytes, same_alike}
+use Rattle.lists.proofs.Values.{number_says, Bytes, same_alike}
 use Rattle.lists.proofs.RowBytes.{rows_bytes}
 use Rattle.entries.specs.Judging.{own_fault, zone_column}
 
 -- ---- values
-
-pub name_short : (v : Value) (bytes : List ℕ) → v ≡ gather bytes → v.length < 1 → false ≡ is_name bytes
-unfolding name_value ◌and◌
-name_short v bytes e h = sym (lemma v h) ∙ ap name_value e ∙ name_alike bytes
-  where
-    lemma : (v : Value) → v.length < 1 → name_value v ≡ false
-    lemma v h = rw (lt-leb 1 v.length h)
-
-pub name_else : (v : Value) (bytes : List ℕ) → v ≡ gather bytes → 1 ≤ v.length → leb v.length 16 ≡ is_name bytes
-unfolding name_value ◌and◌
-name_else v bytes e h = sym (lemma v h) ∙ ap name_value e ∙ name_alike bytes
-  where
-    lemma : (v : Value) → 1 ≤ v.length → name_value v ≡ leb v.length 16
-    lemma v h = rw (le-leb 1 v.length h)
-
-pub number_short : (v : Value) (bytes : List ℕ) → v ≡ gather bytes → v.length < 1 → false ≡ is_number bytes
-unfolding number_value ◌and◌
-number_short v bytes e h = sym (lemma v h) ∙ ap number_value e ∙ number_alike bytes
-  where
-    lemma : (v : Value) → v.length < 1 → number_value v ≡ false
-    lemma v h = rw (lt-leb 1 v.length h)
-
-pub number_long : (v : Value) (bytes : List ℕ) → v ≡ gather bytes → 1 ≤ v.length → 7 < v.length → false ≡ is_number bytes
-unfolding number_value ◌and◌
-number_long v bytes e h l = sym (lemma v h l) ∙ ap number_value e ∙ number_alike bytes
-  where
-    lemma : (v : Value) → 1 ≤ v.length → 7 < v.length → number_value v ≡ false
-    lemma v h l = rw (le-leb 1 v.length h, lt-leb v.length 7 l)
-
-pub number_else : (v : Value) (bytes : List ℕ) → v ≡ gather bytes → 1 ≤ v.length → v.length ≤ 7 → v.digits ≡ is_number bytes
-unfolding number_value ◌and◌
-number_else v bytes e h l = sym (lemma v h l) ∙ ap number_value e ∙ number_alike bytes
-  where
-    lemma : (v : Value) → 1 ≤ v.length → v.length ≤ 7 → number_value v ≡ v.digits
-    lemma v h l = rw (le-leb 1 v.length h, le-leb v.length 7 l)
-
-module _ (v : Value) (k w : ℕ) where
-  abbrev Word : Bool
-  Word = eqb v.length k and eqb v.low w and eqb v.high 0
-
-  pub word_length : (v.length ≡ k → ⊥) → false ≡ Word
-  unfolding ◌and◌
-  word_length n = rw (ne_eqb v.length k n)
-
-  pub word_low : v.length ≡ k → (v.low ≡ w → ⊥) → false ≡ Word
-  unfolding ◌and◌
-  word_low e n = rw (eq-eqb v.length k e, ne_eqb v.low w n)
-
-  pub word_high : v.length ≡ k → v.low ≡ w → eqb v.high 0 ≡ Word
-  unfolding ◌and◌
-  word_high e f = rw (eq-eqb v.length k e, eq-eqb v.low w f)
 
 -- The two words as the code holds them.
 pub word_yes : (v : Value) → (eqb v.length 3 and eqb v.low 7_955_827 and eqb v.high 0) ≡ same_value v (gather yes_bytes)
@@ -86,55 +34,25 @@ word_no v = refl
 
 -- ---- rows
 
-module _ (x : Entry) (r : Row) (h : Holds x r) where
-  abbrev a : List ℕ
-  a = column_of 0 x
+-- A test behind another.
+pub and_then : {p q v : Bool} → p ≡ true → v ≡ q → v ≡ (p and q)
+unfolding ◌and◌
+and_then e f = rw e f
 
-  abbrev b : List ℕ
-  b = column_of 1 x
+pub and_else : {p v : Bool} (q : Bool) → p ≡ false → v ≡ false → v ≡ (p and q)
+unfolding ◌and◌
+and_else q e f = rw e f
 
-  abbrev c : List ℕ
-  c = column_of 2 x
-
-  abbrev d : List ℕ
-  d = column_of 3 x
-
-  module _ (o : is_some x ≡ true) where
-    pub site_code : is_name a ≡ false → false ≡ site_formed x
-    unfolding site_formed ◌and◌
-    site_code e = rw (o, e)
-
-    pub site_metres : is_name a ≡ true → is_number b ≡ false → false ≡ site_formed x
-    unfolding site_formed ◌and◌
-    site_metres e f = rw (o, e, f)
-
-    pub site_zone : is_name a ≡ true → is_number b ≡ true → is_name c ≡ site_formed x
-    unfolding site_formed ◌and◌
-    site_zone e f = rw (o, e, f)
-
-    pub zone_name : is_name a ≡ false → false ≡ zone_formed x
-    unfolding zone_formed ◌and◌
-    zone_name e = rw (o, e)
-
-    pub zone_least : is_name a ≡ true → is_number b ≡ false → false ≡ zone_formed x
-    unfolding zone_formed ◌and◌
-    zone_least e f = rw (o, e, f)
-
-    pub zone_most : is_name a ≡ true → is_number b ≡ true → is_number c ≡ false → false ≡ zone_formed x
-    unfolding zone_formed ◌and◌
-    zone_most e f g = rw (o, e, f, g)
-
-    pub zone_answer : is_name a ≡ true → is_number b ≡ true → is_number c ≡ true → (is_yes d or is_no d) ≡ zone_formed x
-    unfolding zone_formed ◌and◌
-    zone_answer e f g = rw (o, e, f, g)
-
-  pub site_broken : is_some x ≡ false → false ≡ site_formed x
+-- A row that the grammar has is formed by its columns.
+module _ (x : Entry) (h : is_some x ≡ true) where
+  pub site_by_columns : (is_name (column_of 0 x) and is_number (column_of 1 x) and is_name (column_of 2 x)) ≡ site_formed x
   unfolding site_formed ◌and◌
-  site_broken e = rw e
+  site_by_columns = rw h
 
-  pub zone_broken : is_some x ≡ false → false ≡ zone_formed x
+  pub zone_by_columns :
+      (is_name (column_of 0 x) and is_number (column_of 1 x) and is_number (column_of 2 x) and (is_yes (column_of 3 x) or is_no (column_of 3 x))) ≡ zone_formed x
   unfolding zone_formed ◌and◌
-  zone_broken e = rw e
+  zone_by_columns = rw h
 
 -- `yes` or `no` in the last column.
 pub answer_alike :

@@ -2,21 +2,22 @@
 -- Assumes nothing.
 use Prim.Native.Nat.{ℕ, ◌+◌, ◌≤◌, ◌<◌}
 use native.Mathlib.Omega.{arith}
-use mathlib.Core.Path.{◌≡◌, refl, sym, ◌∙◌}
-use mathlib.Core.Bool.{Bool, true, false, cond}
+use mathlib.Core.Path.{◌≡◌, refl, sym, ap, ◌∙◌}
+use mathlib.Core.Bool.{true, false, cond}
 use mathlib.Core.List.{List}
+use Rattle.std.proofs.Common.{Result, Ok, Err, MatchResult, IsErrAnd}
 use lib.Dec.{eqb, ltb}
 use lib.ListN.{length}
 use borrow.Author.Tests.{eq-eqb, ne_eqb, le-ltb, lt-ltb}
 use Rattle.plpb.specs.Lists.{◌or◌}
-use Rattle.rows.specs.Reading.{columns}
-use Rattle.rows.proofs.Rows.{rows_short}
 use Rattle.lists.specs.Refusals.{Entry, row_fault, unlisted, unused, Judged, judged, Refusal, accepted, plan_of, too_large, refusal_of}
-use Rattle.lists.proofs.Judging.{judged_before, judged_rows, list_on, list_stop}
+use Rattle.lists.proofs.Judging.{judged_rows, list_on, list_stop}
 use Rattle.lists.proofs.Accepted.{large_by_sites}
-use Rattle.entries.specs.declared.Judged.{Judged as JudgedT}
-use Rattle.entries.specs.declared.Verdict.{Verdict}
-use Rattle.entries.specs.Judging.{entries_of, missing, Says, Tells}
+use Rattle.entries.specs.declared.AtFault.{AtFault}
+use Rattle.entries.specs.declared.Refusal.{Refusal as RefusalT}
+use Rattle.entries.specs.declared.Refusal.TheVariants.{Site, Zone}
+use Rattle.entries.specs.Judging.{missing, IsAt, refusal_numbers}
+use Rattle.entries.proofs.Rows.{some_fault}
 
 pub unlisted_is : (sites zones : List Entry) → missing 54 false sites zones ≡ unlisted sites zones
 unfolding missing unlisted
@@ -25,18 +26,6 @@ unlisted_is sites zones = refl
 pub unused_is : (sites zones : List Entry) → missing 55 true zones sites ≡ unused sites zones
 unfolding missing unused
 unused_is sites zones = refl
-
--- The verdict of the code.
-pub tells_refused :
-    (f : Refusal) (sites zones : List Entry) (n list row : ℕ) {r : Verdict} → f ≡ record { number = n; list = list; row = row } → (n ≡ 0 → ⊥)
-    → r ≡ record { refusal = n; list = list; row = row; sites = 0; zones = 0 } → Tells f sites zones r
-tells_refused f sites zones n list row e m q =
-    rw (e, q) (record { refusal_is = refl; list_is = refl; row_is = refl; sites_are = λ z. absurd (m z); zones_are = λ z. absurd (m z) })
-
-pub tells_accepted :
-    (f : Refusal) (sites zones : List Entry) (s z : ℕ) → f ≡ accepted → s ≡ length sites → z ≡ length zones
-    → Tells f sites zones (record { refusal = 0; list = 0; row = 0; sites = s; zones = z })
-tells_accepted f sites zones s z e p q = rw e (record { refusal_is = refl; list_is = refl; row_is = refl; sites_are = λ _. p; zones_are = λ _. q })
 
 -- The refusals in their order.
 module _ (sites zones : List Entry) where
@@ -97,18 +86,38 @@ module _ (sites zones : List Entry) where
           unfolding ◌or◌
           accept n l = last_of ∙ rw (ne_eqb (length sites) 0 n, large, le-ltb 512 (length sites) l)
 
--- The row at fault can be counted.
-pub row_counts : (zones : Bool) (s : List ℕ) (f : ℕ → ℕ) (r : JudgedT) → Says (judged f (entries_of zones s)) r → (r.fault ≡ 0 → ⊥) → r.rows < length s
-row_counts zones s f r h n =
-    let l = judged_before f (length (entries_of zones s)) 0 (λ z. n (h.fault_is ∙ z)) in
-    omega (arith, l, h.rows_are, rows_short (columns zones) s)
-
 -- Without a fault all rows were looked at.
-pub all_rows : (xs : List Entry) (f : ℕ → ℕ) (r : JudgedT) → Says (judged f xs) r → r.fault ≡ 0 → ((judged f xs).fault ≡ 0) × (r.rows ≡ length xs)
-all_rows xs f r h e =
-    let z : (judged f xs).fault ≡ 0 = sym h.fault_is ∙ e in
-    (z, h.rows_are ∙ judged_rows f (length xs) 0 z ∙ omega arith)
+pub all_rows : (xs : List Entry) (f : ℕ → ℕ) (n : ℕ) → judged f xs ≡ record { fault = 0; rows = n } → ((judged f xs).fault ≡ 0) × (n ≡ length xs)
+all_rows xs f n e =
+    let z : (judged f xs).fault ≡ 0 = ap (λ (j : Judged). j.fault) e in
+    (z, ap (λ (j : Judged). j.rows) (sym e) ∙ judged_rows f (length xs) 0 z ∙ omega arith)
 
 -- What the code read off is where the definition has it.
-pub at_row : (j : Judged) (r : JudgedT) (list : ℕ) → Says j r → ◌≡◌ {A = Refusal} (record { number = j.fault; list = list; row = j.rows + 1 }) (record { number = r.fault; list = list; row = r.rows + 1 })
-at_row j r list h = rw (h.fault_is, h.rows_are)
+module _ (j : Judged) (e : AtFault) (h : IsAt j e) where
+  pub is_fault : j.fault ≡ 0 → ⊥
+  is_fault z = some_fault e.fault (sym h.0 ∙ z)
+
+  pub at_site : ◌≡◌ {A = Refusal} (record { number = j.fault; list = 1; row = j.rows + 1 }) (refusal_numbers (Site e))
+  at_site = rw (h.0, h.1)
+
+  pub at_zone : ◌≡◌ {A = Refusal} (record { number = j.fault; list = 2; row = j.rows + 1 }) (refusal_numbers (Zone e))
+  at_zone = rw (h.0, h.1)
+
+-- A row's fault as the refusal of either list.
+abbrev pub AsSite : AtFault → RefusalT → Type 0
+AsSite e y = y ≡ Site e
+
+abbrev pub AsZone : AtFault → RefusalT → Type 0
+AsZone e y = y ≡ Zone e
+
+-- What `map_err` was given: the error that it turned into another, or the value that it kept.
+pub turned :
+    {X E D : Type 0} (r : Result X E) (y : D) (Turns : E → D → Type 0) → MatchResult r (λ x. ◌≡◌ {A = Result X D} (Err y) (Ok x)) (λ e. let r' : Result X D = Err y in IsErrAnd r' (Turns e))
+    → (e : E) × (r ≡ Err e) × Turns e y
+turned (Ok x) y Turns h = cc
+turned (Err e) y Turns h = (e, refl, h)
+
+pub kept :
+    {X E D : Type 0} (r : Result X E) (v : X) (Turns : E → D → Type 0) → MatchResult r (λ x. ◌≡◌ {A = Result X D} (Ok v) (Ok x)) (λ e. let r' : Result X D = Ok v in IsErrAnd r' (Turns e)) → r ≡ Ok v
+kept (Ok x) v Turns h = cc
+kept (Err e) v Turns h = absurd h

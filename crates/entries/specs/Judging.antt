@@ -1,12 +1,16 @@
 -- What the code that judges the mapper's two lists answers, beside the definitions of the lists.
 -- Assumes nothing.
-use Rattle.std.specs.Prelude.{ℕ, ◌≡◌, Bool, true, not, cond, List, ltb, length}
+use Rattle.std.specs.Prelude.{ℕ, ◌+◌, ◌≡◌, Bool, true, not, cond, List, ltb, length, Option, Some, None, Result, MatchResult}
 use Rattle.plpb.specs.Lists.{all}
 use Rattle.cells.specs.Grammar.{rows_of, column_of}
 use Rattle.rows.specs.Reading.{columns}
-use Rattle.lists.specs.Refusals.{Entry, entry_at, has, site_fault, zone_fault, row_fault, Judged, judged, Refusal}
-use Rattle.entries.specs.declared.Judged.{Judged as JudgedT}
-use Rattle.entries.specs.declared.Verdict.{Verdict}
+use Rattle.lists.specs.Refusals.{Entry, entry_at, has, site_fault, zone_fault, row_fault, Judged, judged, Refusal, accepted}
+use Rattle.entries.specs.declared.Fault.{Fault}
+use Rattle.entries.specs.declared.Fault.TheVariants.{Malformed, OutOfRange, Repeated, Unlisted, Unused}
+use Rattle.entries.specs.declared.AtFault.{AtFault}
+use Rattle.entries.specs.declared.Refusal.{Refusal as RefusalT}
+use Rattle.entries.specs.declared.Refusal.TheVariants.{Site, Zone, Size}
+use Rattle.entries.specs.declared.Counts.{Counts}
 
 -- The rows of the site list, or of the zone list.
 abbrev pub entries_of : Bool → List ℕ → List Entry
@@ -32,15 +36,29 @@ zone_column zones = cond zones 0 2
 unfoldable pub missing : ℕ → Bool → List Entry → List Entry → ℕ → ℕ
 missing fault zones xs others k = cond (has (zone_column (not zones)) (column_of (zone_column zones) (entry_at xs k)) others) 0 fault
 
--- The code's answer of a list's rows.
-pub record Says (j : Judged) (r : JudgedT) : Type 0 where
-  pub fault_is : r.fault ≡ j.fault
-  pub rows_are : r.rows ≡ j.rows
+-- The numbers of the code's faults, and 0 for none.
+abbrev pub fault_number : Fault → ℕ
+fault_number Malformed = 51
+fault_number OutOfRange = 52
+fault_number Repeated = 53
+fault_number Unlisted = 54
+fault_number Unused = 55
+
+abbrev pub fault_of : Option Fault → ℕ
+fault_of None = 0
+fault_of (Some f) = fault_number f
+
+-- The code's row at fault is the first of a list.
+abbrev pub IsAt : Judged → AtFault → Type 0
+IsAt j e = (j.fault ≡ fault_number e.fault) × (e.row ≡ j.rows + 1)
+
+-- The code's refusals in numbers.
+abbrev pub refusal_numbers : RefusalT → Refusal
+refusal_numbers (Site e) = record { number = fault_number e.fault; list = 1; row = e.row }
+refusal_numbers (Zone e) = record { number = fault_number e.fault; list = 2; row = e.row }
+refusal_numbers Size = record { number = 4; list = 0; row = 0 }
 
 -- The code's verdict: the refusal, and without one how many sites and zones there are.
-pub record Tells (f : Refusal) (sites zones : List Entry) (r : Verdict) : Type 0 where
-  pub refusal_is : r.refusal ≡ f.number
-  pub list_is : r.list ≡ f.list
-  pub row_is : r.row ≡ f.row
-  pub sites_are : f.number ≡ 0 → r.sites ≡ length sites
-  pub zones_are : f.number ≡ 0 → r.zones ≡ length zones
+abbrev pub Tells : Refusal → List Entry → List Entry → Result Counts RefusalT → Type 0
+Tells f sites zones r =
+    MatchResult r (λ n. (f ≡ accepted) × (n.sites ≡ length sites) × (n.zones ≡ length zones)) (λ e. f ≡ refusal_numbers e)

@@ -1,23 +1,16 @@
 // The mapper's two lists judged: "Turned away, with list and row from 1".
 #![tactic(auto)]
 
-ghost use Rattle.std.specs.Prelude.{◌≡◌, true, false, not, eqb, List, ℕ, length};
+ghost use Rattle.std.specs.Prelude.{◌≡◌, true, false, not, eqb, List, ℕ, ◌+◌, ◌<◌, length, MatchResult};
 ghost use Rattle.plpb.specs.Lists.{◌and◌, ◌or◌};
 ghost use Rattle.cells.specs.Values.{gather, same_value};
-ghost use Rattle.rows.specs.Reading.{Holds};
+ghost use Rattle.rows.specs.Reading.{Holds, is_zones, place};
 ghost use Rattle.lists.specs.Refusals.{Entry, is_name, is_number, site_formed, zone_formed, site_fault, zone_fault, row_fault, judged, refusal_of};
 ghost use Rattle.lists.specs.Refusals.{yes_bytes, no_bytes, site_rows, zone_rows};
-ghost use Rattle.entries.specs.Judging.{entries_of, OfBytes, own_fault, Well, zone_column, missing, Says, Tells};
+ghost use Rattle.entries.specs.Judging.{entries_of, OfBytes, own_fault, Well, zone_column, fault_number, fault_of, missing, IsAt, Tells};
 
 use cells::value::Value;
-use rows::row::{Row, among, column, read_row};
-
-// The columns of the key and of the zone: "Sites: code, carry metres, zone." "Zones: zone, least, most, and `yes` or `no`".
-const KEY: usize = 0;
-
-const SITE_ZONE: usize = 2;
-
-const ZONE_NAME: usize = 0;
+use rows::row::{Column, Listed, Row, among, field_in, read_row};
 
 // "A code or zone has 1 to 16 bytes and a number 1 to 7 digits"
 const LONGEST_NAME: usize = 16;
@@ -34,19 +27,34 @@ const YES: u64 = 7955827;
 
 const NO: u64 = 28271;
 
-// What rows come to: the number that the first row at fault meets, 0 for none, and how many rows stand before it.
+// "51 malformed row, 52 number out of its range, 53 repeated code or zone, 54 unlisted zone, 55 zone without sites"
 #[derive(Clone, Copy)]
-pub struct Judged {
-    pub fault: u32,
-    pub rows: usize,
+pub enum Fault {
+    Malformed,
+    OutOfRange,
+    Repeated,
+    Unlisted,
+    Unused,
 }
 
-// A refusal's number, list and row, all 0 without one; then how many sites and zones there are.
+// The first row of a list that is at fault, from 1, and what it meets.
 #[derive(Clone, Copy)]
-pub struct Verdict {
-    pub refusal: u32,
-    pub list: u32,
+pub struct AtFault {
+    pub fault: Fault,
     pub row: usize,
+}
+
+// Why two lists are turned away: by a row of one of them, or by the size of the plan.
+#[derive(Clone, Copy)]
+pub enum Refusal {
+    Site(AtFault),
+    Zone(AtFault),
+    Size,
+}
+
+// How many sites and zones two lists have.
+#[derive(Clone, Copy)]
+pub struct Counts {
     pub sites: usize,
     pub zones: usize,
 }
@@ -54,35 +62,20 @@ pub struct Verdict {
 fn is_name(v: Value) -> bool
     ensures { (bytes : List ℕ) → v ≡ gather bytes → result ≡ is_name bytes }
 {
-    if v.length < 1 {
-        return false;
-    }
-    v.length <= LONGEST_NAME
+    matches!(v.length, 1..=LONGEST_NAME)
 }
 
 fn is_number(v: Value) -> bool
     ensures { (bytes : List ℕ) → v ≡ gather bytes → result ≡ is_number bytes }
 {
-    if v.length < 1 {
-        return false;
-    }
-    if LONGEST_NUMBER < v.length {
-        return false;
-    }
-    v.digits
+    matches!(v.length, 1..=LONGEST_NUMBER) && v.digits
 }
 
 // A word of at most 8 bytes is one number.
 fn is_word(v: Value, length: usize, word: u64) -> bool
     ensures { result ≡ (eqb v.length length and eqb v.low word and eqb v.high 0) }
 {
-    if v.length != length {
-        return false;
-    }
-    if v.low != word {
-        return false;
-    }
-    v.high == 0
+    v.length == length && v.low == word && v.high == 0
 }
 
 pub fn is_yes(v: Value) -> bool
@@ -100,194 +93,157 @@ fn is_no(v: Value) -> bool
 fn site_formed(row: Row) -> bool
     ensures { (x : Entry) → Holds x row → result ≡ site_formed x }
 {
-    let first = row.first;
-    let second = row.second;
-    let third = row.third;
-    if !row.ok {
-        return false;
-    }
-    if !is_name(first) {
-        return false;
-    }
-    if !is_number(second) {
-        return false;
-    }
-    is_name(third)
+    is_name(row.first) && is_number(row.second) && is_name(row.third)
 }
 
 // The last column of a zone.
 fn is_answer(v: Value) -> bool
     ensures { result ≡ (same_value v (gather yes_bytes) or same_value v (gather no_bytes)) }
 {
-    if is_yes(v) { true } else { is_no(v) }
+    is_yes(v) || is_no(v)
 }
 
 fn zone_formed(row: Row) -> bool
     ensures { (x : Entry) → Holds x row → OfBytes x → result ≡ zone_formed x }
 {
-    let first = row.first;
-    let second = row.second;
-    let third = row.third;
-    let fourth = row.fourth;
-    if !row.ok {
-        return false;
-    }
-    if !is_name(first) {
-        return false;
-    }
-    if !is_number(second) {
-        return false;
-    }
-    if !is_number(third) {
-        return false;
-    }
-    is_answer(fourth)
+    is_name(row.first) && is_number(row.second) && is_number(row.third) && is_answer(row.fourth)
 }
 
 // "51 malformed row, 52 number out of its range"
-fn site_fault(row: Row) -> u32
-    ensures { (x : Entry) → Holds x row → result ≡ site_fault x }
+fn site_fault(row: Row) -> Option<Fault>
+    ensures { (x : Entry) → Holds x row → fault_of result ≡ site_fault x }
 {
-    let metres = row.second;
     if !site_formed(row) {
-        return 51;
+        return Some(Fault::Malformed);
     }
-    if MOST_METRES < metres.number {
-        return 52;
+    if MOST_METRES < row.second.number {
+        return Some(Fault::OutOfRange);
     }
-    0
+    None
 }
 
-fn zone_fault(row: Row) -> u32
-    ensures { (x : Entry) → Holds x row → OfBytes x → result ≡ zone_fault x }
+fn zone_fault(row: Row) -> Option<Fault>
+    ensures { (x : Entry) → Holds x row → OfBytes x → fault_of result ≡ zone_fault x }
 {
-    let least = row.second;
-    let most = row.third;
     if !zone_formed(row) {
-        return 51;
+        return Some(Fault::Malformed);
     }
-    if MOST_SITES < least.number {
-        return 52;
+    if MOST_SITES < row.second.number {
+        return Some(Fault::OutOfRange);
     }
-    if MOST_SITES < most.number {
-        return 52;
+    if MOST_SITES < row.third.number {
+        return Some(Fault::OutOfRange);
     }
-    0
+    None
 }
 
-fn own_fault(row: Row, zones: bool) -> u32
-    ensures { (x : Entry) → Holds x row → OfBytes x → result ≡ own_fault zones x }
+fn own_fault(row: Row, listed: Listed) -> Option<Fault>
+    ensures { (x : Entry) → Holds x row → OfBytes x → fault_of result ≡ own_fault (is_zones listed) x }
 {
-    if zones {
-        zone_fault(row)
-    } else {
-        site_fault(row)
+    match listed {
+        Listed::Sites => site_fault(row),
+        Listed::Zones => zone_fault(row),
     }
 }
 
-// "The first row at fault decides, by the lower number": 51, 52, then 53.
-pub fn judge_list(s: &[u8], zones: bool) -> Judged
-    ensures { Says (judged (row_fault zones (entries_of zones s.now)) (entries_of zones s.now)) result }
+// A fault of the row behind k others: rows are counted from 1.
+fn at_row(fault: Fault, k: usize) -> AtFault
+    requires { k < usize.MAX }
+    ensures { result ≡ record { fault = fault; row = k + 1 } }
+{
+    AtFault { fault, row: k + 1 }
+}
+
+// "The first row at fault decides, by the lower number": 51, 52, then 53. Without one it answers how many rows there are.
+pub fn judge_list(s: &[u8], listed: Listed) -> Result<usize, AtFault>
+    ensures { MatchResult result
+        (λ n. judged (row_fault (is_zones listed) (entries_of (is_zones listed) s.now)) (entries_of (is_zones listed) s.now) ≡ record { fault = 0; rows = n })
+        (IsAt (judged (row_fault (is_zones listed) (entries_of (is_zones listed) s.now)) (entries_of (is_zones listed) s.now))) }
 {
     let mut at = 0;
     let mut k = 0;
     while at < s.len() {
-        let row = read_row(s, at, zones);
-        let fault = own_fault(row, zones);
-        if fault != 0 {
-            return Judged { fault, rows: k };
+        let Some(row) = read_row(s, at, listed) else {
+            return Err(at_row(Fault::Malformed, k));
+        };
+        if let Some(fault) = own_fault(row, listed) {
+            return Err(at_row(fault, k));
         }
-        let key = row.first;
-        if among(s, zones, k, KEY, key) {
-            return Judged { fault: 53, rows: k };
+        if among(s, listed, k, Column::First, row.first) {
+            return Err(at_row(Fault::Repeated, k));
         }
         at = row.next;
         k += 1;
     }
-    Judged { fault: 0, rows: k }
+    Ok(k)
 }
 
-fn zone_column(zones: bool) -> usize
-    ensures { result ≡ zone_column zones }
+// The column of the zone. "Sites: code, carry metres, zone." "Zones: zone, least, most, and `yes` or `no`".
+fn zone_column(listed: Listed) -> Column
+    ensures { place result ≡ zone_column (is_zones listed) }
 {
-    if zones { ZONE_NAME } else { SITE_ZONE }
+    match listed {
+        Listed::Sites => Column::Third,
+        Listed::Zones => Column::First,
+    }
+}
+
+// The other list.
+fn beside(listed: Listed) -> Listed
+    ensures { is_zones result ≡ not (is_zones listed) }
+{
+    match listed {
+        Listed::Sites => Listed::Zones,
+        Listed::Zones => Listed::Sites,
+    }
 }
 
 // The first row of a list whose zone no row of the other list has.
-fn judge_zones(s: &[u8], zones: bool, other: &[u8], rows: usize, fault: u32) -> Judged
-    requires { Well zones s.now × (rows ≡ length (entries_of (not zones) other.now)) × (fault ≡ 0 → ⊥) }
-    ensures { Says (judged (missing fault zones (entries_of zones s.now) (entries_of (not zones) other.now))
-        (entries_of zones s.now)) result }
+fn judge_zones(
+    s: &[u8],
+    listed: Listed,
+    other: &[u8],
+    rows: usize,
+    fault: Fault,
+) -> Result<(), AtFault>
+    requires { Well (is_zones listed) s.now × (rows ≡ length (entries_of (not (is_zones listed)) other.now)) }
+    ensures { MatchResult result
+        (λ _. (judged (missing (fault_number fault) (is_zones listed) (entries_of (is_zones listed) s.now) (entries_of (not (is_zones listed)) other.now))
+        (entries_of (is_zones listed) s.now)).fault ≡ 0)
+        (IsAt (judged (missing (fault_number fault) (is_zones listed) (entries_of (is_zones listed) s.now) (entries_of (not (is_zones listed)) other.now))
+        (entries_of (is_zones listed) s.now))) }
 {
-    let own = zone_column(zones);
-    let theirs = zone_column(!zones);
+    let own = zone_column(listed);
+    let other_list = beside(listed);
+    let theirs = zone_column(other_list);
     let mut at = 0;
     let mut k = 0;
     while at < s.len() {
-        let row = read_row(s, at, zones);
-        if !among(other, !zones, rows, theirs, column(row, own)) {
-            return Judged { fault, rows: k };
+        let row = read_row(s, at, listed).unwrap();
+        if !among(other, other_list, rows, theirs, field_in(row, own)) {
+            return Err(at_row(fault, k));
         }
         at = row.next;
         k += 1;
     }
-    Judged { fault: 0, rows: k }
+    Ok(())
 }
 
-fn refused(refusal: u32, list: u32, row: usize) -> Verdict
-    ensures { result ≡ record { refusal = refusal; list = list; row = row; sites = 0; zones = 0 } }
-{
-    Verdict {
-        refusal,
-        list,
-        row,
-        sites: 0,
-        zones: 0,
-    }
-}
-
-// "54 and then 55 come after both lists"; "then, with both 0, 4 when the plan would be too large or has no site". Where no other row is at fault, a plan
-// is too large only by its sites.
-fn judge_both(sites: &[u8], s: usize, zones: &[u8], z: usize) -> Verdict
-    requires { Well false sites.now × Well true zones.now × (s ≡ length (site_rows sites.now)) × (z ≡ length (zone_rows zones.now)) }
+// "sites before zones; 54 and then 55 come after both lists"; "then, with both 0, 4 when the plan would be too large or has no site". Where no other row is
+// at fault, a plan is too large only by its sites.
+pub fn judge(sites: &[u8], zones: &[u8]) -> Result<Counts, Refusal>
     ensures { Tells (refusal_of (site_rows sites.now) (zone_rows zones.now)) (site_rows sites.now)
         (zone_rows zones.now) result }
 {
-    let unlisted = judge_zones(sites, false, zones, z, 54);
-    if unlisted.fault != 0 {
-        return refused(unlisted.fault, 1, unlisted.rows + 1);
-    }
-    let unused = judge_zones(zones, true, sites, s, 55);
-    if unused.fault != 0 {
-        return refused(unused.fault, 2, unused.rows + 1);
-    }
+    let s = judge_list(sites, Listed::Sites).map_err(Refusal::Site)?;
+    let z = judge_list(zones, Listed::Zones).map_err(Refusal::Zone)?;
+    judge_zones(sites, Listed::Sites, zones, z, Fault::Unlisted).map_err(Refusal::Site)?;
+    judge_zones(zones, Listed::Zones, sites, s, Fault::Unused).map_err(Refusal::Zone)?;
     if s == 0 {
-        return refused(4, 0, 0);
+        return Err(Refusal::Size);
     }
     if 512 < s {
-        return refused(4, 0, 0);
+        return Err(Refusal::Size);
     }
-    Verdict {
-        refusal: 0,
-        list: 0,
-        row: 0,
-        sites: s,
-        zones: z,
-    }
-}
-
-// "sites before zones"
-pub fn judge(sites: &[u8], zones: &[u8]) -> Verdict
-    ensures { Tells (refusal_of (site_rows sites.now) (zone_rows zones.now)) (site_rows sites.now)
-        (zone_rows zones.now) result }
-{
-    let s = judge_list(sites, false);
-    if s.fault != 0 {
-        return refused(s.fault, 1, s.rows + 1);
-    }
-    let z = judge_list(zones, true);
-    if z.fault != 0 {
-        return refused(z.fault, 2, z.rows + 1);
-    }
-    judge_both(sites, s.rows, zones, z.rows)
+    Ok(Counts { sites: s, zones: z })
 }

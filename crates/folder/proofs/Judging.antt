@@ -2,19 +2,19 @@
 -- Assumes nothing.
 use Prim.Native.Nat.{ℕ, suc, ◌+◌, ◌≤◌, ◌<◌}
 use native.Mathlib.Omega.{arith}
-use mathlib.Core.Path.{◌≡◌, refl, sym, ap, ◌∙◌}
-use mathlib.Core.Bool.{Bool, true, false, not, cond}
+use mathlib.Core.Path.{◌≡◌, refl, sym, ap, ap₂, ◌∙◌}
+use mathlib.Core.Bool.{Bool, true, false}
 use mathlib.Core.List.{List}
 use lib.Dec.{eqb}
 use lib.ListN.{length, get_or}
 use borrow.Author.Tests.{eq-eqb, ne_eqb, lt-ltb, le-ltb, ltb-false, eqb-true, not-false}
 use Rattle.plpb.specs.Lists.{◌or◌}
 use Rattle.words.specs.Words.{num_at}
-use Rattle.format.specs.File.{refuse, tag_at, length_at}
+use Rattle.format.specs.File.{refused, accepted, refuse, tag_at, length_at}
 use Rattle.settings.specs.declared.Settings.{Settings as Asked}
 use Rattle.settings.specs.Settings.{settings_refusal}
-use Rattle.folder.specs.Files.{may_measure, if_long, asked_in, walk_fault, judged, read_walk, walked}
-use Rattle.folder.specs.declared.files.Walked.TheVariants.{Settings, Refused}
+use Rattle.folder.specs.Files.{may_measure, if_long, asked_in, walk_fault, judged, read_walk, refusal_number, refusal_offset}
+use Rattle.folder.specs.declared.files.Refusal.{Refusal}
 
 -- The byte at a place is its number of one byte.
 pub one_byte : (s : List ℕ) (at : ℕ) → get_or s at 0 ≡ num_at 1 s at
@@ -97,32 +97,30 @@ sized s z n e =
 
 -- What the file comes to, by the answers of the tests.
 module _ (s : List ℕ) where
-  pub read_fault : (n : ℕ) → n ≡ walk_fault s → (n ≡ 0 → ⊥) → Refused n 0 ≡ walked (read_walk s)
-  unfolding read_walk walked
-  read_fault n e h =
-      let l : 0 < walk_fault s = omega (arith, h, e) in
-      rw (lt-ltb _ _ l) (ap (λ (k : ℕ). Refused k 0) e)
+  pub read_fault : (r : Refusal) → walk_fault s ≡ refusal_number r → refusal_offset r ≡ 0 → 0 < refusal_number r → refused (refusal_number r) (refusal_offset r) ≡ read_walk s
+  unfolding read_walk
+  read_fault r e o h = rw (lt-ltb 0 (walk_fault s) (omega (arith, h, e))) (ap₂ refused (sym e) o)
 
-  pub read_more : walk_fault s ≡ 0 → (n : ℕ) → n ≡ num_at 2 s 1 → 3 + n < length s → Refused 7 (3 + n) ≡ walked (read_walk s)
-  unfolding read_walk walked
+  pub read_more : walk_fault s ≡ 0 → (n : ℕ) → n ≡ num_at 2 s 1 → 3 + n < length s → refused 7 (3 + n) ≡ read_walk s
+  unfolding read_walk
   read_more e n l h = rw (e, size_told s n l, lt-ltb _ _ h)
 
   pub read_settings :
       walk_fault s ≡ 0 → (n : ℕ) → n ≡ num_at 2 s 1 → length s ≤ 3 + n → {a b c d f g : ℕ}
       → a ≡ num_at 2 s 3 → b ≡ num_at 2 s 5 → c ≡ num_at 4 s 7 → d ≡ get_or s 11 0 → f ≡ if_long n (num_at 1 s 12) → g ≡ if_long n (num_at 2 s 13)
-      → walked (judged (record { noise = a; tries = b; flips = c; mode = d; heuristic = f; chance = g })) ≡ walked (read_walk s)
+      → judged (record { noise = a; tries = b; flips = c; mode = d; heuristic = f; chance = g }) ≡ read_walk s
   unfolding read_walk asked_in
   read_settings e n l h {a} {b} {c} {d} {f} {g} p q r t u v =
       let m : d ≡ num_at 1 s 11 = t ∙ one_byte s 11 in
       rw (e, size_told s n l, le-ltb _ _ h)
-      (λ i. walked (judged (record { noise = p i; tries = q i; flips = r i; mode = m i; heuristic = u i; chance = v i })))
+      (λ i. judged (record { noise = p i; tries = q i; flips = r i; mode = m i; heuristic = u i; chance = v i }))
 
-pub judged_fault : (k : Asked) (n : ℕ) → n ≡ settings_refusal k → (n ≡ 0 → ⊥) → Refused n 0 ≡ walked (judged k)
-unfolding judged walked
+pub judged_fault : (k : Asked) (n : ℕ) → n ≡ settings_refusal k → (n ≡ 0 → ⊥) → refused n 0 ≡ judged k
+unfolding judged
 judged_fault k n e h =
     let l : 0 < settings_refusal k = omega (arith, h, e) in
-    rw (lt-ltb _ _ l) (ap (λ (m : ℕ). Refused m 0) e)
+    rw (lt-ltb _ _ l) (ap (λ (m : ℕ). refused m 0) e)
 
-pub judged_lawful : (k : Asked) → settings_refusal k ≡ 0 → Settings k ≡ walked (judged k)
-unfolding judged walked
+pub judged_lawful : (k : Asked) → settings_refusal k ≡ 0 → accepted k ≡ judged k
+unfolding judged
 judged_lawful k e = rw e

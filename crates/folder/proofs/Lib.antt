@@ -1,3 +1,2 @@
 -- What holds of walk.bin and of the text that the program prints.
 pub mod Judging
-pub mod Long

@@ -1,14 +1,14 @@
 -- walk.bin and numbers.bin as definitions: from any list of bytes to the settings, or the refusal's number with its offset
 -- (document 01, "The program and its two lines"; document 02, T-09).
 -- Assumes nothing.
-use Rattle.std.specs.Prelude.{ℕ, ◌+◌, ◌%◌, Bool, not, cond, List, ltb, eqb, length}
+use Rattle.std.specs.Prelude.{ℕ, ◌+◌, ◌%◌, ◌<◌, ◌≡◌, Bool, not, cond, List, ltb, eqb, length, Result, Ok, Err}
 use Rattle.plpb.specs.Lists.{◌or◌}
 use Rattle.words.specs.Words.{num_at}
 use Rattle.format.specs.File.{Reading, refused, accepted, refuse, tag_at, length_at}
 use Rattle.settings.specs.declared.Settings.{Settings as Asked}
 use Rattle.settings.specs.Settings.{settings_refusal}
-use Rattle.folder.specs.declared.files.Walked.{Walked}
-use Rattle.folder.specs.declared.files.Walked.TheVariants.{Settings, Refused}
+use Rattle.folder.specs.declared.files.Refusal.{Refusal}
+use Rattle.folder.specs.declared.files.Refusal.TheVariants.{Short, Tag, Length, Behind, Setting, Numbers}
 
 -- "walk.bin may have length 12" besides 9.
 unfoldable pub may_measure : ℕ → Bool
@@ -47,10 +47,27 @@ read_walk s =
     cond (ltb 0 (walk_fault s)) (refused (walk_fault s) 0)
     (cond (ltb (3 + length_at s 0) (length s)) (refused 7 (3 + length_at s 0)) (judged (asked_in s)))
 
--- What a reading comes to.
-unfoldable pub walked : Reading Asked → Walked
-walked (refused number offset) = Refused number offset
-walked (accepted k) = Settings k
+-- The code's refusals in numbers: the number, and the offset.
+abbrev pub refusal_number : Refusal → ℕ
+refusal_number Short = 1
+refusal_number Tag = 2
+refusal_number Length = 3
+refusal_number (Behind at) = 7
+refusal_number (Setting n) = n
+refusal_number Numbers = 8
+
+abbrev pub refusal_offset : Refusal → ℕ
+refusal_offset (Behind at) = at
+refusal_offset _ = 0
+
+-- What the code read off, as the definition has it.
+abbrev pub reading : Result Asked Refusal → Reading Asked
+reading (Ok k) = accepted k
+reading (Err r) = refused (refusal_number r) (refusal_offset r)
+
+-- The code refuses with a number, and offset 0.
+abbrev pub Refuses : ℕ → Refusal → Type 0
+Refuses n r = (n ≡ refusal_number r) × (refusal_offset r ≡ 0) × (0 < refusal_number r)
 
 -- "Numbers.bin: 8 when its length is no multiple of 4."
 unfoldable pub numbers_refusal : List ℕ → ℕ

@@ -1,56 +1,62 @@
 // walk.bin and numbers.bin judged, and the sizes of the three files.
-ghost use Rattle.std.specs.Prelude.{◌≡◌, ◌+◌, ◌≤◌, length};
+ghost use Rattle.std.specs.Prelude.{◌≡◌, ◌+◌, ◌≤◌, length, MatchResult};
 ghost use Rattle.plpb.specs.Lists.{◌or◌};
 ghost use Rattle.words.specs.Words.{num_at};
-ghost use Rattle.folder.specs.Files.{may_measure, if_long, walk_fault, judged, read_walk, walked, numbers_refusal, too_long};
+ghost use Rattle.folder.specs.Files.{may_measure, if_long, walk_fault, judged, read_walk, reading, Refuses, numbers_refusal, too_long};
 
 use settings::{Settings, settings_refusal};
 
-// The settings, or the refusal's number and offset.
+// The most bytes that a file may have.
+const LONGEST: usize = 65536;
+
+// Why walk.bin or numbers.bin is turned away: the head or the body of the field ends too soon, another tag, another length, bytes behind the field from a
+// place on, a setting out of its range by its number, or a list that ends within a number.
 #[derive(Clone, Copy)]
-pub enum Walked {
-    Settings(Settings),
-    Refused(u32, usize),
+pub enum Refusal {
+    Short,
+    Tag,
+    Length,
+    Behind(usize),
+    Setting(u32),
+    Numbers,
 }
 
 // The lengths that the field may have.
 fn may_measure(size: usize) -> bool
     ensures { result ≡ may_measure size }
 {
-    if size == 9 {
-        return true;
-    }
-    size == 12
+    size == 9 || size == 12
 }
 
-// "In a field: 1 for the head, 2, 3, 1 for the body"
-fn head_fault(file: &[u8]) -> u32
-    ensures { result ≡ walk_fault file.now }
+// "In a field: 1 for the head, 2, 3, 1 for the body". The length of a field that meets none.
+fn field_size(file: &[u8]) -> Result<usize, Refusal>
+    ensures { MatchResult result (λ n. (walk_fault file.now ≡ 0) × (n ≡ num_at 2 file.now 1))
+        (Refuses (walk_fault file.now)) }
 {
     if file.len() < 3 {
-        return 1;
+        return Err(Refusal::Short);
     }
     if file[0] != 16 {
-        return 2;
+        return Err(Refusal::Tag);
     }
     let size = words::read_size(file, 1);
     if !may_measure(size) {
-        return 3;
+        return Err(Refusal::Length);
     }
     if file.len() < 3 + size {
-        return 1;
+        return Err(Refusal::Short);
     }
-    0
+    Ok(size)
 }
 
-fn judge_settings(s: Settings) -> Walked
-    ensures { result ≡ walked (judged s) }
+fn judge_settings(s: Settings) -> Result<Settings, Refusal>
+    ensures { reading result ≡ judged s }
 {
     let fault = settings_refusal(s);
     if fault != 0 {
-        return Walked::Refused(fault, 0);
+        return Err(Refusal::Setting(fault));
     }
-    Walked::Settings(s)
+    Ok(s)
 }
 
 // "length 9 means SKC"
@@ -75,16 +81,12 @@ fn chance_in(file: &[u8], size: usize) -> u32
 }
 
 // What walk.bin comes to.
-pub fn judge_walk(file: &[u8]) -> Walked
-    ensures { result ≡ walked (read_walk file.now) }
+pub fn judge_walk(file: &[u8]) -> Result<Settings, Refusal>
+    ensures { reading result ≡ read_walk file.now }
 {
-    let head = head_fault(file);
-    if head != 0 {
-        return Walked::Refused(head, 0);
-    }
-    let size = words::read_size(file, 1);
+    let size = field_size(file)?;
     if 3 + size < file.len() {
-        return Walked::Refused(7, 3 + size);
+        return Err(Refusal::Behind(3 + size));
     }
     judge_settings(Settings {
         noise: words::read_u16(file, 3),
@@ -96,25 +98,20 @@ pub fn judge_walk(file: &[u8]) -> Walked
     })
 }
 
-// "Numbers.bin: 8 when its length is no multiple of 4." 0 where nothing is refused.
-pub fn judge_numbers(file: &[u8]) -> u32
-    ensures { result ≡ numbers_refusal file.now }
+// "Numbers.bin: 8 when its length is no multiple of 4."
+pub fn judge_numbers(file: &[u8]) -> Result<(), Refusal>
+    ensures { MatchResult result (λ _. numbers_refusal file.now ≡ 0) (Refuses (numbers_refusal file.now)) }
 {
-    if file.len() % 4 == 0 { 0 } else { 8 }
+    if file.len() % 4 == 0 {
+        Ok(())
+    } else {
+        Err(Refusal::Numbers)
+    }
 }
 
 // "Any of them above 65,536 bytes": `more` says that one of the files has bytes behind those given.
 pub fn any_too_long(more: bool, plan: &[u8], walk: &[u8], numbers: &[u8]) -> bool
     ensures { result ≡ (more or too_long plan.now or too_long walk.now or too_long numbers.now) }
 {
-    if more {
-        return true;
-    }
-    if 65536 < plan.len() {
-        return true;
-    }
-    if 65536 < walk.len() {
-        return true;
-    }
-    65536 < numbers.len()
+    more || LONGEST < plan.len() || LONGEST < walk.len() || LONGEST < numbers.len()
 }

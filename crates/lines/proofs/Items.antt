@@ -2,11 +2,11 @@
 -- Assumes nothing.
 use Prim.Native.Nat.{ℕ, suc, ◌+◌, ◌^◌, ◌≤◌, ◌<◌}
 use native.Mathlib.Omega.{arith}
-use mathlib.Core.Path.{◌≡◌, refl, sym, ap, ap₂, ◌∙◌}
-use mathlib.Core.Bool.{Bool, true, false}
-use mathlib.Core.List.{List, [], ◌∷◌, ◌++◌, append_assoc}
+use mathlib.Core.Path.{◌≡◌, sym, ap, ap₂, ◌∙◌}
+use mathlib.Core.List.{List, [], ◌∷◌, ◌++◌, append_assoc, map}
+use Rattle.std.proofs.Common.{Some, None}
 use lib.IntN.{ℤ, nat_abs}
-use lib.ListN.{length, length-append, set}
+use lib.ListN.{length, length-append, length-map, set}
 use mir.Syntax.{w64}
 use mir.Val.{SFits}
 use mir.Facts.{to_z-of_z}
@@ -14,10 +14,10 @@ use borrow.Author.Tests.{ne_eqb}
 use Rattle.plpb.specs.Search.{Ending, floor, ended, none, short_found, short_none}
 use Rattle.words.specs.Writes.{front, put}
 use Rattle.words.proofs.Writes.{front_put, put_put}
-use Rattle.lines.specs.Text.{text, decimal, signed_decimal, line, ending_of, ending_word, result_line, assignment_line, refusal_line}
+use Rattle.lines.specs.Text.{text, decimal, signed_decimal, line, ending_of, ending_word, result_line, bits_line, refusal_line}
 use Rattle.texts.proofs.Decimal.{twenty}
 use Rattle.lines.proofs.Signs.{read, Negative, Natural}
-use Rattle.lines.proofs.Writing.{stored, front_more, put_more, characters, length_characters}
+use Rattle.lines.proofs.Writing.{stored, front_more, put_more, character}
 
 -- A number with what ends it.
 pub number_written :
@@ -113,20 +113,17 @@ unfolding refusal_line line text
 refusal_items number offset = simp append_assoc
 
 -- The second line.
-pub none_written :
-    (o : List ℕ) (found : Bool) (n : ℕ) (bytes : List ℕ) {t : List ℕ} {r : ℕ} → found ≡ false → t ≡ front (45 ∷ 10 ∷ []) o → r ≡ 2
-    → (t ≡ front (assignment_line found n bytes) o) × (r ≡ length (assignment_line found n bytes))
-unfolding assignment_line line text
-none_written o found n bytes f e l = rw f (e, l)
+pub none_written : (o : List ℕ) {t : List ℕ} {r : ℕ} → t ≡ front (45 ∷ 10 ∷ []) o → r ≡ 2 → (t ≡ front (bits_line None) o) × (r ≡ length (bits_line None))
+unfolding bits_line line text
+none_written o e l = (e, l)
 
 pub bits_written :
-    (o : List ℕ) (found : Bool) (n : ℕ) (bytes : List ℕ) {t : List ℕ} → found ≡ true → n ≤ length bytes → n < length t → t ≡ front (characters n bytes) o
-    → (set t n 10 ≡ front (assignment_line found n bytes) o) × (n + 1 ≡ length (assignment_line found n bytes))
-unfolding assignment_line line text
-bits_written o found n bytes {t} f h l e =
-    let xs = characters n bytes in
-    let long : length xs ≡ n = length_characters n bytes h in
-    rw f (
+    (o bits : List ℕ) {t : List ℕ} → length bits < length t → t ≡ front (map character bits) o
+    → (set t (length bits) 10 ≡ front (bits_line (Some bits)) o) × (length bits + 1 ≡ length (bits_line (Some bits)))
+unfolding bits_line line text
+bits_written o bits {t} l e =
+    let xs = map character bits in
+    let long : length xs ≡ length bits = length-map bits character in (
       ap (λ (k : ℕ). set t k 10) (sym long) ∙ front_more o xs 10 e (omega (arith, l, long)),
       sym (length-append xs (10 ∷ []) ∙ ap (λ (k : ℕ). k + 1) long),
     )

@@ -7,7 +7,7 @@ use mathlib.Core.Bool.{cond}
 use mathlib.Core.List.{List, [], ◌∷◌, ◌++◌, map}
 use lib.ListN.{length, get_or, take, drop, set, length-map, length-set}
 use lib.Dec.{eqb}
-use lib.Seq.{take_all, length-take-le, get_or-take}
+use lib.Seq.{take_all, length-take-le}
 use Rattle.words.specs.Writes.{front, put}
 use Rattle.words.proofs.Writes.{put_sets, front_put, put_put, length_put}
 use Rattle.numbers.proofs.Keep.{get_d_map}
@@ -80,7 +80,7 @@ module _ {xs o t : List ℕ} {i : ℕ} (h : Copied xs o t i) where
       h.filled ∙ ap (λ (k : ℕ). take k xs ++ drop k o) e ∙ ap (λ (s : List ℕ). s ++ drop (length xs) o) (take_all (length xs) xs (omega arith))
 
 -- The characters of the first n assignment bytes.
-abbrev character : ℕ → ℕ
+abbrev pub character : ℕ → ℕ
 character b = cond (eqb b 0) (digit 0) (digit 1)
 
 abbrev pub characters : ℕ → List ℕ → List ℕ
@@ -89,8 +89,5 @@ characters n bytes = map character (take n bytes)
 pub length_characters : (n : ℕ) (bytes : List ℕ) → n ≤ length bytes → length (characters n bytes) ≡ n
 length_characters n bytes h = length-map (take n bytes) character ∙ length-take-le n bytes h
 
-pub character_at : (n : ℕ) (bytes : List ℕ) (i b : ℕ) → n ≤ length bytes → i < n → b ≡ character (get_or bytes i 0) → b ≡ get_or (characters n bytes) i 0
-character_at n bytes i b h l e =
-    e
-    ∙ ap character (sym (get_or-take n bytes i 0 l))
-    ∙ sym (get_d_map character (take n bytes) i 0 0 (omega (arith, length-take-le n bytes h)))
+pub bit_at : (bits : List ℕ) (i b : ℕ) → i < length bits → b ≡ character (get_or bits i 0) → b ≡ get_or (map character bits) i 0
+bit_at bits i b l e = e ∙ sym (get_d_map character bits i 0 0 l)

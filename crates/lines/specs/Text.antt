@@ -1,6 +1,6 @@
 -- What the program prints, as lists of bytes (document 01, "The program and its two lines").
 -- Assumes nothing.
-use Rattle.std.specs.Prelude.{ℕ, Bool, cond, List, [], ◌∷◌, ◌++◌, map, eqb, ℤ, take}
+use Rattle.std.specs.Prelude.{ℕ, Bool, cond, List, [], ◌∷◌, ◌++◌, map, eqb, ℤ, take, Option, Some, None}
 pub use Rattle.texts.specs.Texts.{digit}
 unfoldable pub use Rattle.texts.specs.Texts.{text, decimal_in, decimal, signed_decimal, line}
 use Rattle.plpb.specs.Search.{Ending, floor, ended, none, short_found, short_none, Reached, failed, reached, Answer}
@@ -29,6 +29,11 @@ found_line (reached a) = line (map (λ bit. cond bit (digit 1) (digit 0)) a ∷ 
 -- The same of the first n assignment bytes, by whether something was found.
 unfoldable pub assignment_line : Bool → ℕ → List ℕ → List ℕ
 assignment_line found n bytes = line (cond found (map (λ b. cond (eqb b 0) (digit 0) (digit 1)) (take n bytes)) (text "-") ∷ [])
+
+-- The same of the bytes that the code was given, if any.
+unfoldable pub bits_line : Option (List ℕ) → List ℕ
+bits_line None = line (text "-" ∷ [])
+bits_line (Some bits) = line (map (λ b. cond (eqb b 0) (digit 0) (digit 1)) bits ∷ [])
 
 -- The two lines of an answer.
 unfoldable pub answer_text : Answer → List ℕ

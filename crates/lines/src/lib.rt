@@ -1,9 +1,10 @@
 // The lines that the program prints, written into a lent buffer from its front.
 #![tactic(auto)]
 
-ghost use Rattle.std.specs.Prelude.{◌≡◌, ◌+◌, ◌≤◌, ◌<◌, cond, [], ◌∷◌, ◌++◌, map, eqb, nat_abs, length, take};
+ghost use Rattle.std.specs.Prelude.{◌≡◌, ◌+◌, ◌≤◌, ◌<◌, cond, [], ◌∷◌, ◌++◌, map, eqb, length, IfSome};
+ghost use Rattle.std.specs.Option.{option_copied};
 ghost use Rattle.words.specs.Writes.{front, put};
-ghost use Rattle.lines.specs.Text.{digit as digitOf, decimal, signed_decimal, ending_of, ending_word, result_line, assignment_line, refusal_line};
+ghost use Rattle.lines.specs.Text.{digit as digitOf, decimal, signed_decimal, ending_of, ending_word, result_line, bits_line, refusal_line};
 
 use texts::digit;
 
@@ -47,23 +48,13 @@ fn put_number(out: &mut [u8], at: usize, n: u64, end: u8) -> usize
     last + 1
 }
 
-// A signed number's size without its sign: -1 - v is no number below 0 and has room where -v may have none.
-fn size(v: i64) -> u64
-    ensures { result ≡ nat_abs v }
-{
-    if v < 0 {
-        ((-1 - v) as u64) + 1
-    } else {
-        v as u64
-    }
-}
-
+// A signed number of 64 bits, and what ends it. Answers the next place.
 fn put_signed(out: &mut [u8], at: usize, v: i64, end: u8) -> usize
     requires { at + 22 ≤ length out.old }
     ensures { (out.new ≡ put at (signed_decimal v ++ (end ∷ [])) out.old)
         × (result ≡ at + length (signed_decimal v ++ (end ∷ []))) × (result ≤ at + 22) }
 {
-    let n = size(v);
+    let n = v.unsigned_abs();
     if v < 0 {
         out[at] = b'-';
         return put_number(out, at + 1, n, end);
@@ -71,7 +62,8 @@ fn put_signed(out: &mut [u8], at: usize, v: i64, end: u8) -> usize
     put_number(out, at, n, end)
 }
 
-// An ending's word. 1 is floor, 2 ended, 3 none, 4 short-found, 5 short-none.
+// An ending's word: 1 is floor, 2 ended, 3 none, 4 short-found, 5 short-none.
+// The numbers are those of the answer that the C interface hands out.
 fn put_ending(out: &mut [u8], ending: u32) -> usize
     requires { 12 ≤ length out.old }
     ensures { (out.new ≡ front (ending_word (ending_of ending) ++ (32 ∷ [])) out.old)
@@ -113,28 +105,26 @@ fn bit_digit(b: u8) -> u8
     if b == 0 { b'0' } else { b'1' }
 }
 
-fn put_bits(out: &mut [u8], assignment: &[u8], n: usize)
-    requires { (n ≤ length assignment.now) × (n ≤ length out.old) }
-    ensures { out.new
-        ≡ front (map (λ b. cond (eqb b 0) (digitOf 0) (digitOf 1)) (take n assignment.now)) out.old }
+fn put_bits(out: &mut [u8], bits: &[u8])
+    requires { length bits.now ≤ length out.old }
+    ensures { out.new ≡ front (map (λ b. cond (eqb b 0) (digitOf 0) (digitOf 1)) bits.now) out.old }
 {
-    let mut i = 0;
-    while i < n {
-        out[i] = bit_digit(assignment[i]);
-        i += 1;
+    for i in 0..bits.len() {
+        out[i] = bit_digit(bits[i]);
     }
 }
 
-// The second line: the first n assignment bytes where something was found. Answers its length.
-pub fn assignment_line(out: &mut [u8], found: bool, assignment: &[u8], n: usize) -> usize
-    requires { (1_024 ≤ length out.old) × (n ≤ 512) × (n ≤ length assignment.now) }
-    ensures { (out.new ≡ front (assignment_line found n assignment.now) out.old)
-        × (result ≡ length (assignment_line found n assignment.now)) }
+// The second line: the assignment bytes where something was found. Answers its length.
+pub fn assignment_line(out: &mut [u8], found: Option<&[u8]>) -> usize
+    requires { (1_024 ≤ length out.old) × IfSome found (λ bits. length bits.now ≤ 512) }
+    ensures { (out.new ≡ front (bits_line (option_copied found.entry)) out.old)
+        × (result ≡ length (bits_line (option_copied found.entry))) }
 {
-    if !found {
+    let Some(bits) = found else {
         return put_word(out, b"-", LINE_FEED);
-    }
-    put_bits(out, assignment, n);
+    };
+    put_bits(out, bits);
+    let n = bits.len();
     out[n] = LINE_FEED;
     n + 1
 }

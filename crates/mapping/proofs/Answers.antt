@@ -1,13 +1,15 @@
 -- What the call answers and leaves, by its refusal.
 -- Assumes nothing.
 use Prim.Native.Nat.{ℕ, ◌≤◌, ◌<◌}
-use mathlib.Core.Path.{◌≡◌, refl, ◌∙◌}
+use mathlib.Core.Path.{◌≡◌, refl, sym, ap, ◌∙◌}
 use mathlib.Core.List.{List}
 use lib.ListN.{length}
 use borrow.Author.Tests.{ne_eqb, lt-ltb, le-ltb}
 use Rattle.words.specs.Writes.{front}
 use Rattle.format.specs.Writer.{write}
 use Rattle.lists.specs.Refusals.{Refusal, accepted, site_rows, zone_rows, refusal_of, map_refusal}
+use Rattle.entries.specs.declared.Refusal.{Refusal as RefusalT}
+use Rattle.entries.specs.Judging.{refusal_numbers}
 use Rattle.mapping.specs.declared.Mapped.{Mapped}
 use Rattle.mapping.specs.Mapping.{refusal_for, plan_of_lists, length_for, plan_after}
 
@@ -38,6 +40,11 @@ module _ (s z plan : List ℕ) where
   pub says_refused : (number list row : ℕ) {r : Mapped} → number ≡ f.number → list ≡ f.list → row ≡ f.row → (number ≡ 0 → ⊥) → r ≡ record { refusal = number; list = list; row = row; length = 0 } → Says r plan
   says_refused number list row a b c n e =
       let m : (f.number ≡ 0 → ⊥) = λ q. n (a ∙ q) in rw e ((a, b, c, no_length m), as_lent m)
+
+  pub says_err : (e : RefusalT) (n : (refusal_numbers e).number ≡ 0 → ⊥) {r : Mapped} → f ≡ refusal_numbers e
+      → r ≡ record { refusal = (refusal_numbers e).number; list = (refusal_numbers e).list; row = (refusal_numbers e).row; length = 0 } → Says r plan
+  says_err e n q h =
+      says_refused _ _ _ (sym (ap (λ (x : Refusal). x.number) q)) (sym (ap (λ (x : Refusal). x.list) q)) (sym (ap (λ (x : Refusal). x.row) q)) n h
 
   -- Without one the file is.
   pub says_accepted : {r : Mapped} {after : List ℕ} (size : ℕ) → f ≡ accepted → r ≡ record { refusal = 0; list = 0; row = 0; length = size }

@@ -2,10 +2,11 @@
 #![tactic(auto)]
 
 ghost use Rattle.std.specs.Prelude.{◌≡◌};
+ghost use Rattle.entries.specs.Judging.{fault_number};
 ghost use Rattle.mapping.specs.Mapping.{refusal_for, length_for, plan_after};
 
 use draft::put_plan;
-use entries::judge;
+use entries::{Fault, Refusal, judge};
 
 // The largest plan file.
 const LEAST_ROOM: usize = 54446;
@@ -31,6 +32,19 @@ fn refused(refusal: u32, list: u32, row: usize) -> Mapped
     }
 }
 
+// "51 malformed row, 52 number out of its range, 53 repeated code or zone, 54 unlisted zone, 55 zone without sites"
+fn number(fault: Fault) -> u32
+    ensures { result ≡ fault_number fault }
+{
+    match fault {
+        Fault::Malformed => 51,
+        Fault::OutOfRange => 52,
+        Fault::Repeated => 53,
+        Fault::Unlisted => 54,
+        Fault::Unused => 55,
+    }
+}
+
 #[unsafe(no_mangle)]
 pub extern "C" fn planner_map_csv(sites: &[u8], zones: &[u8], plan: &mut [u8]) -> Mapped
     ensures refusal_value { (result.refusal ≡ (refusal_for sites.now zones.now plan.old).number)
@@ -42,15 +56,15 @@ pub extern "C" fn planner_map_csv(sites: &[u8], zones: &[u8], plan: &mut [u8]) -
     if plan.len() < LEAST_ROOM {
         return refused(21, 0, 0);
     }
-    let verdict = judge(sites, zones);
-    if verdict.refusal != 0 {
-        return refused(verdict.refusal, verdict.list, verdict.row);
-    }
-    let length = put_plan(plan, sites, verdict.sites, zones, verdict.zones);
-    Mapped {
-        refusal: 0,
-        list: 0,
-        row: 0,
-        length,
+    match judge(sites, zones) {
+        Err(Refusal::Site(at)) => refused(number(at.fault), 1, at.row),
+        Err(Refusal::Zone(at)) => refused(number(at.fault), 2, at.row),
+        Err(Refusal::Size) => refused(4, 0, 0),
+        Ok(n) => Mapped {
+            refusal: 0,
+            list: 0,
+            row: 0,
+            length: put_plan(plan, sites, n.sites, zones, n.zones),
+        },
     }
 }

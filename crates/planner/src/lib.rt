@@ -31,7 +31,7 @@ use search::search;
 use settings::Settings;
 use squeeze::{Squeezed, squeeze};
 use tables::load;
-use verdict::{Loaded, numbers};
+use verdict::Loaded;
 use writer::{Written, write_opb};
 use xorwow::Xorwow;
 
@@ -42,7 +42,7 @@ pub extern "C" fn planner_load(file: &[u8], tables: &mut [u8], terms: &mut [u8])
     ensures tables_after { tables.new ≡ tables_after file.now tables.old terms.old }
     ensures terms_after { terms.new ≡ terms_after file.now tables.old terms.old }
 {
-    numbers(load(file, tables, terms))
+    Loaded::from(load(file, tables, terms))
 }
 
 #[unsafe(no_mangle)]
@@ -52,7 +52,7 @@ pub extern "C" fn planner_read_opb(text: &[u8], tables: &mut [u8], terms: &mut [
     ensures tables_after { tables.new ≡ tables_read text.now tables.old terms.old }
     ensures terms_after { terms.new ≡ terms_read text.now tables.old terms.old }
 {
-    numbers(read_opb(text, tables, terms))
+    Loaded::from(read_opb(text, tables, terms))
 }
 
 #[unsafe(no_mangle)]

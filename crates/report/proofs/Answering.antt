@@ -30,7 +30,7 @@ use Rattle.columns.specs.Layout.{column_size, kept_size}
 use Rattle.lending.specs.Lent.{Lent, too_small, search_refusal}
 use Rattle.search.specs.Calls.{answer, search_assignment, ending_number, unless, Searches}
 use Rattle.answers.specs.Found.{has_plan}
-use Rattle.lines.specs.Text.{text, line, ending_of, result_line, found_line, assignment_line, answer_text}
+use Rattle.lines.specs.Text.{ending_of, result_line, found_line, assignment_line, answer_text}
 use Rattle.lines.proofs.Printed.{nothing_found, something_found}
 
 -- The endings by their numbers.

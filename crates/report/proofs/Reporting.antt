@@ -2,24 +2,22 @@
 -- Assumes nothing.
 use Prim.Native.Nat.{ℕ, ◌+◌, ◌≤◌}
 use native.Mathlib.Omega.{arith}
-use mathlib.Core.Path.{◌≡◌, refl, sym, ap, ◌∙◌}
+use mathlib.Core.Path.{◌≡◌, refl, sym, ap, ap₂, ◌∙◌}
 use mathlib.Core.Bool.{Bool, true, false, cond}
 use mathlib.Core.List.{List}
 use lib.Dec.{ltb}
 use lib.ListN.{length}
 use borrow.Author.Tests.{ltb-false, ne_eqb}
 use Rattle.plpb.specs.Plan.{Plan}
-use Rattle.plpb.specs.Settings.{Settings}
 use Rattle.plpb.specs.Search.{search}
 use Rattle.words.specs.Writes.{front}
-use Rattle.format.specs.File.{Reading, refused, accepted, read, length_at}
+use Rattle.format.specs.File.{Reading, refused, accepted, length_at}
 use Rattle.numbers.specs.Numbers.{numbers_of}
 use Rattle.settings.specs.declared.Settings.{Settings as Asked}
 use Rattle.settings.specs.Settings.{settings_refusal, settings_of}
 use Rattle.lines.specs.Text.{answer_text, refusal_line}
-use Rattle.folder.specs.declared.files.Walked.{Walked}
-use Rattle.folder.specs.declared.files.Walked.TheVariants as walks
-use Rattle.folder.specs.Files.{asked_in, walk_fault, judged, read_walk, walked, numbers_refusal}
+use Rattle.folder.specs.declared.files.Refusal.{Refusal}
+use Rattle.folder.specs.Files.{asked_in, walk_fault, judged, read_walk, refusal_number, refusal_offset, Refuses, numbers_refusal}
 use Rattle.report.specs.Report.{searched, with_settings}
 
 -- What is written is what was to be written.
@@ -27,19 +25,6 @@ pub written : (o : List ℕ) {xs ys t : List ℕ} {k : ℕ} → (t ≡ front xs 
 written o w e = (w.0 ∙ ap (λ (l : List ℕ). front l o) e, w.1 ∙ ap length e)
 
 -- ---- the settings and the list of numbers
-
-elsewhere : (n o : ℕ) (k : Asked) → walks.Refused n o ≡ walks.Settings k → ⊥
-elsewhere n o k e = let z : ◌≡◌ {A = ℕ} 0 1 = cc in omega arith
-
-walk_refused : (r : Reading Asked) (n o : ℕ) → walks.Refused n o ≡ walked r → r ≡ refused n o
-unfolding walked
-walk_refused (refused m k) n o e = let a : n ≡ m = cc in let b : o ≡ k = cc in λ i. refused (sym a i) (sym b i)
-walk_refused (accepted k) n o e = absurd (elsewhere n o k e)
-
-walk_accepted : (r : Reading Asked) (k : Asked) → walks.Settings k ≡ walked r → r ≡ accepted k
-unfolding walked
-walk_accepted (refused m o) k e = absurd (elsewhere m o k (sym e))
-walk_accepted (accepted q) k e = let same : q ≡ k = cc in ap accepted same
 
 -- Settings that were read have passed their tests.
 never : {A : Type 0} (n o : ℕ) (a : A) → ◌≡◌ {A = Reading A} (refused n o) (accepted a) → ⊥
@@ -64,24 +49,23 @@ read_lawful s k e =
     let is : asked_in s ≡ k = ap (read_or k) c.1 in
     ap settings_refusal (sym is) ∙ omega (arith, low)
 
-module _ (walk : List ℕ) {w : Walked} (e : w ≡ walked (read_walk walk)) where
-  pub settings_refused : {n o : ℕ} (p : Plan) (numbers : List ℕ) → w ≡ walks.Refused n o → refusal_line n o ≡ with_settings p numbers (read_walk walk)
+module _ (walk : List ℕ) (p : Plan) (numbers : List ℕ) where
+  pub settings_refused : (r : Refusal) → refused (refusal_number r) (refusal_offset r) ≡ read_walk walk
+      → refusal_line (refusal_number r) (refusal_offset r) ≡ with_settings p numbers (read_walk walk)
   unfolding with_settings
-  settings_refused {n} {o} p numbers t = rw (walk_refused (read_walk walk) n o (sym t ∙ e))
+  settings_refused r e = ap (with_settings p numbers) e
 
-  module _ {k : Asked} (t : w ≡ walks.Settings k) where
-    asked : read_walk walk ≡ accepted k
-    asked = walk_accepted (read_walk walk) k (sym t ∙ e)
-
+  module _ (k : Asked) (e : accepted k ≡ read_walk walk) where
     pub settings_lawful : settings_refusal k ≡ 0
-    settings_lawful = read_lawful walk _ asked
+    settings_lawful = read_lawful walk k (sym e)
 
-    module _ (p : Plan) (numbers : List ℕ) {n : ℕ} (f : n ≡ numbers_refusal numbers) where
-      pub numbers_refused : (n ≡ 0 → ⊥) → refusal_line n 0 ≡ with_settings p numbers (read_walk walk)
-      unfolding with_settings searched
-      numbers_refused h = rw (asked, sym f, ne_eqb n 0 h)
+    pub numbers_refused : (r : Refusal) → Refuses (numbers_refusal numbers) r
+        → refusal_line (refusal_number r) (refusal_offset r) ≡ with_settings p numbers (read_walk walk)
+    unfolding with_settings searched
+    numbers_refused r f =
+        rw (sym e, ne_eqb (numbers_refusal numbers) 0 (λ z. omega (arith, f.0, f.2, z))) (ap₂ refusal_line (sym f.0) f.1)
 
-      pub numbers_accepted : n ≡ 0
-          → answer_text (search (settings_of k) p (numbers_of numbers)) ≡ with_settings p numbers (read_walk walk)
-      unfolding with_settings searched
-      numbers_accepted h = rw (asked, sym f, h)
+    pub numbers_accepted : numbers_refusal numbers ≡ 0
+        → answer_text (search (settings_of k) p (numbers_of numbers)) ≡ with_settings p numbers (read_walk walk)
+    unfolding with_settings searched
+    numbers_accepted f = rw (sym e, f)

@@ -3,7 +3,7 @@
 use Rattle.std.specs.Prelude.{ℕ, cond, List, eqb}
 use Rattle.plpb.specs.Plan.{Plan}
 use Rattle.plpb.specs.Search.{search}
-use Rattle.format.specs.File.{Reading, refused, accepted, read}
+use Rattle.format.specs.File.{Reading, refused, accepted}
 use Rattle.numbers.specs.Numbers.{numbers_of}
 use Rattle.settings.specs.declared.Settings.{Settings as Asked}
 use Rattle.settings.specs.Settings.{settings_of}

@@ -7,12 +7,12 @@ ghost use Rattle.words.specs.Writes.{front};
 ghost use Rattle.format.specs.Tables.{table_size, term_size, plan_of_tables, is_loaded};
 ghost use Rattle.numbers.specs.Numbers.{numbers_of};
 ghost use Rattle.settings.specs.Settings.{settings_refusal, settings_of};
-ghost use Rattle.folder.specs.Files.{read_walk};
-ghost use Rattle.lines.specs.Text.{answer_text};
+ghost use Rattle.folder.specs.Files.{read_walk, refusal_number, refusal_offset};
+ghost use Rattle.lines.specs.Text.{answer_text, refusal_line};
 ghost use Rattle.report.specs.Report.{with_settings};
 
 use answers::write_answer;
-use folder::files::{Walked, judge_numbers, judge_walk};
+use folder::files::{Refusal, judge_numbers, judge_walk};
 use lines::refusal_line;
 use search::search;
 use settings::Settings;
@@ -48,6 +48,22 @@ fn search_plan(tables: &[u8], terms: &[u8], numbers: &[u8], s: Settings, out: &m
     write_answer(tables, &assignment, r, out)
 }
 
+// A refusal's line: its number, and the offset of the bytes behind a field.
+fn refuse(out: &mut [u8], refusal: Refusal) -> usize
+    requires { 2_048 ≤ length out.old }
+    ensures { (out.new ≡ front (refusal_line (refusal_number refusal) (refusal_offset refusal)) out.old)
+        × (result ≡ length (refusal_line (refusal_number refusal) (refusal_offset refusal))) }
+{
+    match refusal {
+        Refusal::Short => refusal_line(out, 1, 0),
+        Refusal::Tag => refusal_line(out, 2, 0),
+        Refusal::Length => refusal_line(out, 3, 0),
+        Refusal::Behind(offset) => refusal_line(out, 7, offset),
+        Refusal::Numbers => refusal_line(out, 8, 0),
+        Refusal::Setting(number) => refusal_line(out, number, 0),
+    }
+}
+
 // The settings and the list of numbers, once the plan is loaded.
 pub fn respond_loaded(
     tables: &[u8],
@@ -63,15 +79,12 @@ pub fn respond_loaded(
         numbers.now (read_walk walk.now)) out.old)
         × (result ≡ length (with_settings (plan_of_tables tables.now terms.now) numbers.now (read_walk walk.now))) }
 {
-    let w = judge_walk(walk);
-    match w {
-        Walked::Refused(number, offset) => refusal_line(out, number, offset),
-        Walked::Settings(s) => {
-            let refusal = judge_numbers(numbers);
-            if refusal != 0 {
-                return refusal_line(out, refusal, 0);
-            }
-            search_plan(tables, terms, numbers, s, out)
-        }
+    let settings = match judge_walk(walk) {
+        Ok(settings) => settings,
+        Err(refusal) => return refuse(out, refusal),
+    };
+    match judge_numbers(numbers) {
+        Ok(()) => search_plan(tables, terms, numbers, settings, out),
+        Err(refusal) => refuse(out, refusal),
     }
 }

@@ -20,8 +20,8 @@ use Rattle.format.proofs.ReadBack.{read_back}
 use Rattle.format.proofs.WriteBytes.{write_bytes}
 use Rattle.format.proofs.RoundTrip.{read_write}
 use Rattle.format.proofs.IsLoaded.{loaded_is_loaded}
-use Rattle.verdict.specs.declared.Answer.{Answer}
-use Rattle.verdict.specs.declared.Answer.TheVariants as loads
+use Rattle.verdict.specs.Answers.{Answer, refusal_of, offset_of}
+use Rattle.verdict.specs.Answers as loads
 use Rattle.tables.proofs.Holding.{loading_holds}
 use Rattle.tables.specs.Load.{outcome, too_small, loading, tables_after, terms_after}
 use Rattle.folder.specs.Files.{read_walk}
@@ -48,8 +48,8 @@ unsure : (n o : ℕ) → ◌≡◌ {A = Answer} (loads.Refused n o) loads.Accept
 unsure n o e = let z : ◌≡◌ {A = ℕ} 0 1 = cc in omega arith
 
 reading_refused : (r : Reading Plan) (n o : ℕ) → loads.Refused n o ≡ outcome r → r ≡ refused n o
-unfolding outcome
-reading_refused (refused m k) n o e = let a : n ≡ m = cc in let b : o ≡ k = cc in λ i. refused (sym a i) (sym b i)
+unfolding outcome refusal_of offset_of
+reading_refused (refused m k) n o e = let a : n ≡ m = ap refusal_of e in let b : o ≡ k = ap offset_of e in λ i. refused (sym a i) (sym b i)
 reading_refused (accepted p) n o e = absurd (unsure n o e)
 
 module _ (file tables terms : List ℕ) (nt : table_size ≤ length tables) (ns : term_size ≤ length terms) where

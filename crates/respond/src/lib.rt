@@ -9,7 +9,7 @@ ghost use Rattle.respond.specs.Program.{output};
 use folder::files::any_too_long;
 use lines::refusal_line;
 use report::respond_loaded;
-use tables::{Answer, load};
+use tables::load;
 
 // What is printed, whole: it is written into `out` from its front. `more` says that one of the files has bytes behind those given.
 pub fn respond(
@@ -30,7 +30,7 @@ pub fn respond(
     }
     let a = load(plan, tables, terms);
     match a {
-        Answer::Refused(number, offset) => refusal_line(out, number, offset),
-        Answer::Accepted => respond_loaded(tables, terms, walk, numbers, out),
+        Err(refusal) => refusal_line(out, refusal.number, refusal.offset),
+        Ok(()) => respond_loaded(tables, terms, walk, numbers, out),
     }
 }

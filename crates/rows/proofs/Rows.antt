@@ -6,21 +6,19 @@ use native.Mathlib.Nat.{le_refl}
 use native.Mathlib.Decide.{dec_lt}
 use native.Mathlib.Numerals.{add-one}
 use mathlib.Core.Path.{◌≡◌, refl, sym, ap, ◌∙◌}
-use mathlib.Core.Bool.{Bool, true, false, cond, true≢false}
+use mathlib.Core.Bool.{Bool, true, false, cond}
 use mathlib.Core.List.{List, [], ◌∷◌}
 use mathlib.Core.Option.{Option, none}
 use lib.Dec.{eqb}
 use lib.ListN.{length, get_or, take, drop, length-drop, drop_of_length-le}
-use lib.Seq.{drop-cons, drop-length, take-suc}
+use lib.Seq.{drop-cons, take-suc}
 use Rattle.plpb.specs.Lists.{◌and◌, ◌or◌, any}
 use Rattle.plpb.proofs.Lists.{or_true, any_append}
 use Rattle.cells.specs.declared.value.Value.{Value}
-use Rattle.cells.specs.declared.field.Field.{Field as FieldT}
 use Rattle.rows.specs.declared.row.Row.{Row as RowT}
 use Rattle.cells.specs.Grammar.{Field, broken, field, is_text, may_stand, quote, comma, cr, lf, before, plain, in_quotes, field_of, with_comma, with_end, Record, Row, malformed, row, lone, before_row, leading, row_of, values_in, behind_row, rows_in, rows_of, column_of}
 use Rattle.cells.specs.Values.{no_bytes, gather_from, gather}
-use Rattle.cells.specs.Reading.{gathered, Reads}
-use Rattle.rows.specs.Reading.{is_some, no_row, Holds, ReadsRow, columns}
+use Rattle.rows.specs.Reading.{is_some, Holds, ReadsRow, columns}
 
 -- ---- how much of a list a row takes
 
@@ -210,17 +208,22 @@ module _ (four : Bool) (s : List ℕ) (k at : ℕ) (p : Place four s k at) where
     pub place_next : Place four s (k + 1) r.next
     place_next = record { within = h.within; rows = sym (dropped none all k _ _ here).2 }
 
+  -- A malformed row is the k-th too, and the last.
+  module _ (l : at < length s) (w : row_of (columns four) (drop at s) ≡ malformed) where
+    none_here : drop k all ≡ none ∷ []
+    unfolding values_in behind_row
+    none_here =
+        let e : drop k all ≡ values_in (row_of (columns four) (drop at s)) ∷ rows_of (columns four) (behind_row (row_of (columns four) (drop at s))) =
+        sym p.rows ∙ next_row four (drop at s) (omega (arith, length-drop at s)) in
+        e ∙ rw (w, no_row_lem (columns four))
+
+    pub malformed_last : (k < length all) × (get_or all k none ≡ none) × (length all ≤ k + 1)
+    malformed_last =
+        let d = dropped none all k none [] none_here in
+        let n : length all - (k + 1) ≡ 0 = sym (length-drop (k + 1) all) ∙ ap length d.2 in
+        (d.0, d.1, omega arith)
+
 -- ---- a row put together from its fields
-
-pub read_field : (s : List ℕ) (g : Field) (r : FieldT) → Reads s (gathered no_bytes g) r → r.ok ≡ true → (v : List ℕ) × (g ≡ field v (drop r.next s)) × (r.value ≡ gather v)
-unfolding gathered
-read_field s broken r h e = absurd (true≢false (sym e ∙ h.ok_is))
-read_field s (field v rest) r h e = (v, ap (field v) h.rest_is, h.value_is)
-
-pub no_field : (s : List ℕ) (g : Field) (r : FieldT) → Reads s (gathered no_bytes g) r → r.ok ≡ false → g ≡ broken
-unfolding gathered
-no_field s broken r h e = refl
-no_field s (field v rest) r h e = absurd (true≢false (sym h.ok_is ∙ e))
 
 pub row_stop : (k : ℕ) (t : List ℕ) → with_comma (field_of t) ≡ broken → row_of (suc (suc k)) t ≡ malformed
 unfolding row_of leading
@@ -238,16 +241,6 @@ pub last_step : (t v u : List ℕ) → with_end (field_of t) ≡ field v u → r
 unfolding row_of lone
 last_step t v u e = rw e
 
-pub reads_malformed : (s : List ℕ) {w : Row} {r : RowT} → w ≡ malformed → r ≡ no_row (length s) → ReadsRow s w r
-unfolding values_in behind_row column_of is_some gather_from
-reads_malformed s e q =
-    rw (e, q)
-    (record {
-      holds = record { ok_is = refl; first_is = refl; second_is = refl; third_is = refl; fourth_is = refl };
-      rest_is = sym (drop-length s);
-      within = le_refl (length s);
-    })
-
 -- Nothing stands before a malformed row.
 pub still_malformed : (a b : List ℕ) (w : Row) → w ≡ malformed → before_row a (before_row b w) ≡ malformed
 unfolding before_row
@@ -255,7 +248,7 @@ still_malformed a b w e = rw e
 
 module _ (s : List ℕ) (a b : List ℕ) (first second third fourth : Value) (next : ℕ) (l : next ≤ length s) where
   abbrev read : RowT
-  read = record { ok = true; first = first; second = second; third = third; fourth = fourth; next = next }
+  read = record { first = first; second = second; third = third; fourth = fourth; next = next }
 
   pub reads_three :
       (c : List ℕ) {w : Row} → first ≡ gather a → second ≡ gather b → third ≡ gather c → fourth ≡ no_bytes → w ≡ row (c ∷ []) (drop next s)
@@ -264,7 +257,7 @@ module _ (s : List ℕ) (a b : List ℕ) (first second third fourth : Value) (ne
   reads_three c p q r t e =
       rw e
       (record {
-        holds = record { ok_is = refl; first_is = p; second_is = q; third_is = r; fourth_is = t };
+        holds = record { formed = refl; first_is = p; second_is = q; third_is = r; fourth_is = t };
         rest_is = refl;
         within = l;
       })
@@ -276,7 +269,7 @@ module _ (s : List ℕ) (a b : List ℕ) (first second third fourth : Value) (ne
   reads_four c d p q r t e =
       rw e
       (record {
-        holds = record { ok_is = refl; first_is = p; second_is = q; third_is = r; fourth_is = t };
+        holds = record { formed = refl; first_is = p; second_is = q; third_is = r; fourth_is = t };
         rest_is = refl;
         within = l;
       })
@@ -299,16 +292,12 @@ unfolding before_row
 second_stop true t v u e f = row_step 2 t v u e ∙ ap (before_row v) (row_stop 1 u f)
 second_stop false t v u e f = row_step 1 t v u e ∙ ap (before_row v) (row_stop 0 u f)
 
-module _ (s : List ℕ) (four : Bool) (t v u w y : List ℕ) where
-  pub lead_four :
-      four ≡ true → with_comma (field_of t) ≡ field v u → with_comma (field_of u) ≡ field w y → (r : RowT)
-      → ReadsRow s (before_row v (before_row w (row_of 2 y))) r → ReadsRow s (row_of (columns four) t) r
-  lead_four q e f r h = rw (q, row_step 2 t v u e, row_step 1 u w y f) h
+module _ (four : Bool) (t v u w y : List ℕ) (e : with_comma (field_of t) ≡ field v u) (f : with_comma (field_of u) ≡ field w y) where
+  pub four_is : four ≡ true → row_of (columns four) t ≡ before_row v (before_row w (row_of 2 y))
+  four_is q = rw (q, row_step 2 t v u e, row_step 1 u w y f)
 
-  pub lead_three :
-      four ≡ false → with_comma (field_of t) ≡ field v u → with_comma (field_of u) ≡ field w y → (r : RowT)
-      → ReadsRow s (before_row v (before_row w (row_of 1 y))) r → ReadsRow s (row_of (columns four) t) r
-  lead_three q e f r h = rw (q, row_step 1 t v u e, row_step 0 u w y f) h
+  pub three_is : four ≡ false → row_of (columns four) t ≡ before_row v (before_row w (row_of 1 y))
+  three_is q = rw (q, row_step 1 t v u e, row_step 0 u w y f)
 
 -- A column by its number.
 module _ (x : Option Record) (r : RowT) (h : Holds x r) where
@@ -321,8 +310,8 @@ module _ (x : Option Record) (r : RowT) (h : Holds x r) where
   pub column_2 : {k : ℕ} → k ≡ 2 → r.third ≡ gather (column_of k x)
   column_2 e = rw e h.third_is
 
-  pub column_3 : {k : ℕ} → k < 4 → (k ≡ 0 → ⊥) → (k ≡ 1 → ⊥) → (k ≡ 2 → ⊥) → r.fourth ≡ gather (column_of k x)
-  column_3 {k} l a b c = let e : k ≡ 3 = omega arith in rw e h.fourth_is
+  pub column_3 : {k : ℕ} → k ≡ 3 → r.fourth ≡ gather (column_of k x)
+  column_3 e = rw e h.fourth_is
 
 -- ---- a value among the first rows
 
@@ -336,9 +325,12 @@ module _ (p : Option Record → Bool) where
   unfolding any
   any_none xs = refl
 
-  pub any_more : (xs : List (Option Record)) (k : ℕ) → k < length xs → any p (take k xs) ≡ false → p (get_or xs k none) ≡ false → any p (take (k + 1) xs) ≡ false
+  pub any_last : (xs : List (Option Record)) (k : ℕ) → k < length xs → any p (take k xs) ≡ false → any p (take (k + 1) xs) ≡ p (get_or xs k none)
   unfolding any
-  any_more xs k l e f = rw (add-one, take-suc xs k none l, any_append, e) (or_else (p (get_or xs k none)) ∙ f)
+  any_last xs k l e = rw (add-one, take-suc xs k none l, any_append, e) (or_else (p (get_or xs k none)))
+
+  pub any_more : (xs : List (Option Record)) (k : ℕ) → k < length xs → any p (take k xs) ≡ false → p (get_or xs k none) ≡ false → any p (take (k + 1) xs) ≡ false
+  any_more xs k l e f = any_last xs k l e ∙ f
 
   pub any_found : (xs : List (Option Record)) (k n : ℕ) → k < n → k < length xs → p (get_or xs k none) ≡ true → any p (take n xs) ≡ true
   unfolding any ◌or◌

@@ -1,18 +1,33 @@
 // The rows of a list.
-ghost use Rattle.std.specs.Prelude.{◌≡◌, List, ℕ, ◌≤◌, ◌<◌, length, take, drop};
+ghost use Rattle.std.specs.Prelude.{◌≡◌, ◌≤◌, length, take, drop};
 ghost use Rattle.std.proofs.Math.Option.{Option};
 ghost use Rattle.plpb.specs.Lists.{any};
-ghost use Rattle.cells.specs.Grammar.{Record, before_row, row_of, rows_of, column_of};
+ghost use Rattle.cells.specs.Grammar.{Record, row_of, rows_of, column_of};
 ghost use Rattle.cells.specs.Values.{gather, same_value};
-ghost use Rattle.rows.specs.Reading.{Holds, ReadsRow, columns, no_row};
+ghost use Rattle.rows.specs.Reading.{Holds, Reads, columns, is_zones, place};
 
 use cells::field::{last, lead};
 use cells::value::{Value, empty, same};
 
-// A row's fields and where the next row begins; the fourth is empty in a row of three. A malformed row takes the rest of the list.
+// What a list lists: sites in three columns, or zones in four.
+#[derive(Clone, Copy)]
+pub enum Listed {
+    Sites,
+    Zones,
+}
+
+// The columns of a row.
+#[derive(Clone, Copy)]
+pub enum Column {
+    First,
+    Second,
+    Third,
+    Fourth,
+}
+
+// A row's fields and where the next row begins; the fourth is empty in a row of three.
 #[derive(Clone, Copy)]
 pub struct Row {
-    pub ok: bool,
     pub first: Value,
     pub second: Value,
     pub third: Value,
@@ -20,119 +35,65 @@ pub struct Row {
     pub next: usize,
 }
 
-fn malformed(length: usize) -> Row
-    ensures { result ≡ no_row length }
-{
-    let none = empty();
-    Row {
-        ok: false,
-        first: none,
-        second: none,
-        third: none,
-        fourth: none,
-        next: length,
-    }
-}
-
-// The third field of three, behind two.
-fn row_of_three(first: Value, second: Value, s: &[u8], at: usize) -> Row
+// record = field *(COMMA field), of as many fields as the list has columns. None is a malformed row: it takes the rest of the list.
+pub fn read_row(s: &[u8], at: usize, listed: Listed) -> Option<Row>
     requires { at ≤ length s.now }
-    ensures { (a b : List ℕ) → first ≡ gather a → second ≡ gather b
-        → ReadsRow s.now (before_row a (before_row b (row_of 1 (drop at s.now)))) result }
+    ensures { Reads s.now (row_of (columns (is_zones listed)) (drop at s.now)) result }
 {
-    let c = last(s, at);
-    if !c.ok {
-        return malformed(s.len());
-    }
-    let third = c.value;
-    Row {
-        ok: true,
-        first,
-        second,
-        third,
-        fourth: empty(),
-        next: c.next,
+    let first = lead(s, at)?;
+    let second = lead(s, first.next)?;
+    match listed {
+        Listed::Sites => {
+            let third = last(s, second.next)?;
+            Some(Row {
+                first: first.value,
+                second: second.value,
+                third: third.value,
+                fourth: empty(),
+                next: third.next,
+            })
+        }
+        Listed::Zones => {
+            let third = lead(s, second.next)?;
+            let fourth = last(s, third.next)?;
+            Some(Row {
+                first: first.value,
+                second: second.value,
+                third: third.value,
+                fourth: fourth.value,
+                next: fourth.next,
+            })
+        }
     }
 }
 
-// The third field and the fourth, behind two.
-fn row_of_four(first: Value, second: Value, s: &[u8], at: usize) -> Row
-    requires { at ≤ length s.now }
-    ensures { (a b : List ℕ) → first ≡ gather a → second ≡ gather b
-        → ReadsRow s.now (before_row a (before_row b (row_of 2 (drop at s.now)))) result }
+// A row's field in a column.
+pub fn field_in(row: Row, which: Column) -> Value
+    ensures { (x : Option Record) → Holds x row → result ≡ gather (column_of (place which) x) }
 {
-    let c = lead(s, at);
-    if !c.ok {
-        return malformed(s.len());
-    }
-    let d = last(s, c.next);
-    if !d.ok {
-        return malformed(s.len());
-    }
-    let third = c.value;
-    let fourth = d.value;
-    Row {
-        ok: true,
-        first,
-        second,
-        third,
-        fourth,
-        next: d.next,
-    }
-}
-
-// record = field *(COMMA field), of three fields or of four.
-pub fn read_row(s: &[u8], at: usize, four: bool) -> Row
-    requires { at ≤ length s.now }
-    ensures { ReadsRow s.now (row_of (columns four) (drop at s.now)) result }
-{
-    let a = lead(s, at);
-    if !a.ok {
-        return malformed(s.len());
-    }
-    let b = lead(s, a.next);
-    if !b.ok {
-        return malformed(s.len());
-    }
-    let first = a.value;
-    let second = b.value;
-    if four {
-        return row_of_four(first, second, s, b.next);
-    }
-    row_of_three(first, second, s, b.next)
-}
-
-// A row's field by its place, from 0.
-pub fn column(row: Row, which: usize) -> Value
-    requires { which < 4 }
-    ensures { (x : Option Record) → Holds x row → result ≡ gather (column_of which x) }
-{
-    let first = row.first;
-    let second = row.second;
-    let third = row.third;
-    let fourth = row.fourth;
     match which {
-        0 => first,
-        1 => second,
-        2 => third,
-        _ => fourth,
+        Column::First => row.first,
+        Column::Second => row.second,
+        Column::Third => row.third,
+        Column::Fourth => row.fourth,
     }
 }
 
 // Whether one of a list's first rows has a value in a column.
-pub fn among(s: &[u8], four: bool, rows: usize, which: usize, value: Value) -> bool
-    requires { (rows ≤ length (rows_of (columns four) s.now)) × (which < 4) }
-    ensures { result ≡ any (λ x. same_value (gather (column_of which x)) value) (take rows (rows_of (columns four) s.now)) }
+pub fn among(s: &[u8], listed: Listed, rows: usize, which: Column, value: Value) -> bool
+    requires { rows ≤ length (rows_of (columns (is_zones listed)) s.now) }
+    ensures { result ≡ any (λ x. same_value (gather (column_of (place which) x)) value) (take rows (rows_of (columns (is_zones listed)) s.now)) }
 {
     let mut at = 0;
-    let mut k = 0;
-    while k < rows {
-        let row = read_row(s, at, four);
-        if same(column(row, which), value) {
+    for k in 0..rows {
+        // A malformed row is empty in each column, and no row follows it.
+        let Some(row) = read_row(s, at, listed) else {
+            return same(empty(), value);
+        };
+        if same(field_in(row, which), value) {
             return true;
         }
         at = row.next;
-        k += 1;
     }
     false
 }

@@ -1,116 +1,82 @@
 // The program of the tent: it reads plan.bin, walk.bin and numbers.bin of the folder that it is run in, and prints what `respond` makes of them.
 #![tactic(auto)]
 
-ghost use Rattle.std.specs.Prelude.{◌≡◌, ◌<◌, ◌≤◌, true, false, length, take, IfSome};
+ghost use Rattle.std.specs.Prelude.{◌≡◌, ◌<◌, ◌≤◌, true, false, length, take, IfSome, IfOk, IsErr};
 ghost use Rattle.std.specs.Counts.{IsPrefixLen};
 ghost use Rattle.std.specs.Io.KnownBytes.{Consumes, IsAtEnd};
 
 use respond::respond;
 use std::fs::File;
+use std::io;
 use std::io::{Read, Write};
 use std::rt::Files;
 
-// What was read of a file: how many bytes, and whether more follow.
-#[derive(Clone, Copy)]
-struct Contents {
-    length: usize,
-    more: bool,
-}
-
-// What asking for one byte more came to: the byte, the file's end, or a failure.
-#[derive(Clone, Copy)]
-enum Further {
-    Byte,
-    End,
-    Failed,
-}
-
-// What a file comes to that cannot be opened or read to its end: no bytes, and none behind them.
-const EMPTY: Contents = Contents {
-    length: 0,
-    more: false,
-};
-
-// What a file comes to whose reading gave `length` bytes into a buffer with this room, and after that `further`. A file that cannot be read
-// to its end counts as empty, and so does one that gave a byte more where its end was found before, since it grew in the meantime.
-fn taken(length: usize, room: usize, further: Further) -> Contents
+// How many bytes a file has, none where it has more than there is room for. Its reading gave `length` bytes, and after that whether one more came. A file
+// that cannot be read to its end counts as empty, and so does one that gave a byte more where its end was found before, since it grew in the meantime.
+fn taken(length: usize, room: usize, more: io::Result<bool>) -> Option<usize>
     requires { length ≤ room }
-    ensures within { result.length ≤ room }
-    ensures end { further ≡ Further.End → (result.length ≡ length) × (result.more ≡ false) }
-    ensures longer { further ≡ Further.Byte → length ≡ room
-        → (result.length ≡ length) × (result.more ≡ true) }
-    ensures grown { further ≡ Further.Byte → length < room
-        → (result.length ≡ 0) × (result.more ≡ false) }
-    ensures failed { further ≡ Further.Failed → (result.length ≡ 0) × (result.more ≡ false) }
+    ensures end { more ≡ Ok false → result ≡ Some length }
+    ensures longer { more ≡ Ok true → length ≡ room → result ≡ None }
+    ensures grown { more ≡ Ok true → length < room → result ≡ Some 0 }
+    ensures failed { IsErr more → result ≡ Some 0 }
 {
-    match further {
-        Further::End => Contents {
-            length,
-            more: false,
-        },
-        Further::Byte if length == room => Contents { length, more: true },
-        Further::Byte | Further::Failed => EMPTY,
+    match more {
+        Ok(false) => Some(length),
+        Ok(true) if length == room => None,
+        Ok(true) | Err(_) => Some(0),
     }
 }
 
 // One read may give fewer bytes than there are, so this reads until the buffer is full or the reader ends, and counts what it read. An
 // interrupted read is a failed one too. Where a read fails there is no count.
-fn fill<R: Read>(reader: &mut R, buffer: &mut [u8]) -> Option<usize>
-    ensures within { IfSome result (λ n. IsPrefixLen n buffer.new) }
-    ensures bytes { IfSome result
+fn fill<R: Read>(reader: &mut R, buffer: &mut [u8]) -> io::Result<usize>
+    ensures within { IfOk result (λ n. IsPrefixLen n buffer.new) }
+    ensures bytes { IfOk result
         (λ n. Consumes (R.remaining reader.old) (R.remaining reader.new) (take n buffer.new)) }
-    ensures end { IfSome result (λ n. n < length buffer.new → IsAtEnd (R.remaining reader.new)) }
+    ensures end { IfOk result (λ n. n < length buffer.new → IsAtEnd (R.remaining reader.new)) }
 {
     let mut done = 0;
     while done < buffer.len() {
-        match reader.read(&mut buffer[done..]) {
-            Ok(0) => return Some(done),
-            Ok(n) => done += n,
-            Err(_) => return None,
+        match reader.read(&mut buffer[done..])? {
+            0 => return Ok(done),
+            n => done += n,
         }
     }
-    Some(done)
+    Ok(done)
 }
 
 // Asks for one byte more, which tells a file that just fits from a longer one.
-fn ask_further<R: Read>(reader: &mut R) -> Further
-    ensures byte { result ≡ Further.Byte → IfSome (R.remaining reader.old) (λ xs. 0 < length xs) }
-    ensures end { result ≡ Further.End → IsAtEnd (R.remaining reader.old) }
+fn has_more<R: Read>(reader: &mut R) -> io::Result<bool>
+    ensures byte { result ≡ Ok true → IfSome (R.remaining reader.old) (λ xs. 0 < length xs) }
+    ensures end { result ≡ Ok false → IsAtEnd (R.remaining reader.old) }
 {
     let mut next = [0u8; 1];
-    match reader.read(&mut next) {
-        Ok(0) => Further::End,
-        Ok(_) => Further::Byte,
-        Err(_) => Further::Failed,
-    }
+    let n = reader.read(&mut next)?;
+    Ok(0 < n)
 }
 
-// A reader's bytes, as many as fit; none where it cannot be read. The last three clauses speak of a reader whose bytes are known: they say
-// that those are the bytes in the buffer, and that `more` is told of the longer ones alone.
-fn read_from<R: Read>(reader: &mut R, buffer: &mut [u8]) -> Contents
-    ensures within { IsPrefixLen result.length buffer.new }
-    ensures full { result.more ≡ true → result.length ≡ length buffer.new }
-    ensures longer { result.more ≡ true
-        → IfSome (R.remaining reader.old) (λ xs. length buffer.new < length xs) }
-    ensures bytes { IfSome (R.remaining reader.old)
-        (λ xs. take result.length buffer.new ≡ take result.length xs) }
-    ensures whole { 0 < result.length → result.more ≡ false
-        → IfSome (R.remaining reader.old) (λ xs. result.length ≡ length xs) }
+// How many bytes a reader gives, 0 where it cannot be read, none where it has more than there is room for. The last three clauses speak of a reader whose
+// bytes are known: they say that those are the bytes in the buffer, and that only of the longer ones there is no count.
+fn read_from<R: Read>(reader: &mut R, buffer: &mut [u8]) -> Option<usize>
+    ensures within { IfSome result (λ n. IsPrefixLen n buffer.new) }
+    ensures longer { result ≡ None
+        → IfSome (R.remaining reader.old) (λ xs. (length buffer.new < length xs) × (buffer.new ≡ take (length buffer.new) xs)) }
+    ensures bytes { IfSome result (λ n. IfSome (R.remaining reader.old) (λ xs. take n buffer.new ≡ take n xs)) }
+    ensures whole { IfSome result (λ n. 0 < n → IfSome (R.remaining reader.old) (λ xs. n ≡ length xs)) }
 {
     match fill(reader, buffer) {
-        Some(length) => taken(length, buffer.len(), ask_further(reader)),
-        None => EMPTY,
+        Ok(length) => taken(length, buffer.len(), has_more(reader)),
+        Err(_) => Some(0),
     }
 }
 
-// A file's bytes, as many as fit; none where it cannot be opened or read.
-fn read(rt: &impl Files, name: &str, buffer: &mut [u8]) -> Contents
-    ensures within { IsPrefixLen result.length buffer.new }
-    ensures full { result.more ≡ true → result.length ≡ length buffer.new }
+// How many bytes a file has, 0 where it cannot be opened or read, none where it has more than there is room for.
+fn read(rt: &impl Files, name: &str, buffer: &mut [u8]) -> Option<usize>
+    ensures { IfSome result (λ n. IsPrefixLen n buffer.new) }
 {
     match File::open(rt, name) {
         Ok(mut file) => read_from(&mut file, buffer),
-        Err(_) => EMPTY,
+        Err(_) => Some(0),
     }
 }
 
@@ -124,14 +90,11 @@ fn main(rt: HostRuntime) {
     let p = read(&rt, "plan.bin", &mut plan);
     let w = read(&rt, "walk.bin", &mut walk);
     let n = read(&rt, "numbers.bin", &mut numbers);
-    let plan_end = p.length;
-    let walk_end = w.length;
-    let numbers_end = n.length;
     let length = respond(
-        &plan[..plan_end],
-        &walk[..walk_end],
-        &numbers[..numbers_end],
-        p.more | w.more | n.more,
+        &plan[..p.unwrap_or(0)],
+        &walk[..w.unwrap_or(0)],
+        &numbers[..n.unwrap_or(0)],
+        p.is_none() || w.is_none() || n.is_none(),
         &mut tables,
         &mut terms,
         &mut out,

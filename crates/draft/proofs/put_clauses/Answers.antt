@@ -1,5 +1,5 @@
 -- The goals that the search leaves.
-use Prim.Native.Nat.{ℕ, ◌-◌, ◌<◌}
+use Prim.Native.Nat.{ℕ, ◌<◌}
 use native.Mathlib.Omega.{arith}
 use mathlib.Core.Path.{◌≡◌, refl, sym, ap, ◌∙◌}
 use mathlib.Core.Bool.{true}
@@ -12,7 +12,7 @@ use Rattle.lists.specs.Lists.{Zone, zone_clause}
 use Rattle.lists.specs.Refusals.{site_of, site_rows, zone_rows, entry_at}
 use Rattle.lists.proofs.RowBytes.{rows_bytes}
 use Rattle.entries.specs.Judging.{OfBytes}
-use Rattle.entries.proofs.Rows.{well_own}
+use Rattle.entries.proofs.Rows.{well_own, well_read, row_read}
 use Rattle.draft.specs.Draft.{clauses_of}
 use Rattle.draft.proofs.Writing.{wrote_none, wrote_more, wrote_as}
 use Rattle.draft.proofs.Terms.{zone_same, zone_named}
@@ -22,52 +22,53 @@ use Rattle.draft.proofs.put_clauses.Goals as goal
 pub loop-k-init : goal.loop-k-init
 loop-k-init c =
     let a = c.args in
-    (place_first _ _, omega arith, refl, wrote_as (sym (clauses_none (site_rows a.sites.now) (zone_rows a.zones.now))) (wrote_none _ _))
+    (place_first _ _, omega arith, refl, wrote_as (sym (clauses_none (site_rows a.sites.list.now) (zone_rows a.zones.now))) (wrote_none _ _))
 
 pub put_clause-to-requires : goal.put_clause-to-requires
 put_clause-to-requires c =
     let at = c.loop-k in
-    let few = clauses_fewer (site_rows c.args.sites.now) (zone_rows c.args.zones.now) at.k in
-    (c.requires.0, c.requires.1, omega (arith, at.invariant.2, at.invariant.3.behind, few, c.requires.4))
+    let few = clauses_fewer (site_rows c.args.sites.list.now) (zone_rows c.args.zones.now) at.k in
+    omega (arith, at.invariant.2, at.invariant.3.behind, few, c.requires.2)
 
 pub loop-k-preserved : goal.loop-k-preserved
 loop-k-preserved c =
     let at = c.loop-k in
     let s = c.args.zones.now in
-    let S = site_rows c.args.sites.now in
+    let S = site_rows c.args.sites.list.now in
     let l = c.loop-k-test.true in
-    let m : at.k < length (zone_rows s) = omega (arith, l, c.requires.3) in
+    let m : at.k < length (zone_rows s) = omega (arith, l, c.requires.1) in
     let x = entry_at (zone_rows s) at.k in
     let p = more_bytes true s at.k at.at at.invariant.0 m in
-    let held = row_held true s at.k at.at at.invariant.0 _ p c.read_row-row.ensures in
+    let read = row_read c.unwrap-row.ensures c.read_row.ensures in
+    let held = row_held true s at.k at.at at.invariant.0 _ p read in
     let bytes : OfBytes x = λ which. rows_bytes 4 s at.k which in
-    let well = well_own true s c.requires.2 at.k m in
-    let zone = zone_same x _ _ _ _ _ _ held.second_is held.third_is held.fourth_is bytes well c.number_of.ensures c.number_of-in-loop-k.ensures c.is_yes-yes.ensures in
+    let well = well_own true s c.requires.0 at.k m in
+    let zone = zone_same x _ _ _ _ _ _ held.second_is held.third_is held.fourth_is bytes well c.number_of-least.ensures c.number_of-most.ensures c.is_yes.ensures in
     let wrote = c.put_clause-to.ensures _ (zone_named x _ held.first_is bytes well) in
     let few = clauses_fewer S (zone_rows s) at.k in (
-      place_next true s at.k at.at at.invariant.0 _ p c.read_row-row.ensures,
+      place_next true s at.k at.at at.invariant.0 _ p read,
       omega arith,
       c.put_clause-to.auto.out ∙ at.invariant.2,
       wrote_as (sym (clauses_next S (zone_rows s) at.k m))
-          (wrote_more _ _ _ _ at.invariant.3 (omega (arith, few, c.requires.4)) (wrote_as (ap (λ (z : Zone). clause_fields (zone_clause (map site_of S) z)) zone) wrote)),
+          (wrote_more _ _ _ _ at.invariant.3 (omega (arith, few, c.requires.2)) (wrote_as (ap (λ (z : Zone). clause_fields (zone_clause (map site_of S) z)) zone) wrote)),
     )
 
 pub returns : goal.returns
 returns c =
     let at = c.loop-k in
-    let S = site_rows c.args.sites.now in
+    let S = site_rows c.args.sites.list.now in
     let Z = zone_rows c.args.zones.now in
-    let e : at.k ≡ length Z = omega (arith, at.invariant.1, c.loop-k-test.false, c.requires.3) in
+    let e : at.k ≡ length Z = omega (arith, at.invariant.1, c.loop-k-test.false, c.requires.1) in
     wrote_as (ap (λ (j : ℕ). clauses_of S (take j Z)) e ∙ ap (clauses_of S) (take-length Z)) at.invariant.3
 
-pub read_row-row-requires : goal.read_row-row-requires
-read_row-row-requires c = c.loop-k.invariant.0.within
-
-pub overflow_add-k : goal.overflow_add-k
-overflow_add-k c = omega arith
-
-pub loop-k-smaller : goal.loop-k-smaller
-loop-k-smaller c = omega arith
+pub read_row-requires : goal.read_row-requires
+read_row-requires c = c.loop-k.invariant.0.within
 
 pub shape_of-out : goal.shape_of-out
 shape_of-out c = c.loop-k.invariant.2
+
+pub unwrap-row-requires : goal.unwrap-row-requires
+unwrap-row-requires c =
+    let at = c.loop-k in
+    let m = more_bytes true c.args.zones.now at.k at.at at.invariant.0 (omega (arith, c.loop-k-test.true, c.requires.1)) in
+    well_read _ _ _ _ at.invariant.0 m c.requires.0 _ c.read_row.ensures

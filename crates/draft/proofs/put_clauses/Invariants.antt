@@ -1,7 +1,6 @@
--- `draft::put_clauses` meets its contract. The invariant: the code stands at the k-th zone, and the clauses of those before it are written. The measure is
--- the zones left.
+-- `draft::put_clauses` meets its contract. The invariant: the code stands at the k-th zone, and the clauses of those before it are written.
 -- Assumes nothing.
-use Prim.Native.Nat.{◌-◌, ◌≤◌}
+use Prim.Native.Nat.{◌≤◌}
 use mathlib.Core.Path.{◌≡◌}
 use mathlib.Core.Bool.{true}
 use lib.ListN.{length, take}
@@ -12,7 +11,4 @@ use Rattle.draft.proofs.put_clauses.Given as goal
 
 abbrev pub invariant-loop-k : goal.invariant-loop-k
 invariant-loop-k l =
-    Place true l.zones l.k l.at × (l.k ≤ l.m) × (length l.out ≡ length l.initial.out) × Wrote l.from (clauses_of (site_rows l.sites) (take l.k (zone_rows l.zones))) l.initial.out l.out l.to
-
-abbrev pub decreases-loop-k : goal.decreases-loop-k
-decreases-loop-k l = l.m - l.k
+    Place true l.zones l.k l.at × (l.k ≤ l.m) × (length l.out ≡ length l.initial.out) × Wrote l.from (clauses_of (site_rows l.sites.list.now) (take l.k (zone_rows l.zones))) l.initial.out l.out l.to

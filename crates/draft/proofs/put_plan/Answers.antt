@@ -15,15 +15,13 @@ pub put_front-end-requires : goal.put_front-end-requires
 put_front-end-requires c =
     let S = site_rows c.args.sites.now in
     let Z = zone_rows c.args.zones.now in
-    ((accepted_faultless S Z c.requires.0).sites_well, c.requires.1, omega (arith, sites_few S Z c.requires.0, c.requires.1, c.requires.3))
+    omega (arith, sites_few S Z c.requires.0, c.requires.1, c.requires.3)
 
 pub put_clauses-last-requires : goal.put_clauses-last-requires
 put_clauses-last-requires c =
     let S = site_rows c.args.sites.now in
     let Z = zone_rows c.args.zones.now in
     let well = accepted_faultless S Z c.requires.0 in (
-      well.sites_well,
-      c.requires.1,
       well.zones_well,
       c.requires.2,
       omega (arith, c.put_front-end.ensures.1, c.put_front-end.auto.out, clauses_small S Z c.requires.0, sites_few S Z c.requires.0, c.requires.1, c.requires.3),
@@ -58,3 +56,7 @@ returns c =
 
 pub shape_of-out : goal.shape_of-out
 shape_of-out c = c.write_head.auto.out ∙ c.put_clauses-last.auto.out ∙ c.put_front-end.auto.out
+
+pub invariant_of-sites : goal.invariant_of-sites
+invariant_of-sites c =
+    record { well = (accepted_faultless (site_rows c.args.sites.now) (zone_rows c.args.zones.now) c.requires.0).sites_well; counted = c.requires.1 }

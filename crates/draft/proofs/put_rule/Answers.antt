@@ -6,16 +6,16 @@ use Rattle.draft.proofs.Rules.{rule_wrote}
 use Rattle.draft.proofs.put_rule.Goals as goal
 
 pub put_terms-end-requires : goal.put_terms-end-requires
-put_terms-end-requires c = (c.requires.0, c.requires.1, c.requires.2)
+put_terms-end-requires c = c.requires
 
 pub returns : goal.returns
 returns c = (
-  λ name h. rule_wrote _ _ _ _ _ _ (omega (arith, c.requires.2)) (c.put_terms-end.ensures.0 name h) c.write_rule_head.ensures,
+  λ name h. rule_wrote _ _ _ _ _ _ (omega (arith, c.requires)) (c.put_terms-end.ensures.0 name h) c.write_rule_head.ensures,
   c.put_terms-end.ensures.1,
 )
 
 pub overflow_add-at : goal.overflow_add-at
-overflow_add-at c = omega (arith, c.requires.2)
+overflow_add-at c = omega (arith, c.requires)
 
 pub overflow_sub-end : goal.overflow_sub-end
 overflow_sub-end c = omega (arith, c.put_terms-end.ensures.2)
@@ -24,7 +24,7 @@ pub overflow_sub-end-2 : goal.overflow_sub-end-2
 overflow_sub-end-2 c = omega (arith, c.put_terms-end.ensures.2)
 
 pub write_rule_head-requires : goal.write_rule_head-requires
-write_rule_head-requires c = omega (arith, c.put_terms-end.auto.out, c.requires.2)
+write_rule_head-requires c = omega (arith, c.put_terms-end.auto.out, c.requires)
 
 pub shape_of-out : goal.shape_of-out
 shape_of-out c = c.write_rule_head.auto.out ∙ c.put_terms-end.auto.out

@@ -1,5 +1,5 @@
 -- The goals that the search leaves.
-use Prim.Native.Nat.{ℕ, ◌-◌, ◌≤◌, ◌<◌}
+use Prim.Native.Nat.{ℕ, ◌≤◌, ◌<◌}
 use native.Mathlib.Omega.{arith}
 use mathlib.Core.Path.{◌≡◌, refl, sym, ap, ◌∙◌}
 use mathlib.Core.Bool.{false}
@@ -8,31 +8,33 @@ use lib.Seq.{take-length}
 use Rattle.rows.proofs.Rows.{place_first, more_bytes, row_held, place_next}
 use Rattle.lists.specs.Refusals.{site_rows}
 use Rattle.lists.proofs.RowBytes.{rows_bytes}
-use Rattle.entries.proofs.Rows.{well_own}
+use Rattle.entries.proofs.Rows.{well_own, well_read, row_read}
+use Rattle.std.specs.Option.{is_some}
 use Rattle.draft.specs.Draft.{terms_of}
 use Rattle.draft.proofs.Writing.{wrote_none, wrote_more, wrote_as}
 use Rattle.draft.proofs.Terms.{terms_next, terms_none}
 use Rattle.draft.proofs.put_terms.Goals as goal
 
 pub loop-k-init : goal.loop-k-init
-loop-k-init c = (place_first _ _, omega arith, omega arith, omega arith, refl, λ name h. wrote_as (sym (terms_none _ name (site_rows c.args.sites.now))) (wrote_none _ _))
+loop-k-init c = (place_first _ _, omega arith, omega arith, omega arith, refl, λ name h. wrote_as (sym (terms_none _ name (site_rows c.args.sites.list.now))) (wrote_none _ _))
 
 pub put_term-to-requires : goal.put_term-to-requires
 put_term-to-requires c =
     let at = c.loop-k in
-    omega (arith, at.invariant.2, at.invariant.4, c.loop-k-test.true, c.requires.2)
+    omega (arith, at.invariant.2, at.invariant.4, c.loop-k-test.true, c.requires)
 
 pub loop-k-preserved : goal.loop-k-preserved
 loop-k-preserved c =
     let at = c.loop-k in
-    let s = c.args.sites.now in
+    let s = c.args.sites.list.now in
     let l = c.loop-k-test.true in
-    let m : at.k < length (site_rows s) = omega (arith, l, c.requires.1) in
+    let m : at.k < length (site_rows s) = omega (arith, l, c.args.sites.counted) in
     let p = more_bytes false s at.k at.at at.invariant.0 m in
-    let held = row_held false s at.k at.at at.invariant.0 _ p c.read_row-row.ensures in
+    let read = row_read c.unwrap-row.ensures c.read_row.ensures in
+    let held = row_held false s at.k at.at at.invariant.0 _ p read in
     let wrote = c.put_term-to.ensures in
-    let room : (at.to ≤ length c.args.out.now) = omega (arith, at.invariant.2, l, c.requires.2) in (
-      place_next false s at.k at.at at.invariant.0 _ p c.read_row-row.ensures,
+    let room : (at.to ≤ length c.args.out.now) = omega (arith, at.invariant.2, l, c.requires) in (
+      place_next false s at.k at.at at.invariant.0 _ p read,
       omega arith,
       omega (arith, wrote.1, at.invariant.2),
       omega (arith, wrote.0.behind, at.invariant.3),
@@ -40,31 +42,31 @@ loop-k-preserved c =
       λ name h.
           wrote_as
           (sym (terms_next _ name (site_rows s) at.k _ m
-          (c.weight-w.ensures _ name held.second_is held.third_is (λ which. rows_bytes 3 s at.k which) (well_own false s c.requires.0 at.k m) h)))
+          (c.weight-w.ensures _ name held.second_is held.third_is (λ which. rows_bytes 3 s at.k which) (well_own false s c.args.sites.well at.k m) h)))
           (wrote_more _ _ _ _ (at.invariant.5 name h) (omega (arith, (at.invariant.5 name h).behind, room)) wrote.0),
     )
 
 pub returns : goal.returns
 returns c =
     let at = c.loop-k in
-    let S = site_rows c.args.sites.now in
-    let e : at.k ≡ length S = omega (arith, at.invariant.1, c.loop-k-test.false, c.requires.1) in (
-      λ name h. wrote_as (ap (λ (j : ℕ). terms_of c.args.zoned name (take j S)) e ∙ ap (terms_of c.args.zoned name) (take-length S)) (at.invariant.5 name h),
+    let S = site_rows c.args.sites.list.now in
+    let e : at.k ≡ length S = omega (arith, at.invariant.1, c.loop-k-test.false, c.args.sites.counted) in (
+      λ name h. wrote_as (ap (λ (j : ℕ). terms_of (is_some c.args.zone) name (take j S)) e ∙ ap (terms_of (is_some c.args.zone) name) (take-length S)) (at.invariant.5 name h),
       omega (arith, at.invariant.2, at.invariant.1),
       at.invariant.3,
     )
 
-pub read_row-row-requires : goal.read_row-row-requires
-read_row-row-requires c = c.loop-k.invariant.0.within
+pub read_row-requires : goal.read_row-requires
+read_row-requires c = c.loop-k.invariant.0.within
 
 pub overflow_add-k : goal.overflow_add-k
 overflow_add-k c = omega arith
 
-pub overflow_add-k-in-loop-k : goal.overflow_add-k-in-loop-k
-overflow_add-k-in-loop-k c = omega arith
-
-pub loop-k-smaller : goal.loop-k-smaller
-loop-k-smaller c = omega arith
-
 pub shape_of-out : goal.shape_of-out
 shape_of-out c = c.loop-k.invariant.4
+
+pub unwrap-row-requires : goal.unwrap-row-requires
+unwrap-row-requires c =
+    let at = c.loop-k in
+    let m = more_bytes false c.args.sites.list.now at.k at.at at.invariant.0 (omega (arith, c.loop-k-test.true, c.args.sites.counted)) in
+    well_read _ _ _ _ at.invariant.0 m c.args.sites.well _ c.read_row.ensures

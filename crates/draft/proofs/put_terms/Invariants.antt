@@ -1,10 +1,11 @@
--- `draft::put_terms` meets its contract. The invariant: the code stands at the k-th site, and the terms of those before it are written. The measure is
--- the sites left.
+-- `draft::put_terms` meets its contract. The invariant: the code stands at the k-th site, and the terms of those before it are written.
 -- Assumes nothing.
-use Prim.Native.Nat.{ℕ, ◌+◌, ◌*◌, ◌-◌, ◌≤◌}
+use Prim.Native.Nat.{ℕ, ◌+◌, ◌*◌, ◌≤◌}
 use mathlib.Core.Path.{◌≡◌}
 use mathlib.Core.Bool.{false}
 use mathlib.Core.List.{List}
+use Rattle.std.proofs.Common.{IfSome}
+use Rattle.std.specs.Option.{is_some}
 use lib.ListN.{length, take}
 use Rattle.rows.proofs.Rows.{Place}
 use Rattle.lists.specs.Refusals.{site_rows}
@@ -13,12 +14,9 @@ use Rattle.draft.proofs.put_terms.Given as goal
 
 abbrev pub invariant-loop-k : goal.invariant-loop-k
 invariant-loop-k l =
-    Place false l.sites l.k l.at
-    × (l.k ≤ l.n)
+    Place false l.sites.list.now l.k l.at
+    × (l.k ≤ l.sites.count)
     × (l.to ≤ l.from + 6 * l.k)
     × (l.from ≤ l.to)
     × (length l.out ≡ length l.initial.out)
-    × ((name : List ℕ) → Named l.zone name → Wrote l.from (terms_of l.zoned name (take l.k (site_rows l.sites))) l.initial.out l.out l.to)
-
-abbrev pub decreases-loop-k : goal.decreases-loop-k
-decreases-loop-k l = l.n - l.k
+    × ((name : List ℕ) → IfSome l.zone (λ v. Named v name) → Wrote l.from (terms_of (is_some l.zone) name (take l.k (site_rows l.sites.list.now))) l.initial.out l.out l.to)

@@ -14,7 +14,7 @@ unfolding ◌or◌
 second a b e = rw e
 
 pub returns-then-is_yes : goal.returns-then-is_yes
-returns-then-is_yes c = first _ _ (sym c.is_yes.ensures ∙ c.if-is_yes.true)
+returns-then-is_yes c = c.if-is_yes.true ∙ first _ _ (sym c.is_yes.ensures ∙ c.if-is_yes.true)
 
 pub returns-else-is_yes : goal.returns-else-is_yes
 returns-else-is_yes c = c.is_no.ensures ∙ second _ _ (sym c.is_yes.ensures ∙ c.if-is_yes.false)

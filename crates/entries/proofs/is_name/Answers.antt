@@ -1,10 +1,21 @@
 -- `entries::is_name` meets its contract.
 -- Assumes nothing.
-use Rattle.entries.proofs.Tests.{name_short, name_else}
+use Rattle.std.proofs.Common.{arith}
+use Rattle.std.proofs.lemmas.Bool.Decides.{nat_tests}
+use mathlib.Core.Path.{◌≡◌, ap, ◌∙◌}
+use mathlib.Core.Bool.{true, false}
+use Rattle.plpb.specs.Lists.{◌and◌}
+use Rattle.lists.proofs.Values.{name_value, name_alike}
 use Rattle.entries.proofs.is_name.Goals as goal
 
-pub returns-then-v-lt1 : goal.returns-then-v-lt1
-returns-then-v-lt1 c bytes e = name_short _ bytes e c.if-v-lt1.true
+pub returns-in-1-to-16 : goal.returns-in-1-to-16
+unfolding name_value ◌and◌
+returns-in-1-to-16 c bytes e = let tells : true ≡ name_value c.args.v = grind (arith, nat_tests) in tells ∙ ap name_value e ∙ name_alike bytes
 
-pub returns : goal.returns
-returns c bytes e = name_else _ bytes e c.if-v-lt1.false
+pub returns-in_default : goal.returns-in_default
+unfolding name_value ◌and◌
+returns-in_default c bytes e = let tells : false ≡ name_value c.args.v = grind (arith, nat_tests) in tells ∙ ap name_value e ∙ name_alike bytes
+
+pub returns-in_default-2 : goal.returns-in_default-2
+unfolding name_value ◌and◌
+returns-in_default-2 c bytes e = let tells : false ≡ name_value c.args.v = grind (arith, nat_tests) in tells ∙ ap name_value e ∙ name_alike bytes

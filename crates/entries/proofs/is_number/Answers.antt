@@ -1,13 +1,19 @@
 -- `entries::is_number` meets its contract.
 -- Assumes nothing.
-use Rattle.entries.proofs.Tests.{number_short, number_long, number_else}
+use Rattle.std.proofs.Common.{arith}
+use Rattle.std.proofs.lemmas.Bool.Decides.{nat_tests}
+use mathlib.Core.Path.{◌≡◌, ap, ◌∙◌}
+use mathlib.Core.Bool.{false}
+use Rattle.plpb.specs.Lists.{◌and◌}
+use Rattle.lists.proofs.Values.{number_value, number_alike}
 use Rattle.entries.proofs.is_number.Goals as goal
 
-pub returns-then-v-lt1 : goal.returns-then-v-lt1
-returns-then-v-lt1 c bytes e = number_short _ bytes e c.if-v-lt1.true
+pub returns-then-matches : goal.returns-then-matches
+unfolding number_value ◌and◌
+returns-then-matches c bytes e =
+    let tells : c.args.v.digits ≡ number_value c.args.v = grind (arith, nat_tests) in tells ∙ ap number_value e ∙ number_alike bytes
 
-pub returns-then-v-gt-LONGEST_NUMBER : goal.returns-then-v-gt-LONGEST_NUMBER
-returns-then-v-gt-LONGEST_NUMBER c bytes e = number_long _ bytes e c.if-v-lt1.false c.if-v-gt-LONGEST_NUMBER.true
-
-pub returns : goal.returns
-returns c bytes e = number_else _ bytes e c.if-v-lt1.false c.if-v-gt-LONGEST_NUMBER.false
+pub returns-else-matches : goal.returns-else-matches
+unfolding number_value ◌and◌
+returns-else-matches c bytes e =
+    let tells : false ≡ number_value c.args.v = grind (arith, nat_tests) in c.if-matches.false ∙ tells ∙ ap number_value e ∙ number_alike bytes

@@ -1,13 +1,14 @@
 -- `entries::is_word` meets its contract.
 -- Assumes nothing.
-use Rattle.entries.proofs.Tests.{word_length, word_low, word_high}
+use Rattle.std.proofs.Common.{arith}
+use Rattle.std.proofs.lemmas.Bool.Decides.{nat_tests}
+use Rattle.plpb.specs.Lists.{◌and◌}
 use Rattle.entries.proofs.is_word.Goals as goal
 
-pub returns-then-v-length : goal.returns-then-v-length
-returns-then-v-length c = word_length c.args.v c.args.length c.args.word c.if-v-length.true
-
 pub returns-then-v-word : goal.returns-then-v-word
-returns-then-v-word c = word_low c.args.v c.args.length c.args.word c.if-v-length.false c.if-v-word.true
+unfolding ◌and◌
+returns-then-v-word c = grind (arith, nat_tests)
 
-pub returns : goal.returns
-returns c = word_high c.args.v c.args.length c.args.word c.if-v-length.false c.if-v-word.false
+pub returns-else-v-word : goal.returns-else-v-word
+unfolding ◌and◌
+returns-else-v-word c = grind (arith, nat_tests)

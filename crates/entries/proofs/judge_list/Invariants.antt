@@ -4,6 +4,7 @@
 use Prim.Native.Nat.{◌-◌}
 use mathlib.Core.Path.{◌≡◌}
 use lib.ListN.{length}
+use Rattle.rows.specs.Reading.{is_zones}
 use Rattle.rows.proofs.Rows.{Place}
 use Rattle.lists.specs.Refusals.{row_fault, judged_from, judged}
 use Rattle.entries.specs.Judging.{entries_of}
@@ -11,7 +12,7 @@ use Rattle.entries.proofs.judge_list.Given as goal
 
 abbrev pub invariant-loop-at : goal.invariant-loop-at
 invariant-loop-at l =
-    Place l.zones l.s l.k l.at × (judged_from (row_fault l.zones (entries_of l.zones l.s)) (length (entries_of l.zones l.s) - l.k) l.k ≡ judged (row_fault l.zones (entries_of l.zones l.s)) (entries_of l.zones l.s))
+    Place (is_zones l.listed) l.s l.k l.at × (judged_from (row_fault (is_zones l.listed) (entries_of (is_zones l.listed) l.s)) (length (entries_of (is_zones l.listed) l.s) - l.k) l.k ≡ judged (row_fault (is_zones l.listed) (entries_of (is_zones l.listed) l.s)) (entries_of (is_zones l.listed) l.s))
 
 abbrev pub decreases-loop-at : goal.decreases-loop-at
-decreases-loop-at l = length (entries_of l.zones l.s) - l.k
+decreases-loop-at l = length (entries_of (is_zones l.listed) l.s) - l.k

@@ -5,16 +5,17 @@ use Prim.Native.Nat.{◌-◌}
 use mathlib.Core.Path.{◌≡◌}
 use mathlib.Core.Bool.{not}
 use lib.ListN.{length}
+use Rattle.rows.specs.Reading.{is_zones}
 use Rattle.rows.proofs.Rows.{Place}
 use Rattle.lists.specs.Refusals.{judged_from, judged}
-use Rattle.entries.specs.Judging.{entries_of, missing}
+use Rattle.entries.specs.Judging.{entries_of, fault_number, missing}
 use Rattle.entries.proofs.judge_zones.Given as goal
 
 abbrev pub invariant-loop-at : goal.invariant-loop-at
 invariant-loop-at l =
-    Place l.zones l.s l.k l.at
-    × (judged_from (missing l.fault l.zones (entries_of l.zones l.s) (entries_of (not l.zones) l.other)) (length (entries_of l.zones l.s) - l.k) l.k
-    ≡ judged (missing l.fault l.zones (entries_of l.zones l.s) (entries_of (not l.zones) l.other)) (entries_of l.zones l.s))
+    Place (is_zones l.listed) l.s l.k l.at
+    × (judged_from (missing (fault_number l.fault) (is_zones l.listed) (entries_of (is_zones l.listed) l.s) (entries_of (not (is_zones l.listed)) l.other)) (length (entries_of (is_zones l.listed) l.s) - l.k) l.k
+    ≡ judged (missing (fault_number l.fault) (is_zones l.listed) (entries_of (is_zones l.listed) l.s) (entries_of (not (is_zones l.listed)) l.other)) (entries_of (is_zones l.listed) l.s))
 
 abbrev pub decreases-loop-at : goal.decreases-loop-at
-decreases-loop-at l = length (entries_of l.zones l.s) - l.k
+decreases-loop-at l = length (entries_of (is_zones l.listed) l.s) - l.k

@@ -1,23 +1,21 @@
 -- `entries::site_formed` meets its contract, column by column.
 -- Assumes nothing.
-use borrow.Author.Tests.{not-true, not-false}
-use mathlib.Core.Path.{sym, ◌∙◌}
-use Rattle.entries.proofs.Tests.{site_broken, site_code, site_metres, site_zone}
+use mathlib.Core.Path.{◌≡◌, sym, ◌∙◌}
+use Rattle.plpb.specs.Lists.{◌and◌}
+use Rattle.cells.specs.Grammar.{column_of}
+use Rattle.lists.specs.Refusals.{is_name, is_number}
+use Rattle.entries.proofs.Tests.{and_then, and_else, site_by_columns}
 use Rattle.entries.proofs.site_formed.Goals as goal
+use Rattle.entries.proofs.site_formed.Goals.{then-is_name, else-is_name}
 
-pub returns-then-not-row : goal.returns-then-not-row
-returns-then-not-row c x h = site_broken x _ h (sym h.ok_is ∙ not-true _ c.if-not-row.true)
+pub returns-then-is_number : goal.returns-then-is_number
+returns-then-is_number c x h =
+    let two : c.if-is_name.value ≡ (is_name (column_of 0 x) and is_number (column_of 1 x)) =
+    elim c.if-is_name.branch [ then-is_name w ↦ and_then (sym (c.is_name.ensures _ h.first_is) ∙ w.if-is_name.true) (w.value-is ∙ w.is_number.ensures _ h.second_is) | else-is_name w ↦ and_else _ (sym (c.is_name.ensures _ h.first_is) ∙ w.if-is_name.false) (w.value-is ∙ w.if-is_name.false) ] in
+    and_then (sym two ∙ c.if-is_number.true) (c.is_name-then-is_number.ensures _ h.third_is) ∙ site_by_columns x h.formed
 
-pub returns-then-not-is_name : goal.returns-then-not-is_name
-returns-then-not-is_name c x h = site_code x _ h (sym h.ok_is ∙ not-false _ c.if-not-row.false) (sym (c.is_name.ensures _ h.first_is) ∙ c.if-not-is_name.true)
-
-pub returns-then-not-is_number : goal.returns-then-not-is_number
-returns-then-not-is_number c x h =
-    site_metres x _ h (sym h.ok_is ∙ not-false _ c.if-not-row.false) (sym (c.is_name.ensures _ h.first_is) ∙ c.if-not-is_name.false)
-    (sym (c.is_number.ensures _ h.second_is) ∙ c.if-not-is_number.true)
-
-pub returns : goal.returns
-returns c x h =
-    c.is_name-2.ensures _ h.third_is
-    ∙ site_zone x _ h (sym h.ok_is ∙ not-false _ c.if-not-row.false) (sym (c.is_name.ensures _ h.first_is) ∙ c.if-not-is_name.false)
-    (sym (c.is_number.ensures _ h.second_is) ∙ c.if-not-is_number.false)
+pub returns-else-is_number : goal.returns-else-is_number
+returns-else-is_number c x h =
+    let two : c.if-is_name.value ≡ (is_name (column_of 0 x) and is_number (column_of 1 x)) =
+    elim c.if-is_name.branch [ then-is_name w ↦ and_then (sym (c.is_name.ensures _ h.first_is) ∙ w.if-is_name.true) (w.value-is ∙ w.is_number.ensures _ h.second_is) | else-is_name w ↦ and_else _ (sym (c.is_name.ensures _ h.first_is) ∙ w.if-is_name.false) (w.value-is ∙ w.if-is_name.false) ] in
+    and_else _ (sym two ∙ c.if-is_number.false) c.if-is_number.false ∙ site_by_columns x h.formed

@@ -1,29 +1,25 @@
 -- `entries::zone_formed` meets its contract, column by column.
 -- Assumes nothing.
-use borrow.Author.Tests.{not-true, not-false}
-use mathlib.Core.Path.{sym, ◌∙◌}
-use Rattle.entries.proofs.Tests.{zone_broken, zone_name, zone_least, zone_most, zone_answer, answer_alike}
+use mathlib.Core.Path.{◌≡◌, sym, ◌∙◌}
+use Rattle.plpb.specs.Lists.{◌and◌}
+use Rattle.cells.specs.Grammar.{column_of}
+use Rattle.lists.specs.Refusals.{is_name, is_number}
+use Rattle.entries.proofs.Tests.{and_then, and_else, zone_by_columns, answer_alike}
 use Rattle.entries.proofs.zone_formed.Goals as goal
+use Rattle.entries.proofs.zone_formed.Goals.{then-is_name, else-is_name, then-is_number, else-is_number}
 
-pub returns-then-not-row : goal.returns-then-not-row
-returns-then-not-row c x h g = zone_broken x _ h (sym h.ok_is ∙ not-true _ c.if-not-row.true)
+pub returns-then-is_number-2 : goal.returns-then-is_number-2
+returns-then-is_number-2 c x h g =
+    let two : c.if-is_name.value ≡ (is_name (column_of 0 x) and is_number (column_of 1 x)) =
+    elim c.if-is_name.branch [ then-is_name w ↦ and_then (sym (c.is_name.ensures _ h.first_is) ∙ w.if-is_name.true) (w.value-is ∙ w.is_number.ensures _ h.second_is) | else-is_name w ↦ and_else _ (sym (c.is_name.ensures _ h.first_is) ∙ w.if-is_name.false) (w.value-is ∙ w.if-is_name.false) ] in
+    let three : c.if-is_number.value ≡ (is_name (column_of 0 x) and is_number (column_of 1 x) and is_number (column_of 2 x)) =
+    elim c.if-is_number.branch [ then-is_number w ↦ and_then (sym two ∙ w.if-is_number.true) (w.value-is ∙ w.is_number-then-is_number.ensures _ h.third_is) | else-is_number w ↦ and_else _ (sym two ∙ w.if-is_number.false) (w.value-is ∙ w.if-is_number.false) ] in
+    and_then (sym three ∙ c.if-is_number-2.true) (c.is_answer.ensures ∙ answer_alike _ _ h.fourth_is (g 3)) ∙ zone_by_columns x h.formed
 
-pub returns-then-not-is_name : goal.returns-then-not-is_name
-returns-then-not-is_name c x h g = zone_name x _ h (sym h.ok_is ∙ not-false _ c.if-not-row.false) (sym (c.is_name.ensures _ h.first_is) ∙ c.if-not-is_name.true)
-
-pub returns-then-not-is_number : goal.returns-then-not-is_number
-returns-then-not-is_number c x h g =
-    zone_least x _ h (sym h.ok_is ∙ not-false _ c.if-not-row.false) (sym (c.is_name.ensures _ h.first_is) ∙ c.if-not-is_name.false)
-    (sym (c.is_number.ensures _ h.second_is) ∙ c.if-not-is_number.true)
-
-pub returns-then-not-is_number-2 : goal.returns-then-not-is_number-2
-returns-then-not-is_number-2 c x h g =
-    zone_most x _ h (sym h.ok_is ∙ not-false _ c.if-not-row.false) (sym (c.is_name.ensures _ h.first_is) ∙ c.if-not-is_name.false)
-    (sym (c.is_number.ensures _ h.second_is) ∙ c.if-not-is_number.false) (sym (c.is_number-2.ensures _ h.third_is) ∙ c.if-not-is_number-2.true)
-
-pub returns : goal.returns
-returns c x h g =
-    c.is_answer.ensures
-    ∙ answer_alike _ _ h.fourth_is (g 3)
-    ∙ zone_answer x _ h (sym h.ok_is ∙ not-false _ c.if-not-row.false) (sym (c.is_name.ensures _ h.first_is) ∙ c.if-not-is_name.false)
-    (sym (c.is_number.ensures _ h.second_is) ∙ c.if-not-is_number.false) (sym (c.is_number-2.ensures _ h.third_is) ∙ c.if-not-is_number-2.false)
+pub returns-else-is_number-2 : goal.returns-else-is_number-2
+returns-else-is_number-2 c x h g =
+    let two : c.if-is_name.value ≡ (is_name (column_of 0 x) and is_number (column_of 1 x)) =
+    elim c.if-is_name.branch [ then-is_name w ↦ and_then (sym (c.is_name.ensures _ h.first_is) ∙ w.if-is_name.true) (w.value-is ∙ w.is_number.ensures _ h.second_is) | else-is_name w ↦ and_else _ (sym (c.is_name.ensures _ h.first_is) ∙ w.if-is_name.false) (w.value-is ∙ w.if-is_name.false) ] in
+    let three : c.if-is_number.value ≡ (is_name (column_of 0 x) and is_number (column_of 1 x) and is_number (column_of 2 x)) =
+    elim c.if-is_number.branch [ then-is_number w ↦ and_then (sym two ∙ w.if-is_number.true) (w.value-is ∙ w.is_number-then-is_number.ensures _ h.third_is) | else-is_number w ↦ and_else _ (sym two ∙ w.if-is_number.false) (w.value-is ∙ w.if-is_number.false) ] in
+    and_else _ (sym three ∙ c.if-is_number-2.false) c.if-is_number-2.false ∙ zone_by_columns x h.formed

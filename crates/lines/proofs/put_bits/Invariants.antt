@@ -1,11 +1,8 @@
--- `folder::lines::put_bits` meets its contract. The invariant: the first i characters are written, the rest as it was. The measure is what is left.
+-- `folder::lines::put_bits` meets its contract. The invariant: the first i characters are written, the rest as it was.
 -- Assumes nothing.
-use Prim.Native.Nat.{◌-◌}
-use Rattle.lines.proofs.Writing.{Copied, characters}
+use mathlib.Core.List.{map}
+use Rattle.lines.proofs.Writing.{Copied, character}
 use Rattle.lines.proofs.put_bits.Given as goal
 
 abbrev pub invariant-loop-i : goal.invariant-loop-i
-invariant-loop-i l = Copied (characters l.n l.assignment) l.initial.out l.out l.i
-
-abbrev pub decreases-loop-i : goal.decreases-loop-i
-decreases-loop-i l = l.n - l.i
+invariant-loop-i l = Copied (map character l.bits) l.initial.out l.out l.i

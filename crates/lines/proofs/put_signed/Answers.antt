@@ -20,7 +20,7 @@ returns-then-v-lt0 c =
     let a = c.args in
     let put = c.put_number in
     let both =
-    signed_negative a.out.now a.at a.v _ a.end (c.size-n.ensures ∙ ap nat_abs (to_z-of_z c.ranges.v)) (negative c.ranges.v c.if-v-lt0.true) (omega (arith, c.requires)) put.ensures.0 put.ensures.1
+    signed_negative a.out.now a.at a.v _ a.end (c.unsigned_abs-n.ensures.value ∙ ap nat_abs (to_z-of_z c.ranges.v)) (negative c.ranges.v c.if-v-lt0.true) (omega (arith, c.requires)) put.ensures.0 put.ensures.1
     in
     (both.0, both.1, omega (arith, put.ensures.2))
 
@@ -28,5 +28,5 @@ pub returns : goal.returns
 returns c =
     let a = c.args in
     let put = c.put_number-2 in
-    let both = signed_natural a.out.now a.at a.v _ a.end (c.size-n.ensures ∙ ap nat_abs (to_z-of_z c.ranges.v)) (natural c.ranges.v c.if-v-lt0.false) put.ensures.0 put.ensures.1 in
+    let both = signed_natural a.out.now a.at a.v _ a.end (c.unsigned_abs-n.ensures.value ∙ ap nat_abs (to_z-of_z c.ranges.v)) (natural c.ranges.v c.if-v-lt0.false) put.ensures.0 put.ensures.1 in
     (both.0, both.1, omega (arith, put.ensures.2))

@@ -4,24 +4,29 @@ use Rattle.format.specs.Tables.{plan_of_tables}
 use Rattle.report.proofs.Reporting.{written, settings_refused, settings_lawful, numbers_refused, numbers_accepted}
 use Rattle.report.proofs.respond_loaded.Goals as goal
 
-pub returns-then-refusal-ne0 : goal.returns-then-refusal-ne0
-returns-then-refusal-ne0 c =
+pub returns-in-Err : goal.returns-in-Err
+returns-in-Err c =
     let a = c.args in
-    written a.out.now c.refusal_line-then-refusal-ne0.ensures
-    (numbers_refused a.walk.now c.judge_walk-w.ensures c.in-Settings.is (plan_of_tables a.tables.now a.terms.now) a.numbers.now c.judge_numbers-refusal.ensures c.if-refusal-ne0.true)
+    written a.out.now c.refuse.ensures (settings_refused a.walk.now (plan_of_tables a.tables.now a.terms.now) a.numbers.now c.in-Err.refusal c.in-Err.ensures)
 
 pub search_plan-requires : goal.search_plan-requires
 search_plan-requires c =
-    (c.requires.0, c.requires.1, c.requires.2, settings_lawful c.args.walk.now c.judge_walk-w.ensures c.in-Settings.is, c.requires.3)
+    let a = c.args in (
+      c.requires.0,
+      c.requires.1,
+      c.requires.2,
+      settings_lawful a.walk.now (plan_of_tables a.tables.now a.terms.now) a.numbers.now c.in-Ok.settings c.in-Ok.ensures,
+      c.requires.3,
+    )
 
-pub returns-in-Refused : goal.returns-in-Refused
-returns-in-Refused c =
-    let a = c.args in
-    written a.out.now c.refusal_line.ensures
-    (settings_refused a.walk.now c.judge_walk-w.ensures (plan_of_tables a.tables.now a.terms.now) a.numbers.now c.in-Refused.is)
-
-pub returns-else-refusal-ne0 : goal.returns-else-refusal-ne0
-returns-else-refusal-ne0 c =
+pub returns-in-Ok-judge_numbers : goal.returns-in-Ok-judge_numbers
+returns-in-Ok-judge_numbers c =
     let a = c.args in
     written a.out.now c.search_plan.ensures
-    (numbers_accepted a.walk.now c.judge_walk-w.ensures c.in-Settings.is (plan_of_tables a.tables.now a.terms.now) a.numbers.now c.judge_numbers-refusal.ensures c.if-refusal-ne0.false)
+    (numbers_accepted a.walk.now (plan_of_tables a.tables.now a.terms.now) a.numbers.now c.in-Ok.settings c.in-Ok.ensures c.in-Ok-judge_numbers.ensures)
+
+pub returns-in-Err-judge_numbers : goal.returns-in-Err-judge_numbers
+returns-in-Err-judge_numbers c =
+    let a = c.args in
+    written a.out.now c.refuse-in-Err-judge_numbers.ensures
+    (numbers_refused a.walk.now (plan_of_tables a.tables.now a.terms.now) a.numbers.now c.in-Ok.settings c.in-Ok.ensures c.in-Err-judge_numbers.refusal c.in-Err-judge_numbers.ensures)

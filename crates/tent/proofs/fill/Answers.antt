@@ -22,7 +22,7 @@ joined at k n xs ys within fits =
 pub loop-done-preserved : goal.loop-done-preserved
 loop-done-preserved g c =
     let l = c.loop-done in
-    let read = c.in-Ok.ensures in
+    let read = c.in_ok-n.ensures in
     let one_more = Consumes-trans _ _ _ _ _ l.invariant.given read.bytes.0 in
     record {
       within = search rules;

@@ -1,23 +1,35 @@
 -- `cells::field::is_text` meets its contract, range by range.
 -- Assumes nothing.
-use mathlib.Core.Path.{sym}
-use Rattle.cells.proofs.Tests.{text_below, text_first, text_quote, text_second, text_comma, text_third}
+use Rattle.std.proofs.Common.{arith}
+use Rattle.std.proofs.lemmas.Bool.Decides.{nat_tests}
+use Rattle.plpb.specs.Lists.{◌and◌, ◌or◌}
+use Rattle.cells.specs.Grammar.{is_text}
 use Rattle.cells.proofs.field.is_text.Goals as goal
 
-pub returns-then-b-lt32 : goal.returns-then-b-lt32
-returns-then-b-lt32 c = sym (text_below _ c.if-b-lt32.true)
+pub returns-in-32-to-33 : goal.returns-in-32-to-33
+unfolding is_text ◌and◌ ◌or◌
+returns-in-32-to-33 c = grind (arith, nat_tests)
 
-pub returns-then-b-le33 : goal.returns-then-b-le33
-returns-then-b-le33 c = sym (text_first _ c.if-b-lt32.false c.if-b-le33.true)
+pub returns-in-32-to-33-2 : goal.returns-in-32-to-33-2
+unfolding is_text ◌and◌ ◌or◌
+returns-in-32-to-33-2 c = grind (arith, nat_tests)
 
-pub returns-then-b-lt35 : goal.returns-then-b-lt35
-returns-then-b-lt35 c = sym (text_quote _ c.if-b-le33.false c.if-b-lt35.true)
+pub returns-in-32-to-33-3 : goal.returns-in-32-to-33-3
+unfolding is_text ◌and◌ ◌or◌
+returns-in-32-to-33-3 c = grind (arith, nat_tests)
 
-pub returns-then-b-le43 : goal.returns-then-b-le43
-returns-then-b-le43 c = sym (text_second _ c.if-b-lt35.false c.if-b-le43.true)
+pub returns-in_default : goal.returns-in_default
+unfolding is_text ◌and◌ ◌or◌
+returns-in_default c = grind (arith, nat_tests)
 
-pub returns-then-b-lt45 : goal.returns-then-b-lt45
-returns-then-b-lt45 c = sym (text_comma _ c.if-b-le43.false c.if-b-lt45.true)
+pub returns-in_default-2 : goal.returns-in_default-2
+unfolding is_text ◌and◌ ◌or◌
+returns-in_default-2 c = grind (arith, nat_tests)
 
-pub returns : goal.returns
-returns c = text_third _ c.if-b-lt45.false
+pub returns-in_default-3 : goal.returns-in_default-3
+unfolding is_text ◌and◌ ◌or◌
+returns-in_default-3 c = grind (arith, nat_tests)
+
+pub returns-in_default-4 : goal.returns-in_default-4
+unfolding is_text ◌and◌ ◌or◌
+returns-in_default-4 c = grind (arith, nat_tests)

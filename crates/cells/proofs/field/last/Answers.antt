@@ -1,36 +1,23 @@
 -- `cells::field::last` meets its contract.
 -- Assumes nothing.
-use native.Mathlib.Omega.{arith}
-use mathlib.Core.Path.{refl}
-use Rattle.cells.proofs.Fields.{reads_some, reads_none, end_list, end_short, end_right, end_no_lf, end_no_cr}
+use Rattle.std.proofs.Common.{arith}
+use Rattle.cells.proofs.Fields.{no_more, end_list, end_short, end_right, end_wrong}
 use Rattle.cells.proofs.field.last.Goals as goal
 
-pub returns-then-s-next : goal.returns-then-s-next
-returns-then-s-next c = end_list _ _ _ c.read_field-field.ensures c.if-s-next.true
+pub returns-in_err-field-clause-reads : goal.returns-in_err-field-clause-reads
+returns-in_err-field-clause-reads c = rw c.from_residual.ensures (no_more _ c.in_err-field.ensures.reads).1
 
-pub returns-then-s-next-lt2 : goal.returns-then-s-next-lt2
-returns-then-s-next-lt2 c = reads_none _ (end_short _ _ _ c.read_field-field.ensures c.if-s-next.false _ refl c.if-s-next-lt2.true) c.broken.ensures
+pub returns-in-empty-clause-reads : goal.returns-in-empty-clause-reads
+returns-in-empty-clause-reads c = end_list c.args.s.now _ c.in_ok-field.field c.in_ok-field.ensures.reads c.in-empty.len_below
 
-pub returns-then-s-next-ne-CR : goal.returns-then-s-next-ne-CR
-returns-then-s-next-ne-CR c = reads_none _ (end_no_cr _ _ _ c.read_field-field.ensures c.if-s-next.false _ refl c.if-s-next-ne-CR.true c.if-s-next-lt2.false) c.broken-then-s-next-ne-CR.ensures
+pub returns-in-13-clause-reads : goal.returns-in-13-clause-reads
+returns-in-13-clause-reads c = end_right c.args.s.now _ c.in_ok-field.field c.in_ok-field.ensures.reads c.in-13.len_at_least (omega arith) (omega arith)
 
-pub returns-then-s-next-ne-LF : goal.returns-then-s-next-ne-LF
-returns-then-s-next-ne-LF c = reads_none _ (end_no_lf _ _ _ c.read_field-field.ensures c.if-s-next.false _ refl c.if-s-next-lt2.false _ refl c.if-s-next-ne-LF.true) c.broken-then-s-next-ne-LF.ensures
+pub returns-in_default-clause-reads : goal.returns-in_default-clause-reads
+returns-in_default-clause-reads c = end_short c.args.s.now _ c.in_ok-field.field c.in_ok-field.ensures.reads c.in_default.len_at_least c.in_default.len_below
 
-pub returns : goal.returns
-returns c =
-    reads_some _ _ _
-    (end_right _ _ _ c.read_field-field.ensures c.if-s-next.false _ refl c.if-s-next-lt2.false _ refl c.if-s-next-ne-CR.false c.if-s-next-ne-LF.false) (omega arith)
-    c.found.ensures
+pub returns-in_default-2-clause-reads : goal.returns-in_default-2-clause-reads
+returns-in_default-2-clause-reads c = end_wrong c.args.s.now _ c.in_ok-field.field c.in_ok-field.ensures.reads c.in_default.len_at_least (λ p q. absurd (omega (arith, p, q)))
 
-pub overflow_sub-s : goal.overflow_sub-s
-overflow_sub-s c = omega arith
-
-pub overflow_add-next : goal.overflow_add-next
-overflow_add-next c = omega arith
-
-pub bounds-s-next-2 : goal.bounds-s-next-2
-bounds-s-next-2 c = omega arith
-
-pub overflow_add-next-2 : goal.overflow_add-next-2
-overflow_add-next-2 c = omega arith
+pub returns-in_default-3-clause-reads : goal.returns-in_default-3-clause-reads
+returns-in_default-3-clause-reads c = end_wrong c.args.s.now _ c.in_ok-field.field c.in_ok-field.ensures.reads c.in_default.len_at_least (λ p q. absurd (omega (arith, p, q)))

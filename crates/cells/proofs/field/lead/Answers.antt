@@ -1,18 +1,17 @@
 -- `cells::field::lead` meets its contract.
 -- Assumes nothing.
-use native.Mathlib.Omega.{arith}
-use mathlib.Core.Path.{refl}
-use Rattle.cells.proofs.Fields.{reads_some, reads_none, comma_none, comma_wrong, comma_right}
+use Rattle.std.proofs.Common.{arith}
+use Rattle.cells.proofs.Fields.{no_more, comma_none, comma_wrong, comma_right}
 use Rattle.cells.proofs.field.lead.Goals as goal
 
-pub returns-then-s-next : goal.returns-then-s-next
-returns-then-s-next c = reads_none _ (comma_none _ _ _ c.read_field-field.ensures c.if-s-next.true) c.broken.ensures
+pub returns-in_err-field-clause-reads : goal.returns-in_err-field-clause-reads
+returns-in_err-field-clause-reads c = rw c.from_residual.ensures (no_more _ c.in_err-field.ensures.reads).0
 
-pub returns-then-s-next-ne-COMMA : goal.returns-then-s-next-ne-COMMA
-returns-then-s-next-ne-COMMA c = reads_none _ (comma_wrong _ _ _ c.read_field-field.ensures c.if-s-next.false _ refl c.if-s-next-ne-COMMA.true) c.broken-then-s-next-ne-COMMA.ensures
+pub returns-in-44-clause-reads : goal.returns-in-44-clause-reads
+returns-in-44-clause-reads c = comma_right c.args.s.now _ c.in_ok-field.field c.in_ok-field.ensures.reads c.in-44.len_at_least (omega arith)
 
-pub returns : goal.returns
-returns c = reads_some _ _ _ (comma_right _ _ _ c.read_field-field.ensures c.if-s-next.false _ refl c.if-s-next-ne-COMMA.false) (omega arith) c.found.ensures
+pub returns-in_default-clause-reads : goal.returns-in_default-clause-reads
+returns-in_default-clause-reads c = comma_none c.args.s.now _ c.in_ok-field.field c.in_ok-field.ensures.reads c.in_default.len_below
 
-pub overflow_add-next : goal.overflow_add-next
-overflow_add-next c = omega arith
+pub returns-in_default-2-clause-reads : goal.returns-in_default-2-clause-reads
+returns-in_default-2-clause-reads c = comma_wrong c.args.s.now _ c.in_ok-field.field c.in_ok-field.ensures.reads c.in_default.len_at_least (λ e. absurd (omega (arith, e)))

@@ -3,10 +3,10 @@
 use Rattle.plpb.specs.Lists.{◌and◌}
 use Rattle.cells.proofs.field.may_close.Goals as goal
 
-pub returns-then-closing : goal.returns-then-closing
+pub returns-then-not-closing : goal.returns-then-not-closing
 unfolding ◌and◌
-returns-then-closing c = rw c.if-closing.true
+returns-then-not-closing c = rw c.if-not-closing.true
 
-pub returns-else-closing : goal.returns-else-closing
+pub returns-else-not-closing : goal.returns-else-not-closing
 unfolding ◌and◌
-returns-else-closing c = rw c.if-closing.false
+returns-else-not-closing c = rw c.if-not-closing.false

@@ -1,10 +1,8 @@
 -- `cells::field::quoted` meets its contract. The invariant: what is gathered with the field from the present place on is what the whole field gathers.
--- The measure is what is left of the list.
 -- Assumes nothing.
-use Prim.Native.Nat.{◌-◌, ◌≤◌}
 use mathlib.Core.Path.{◌≡◌}
 use mathlib.Core.Bool.{false}
-use lib.ListN.{length, drop}
+use lib.ListN.{drop}
 use Rattle.cells.specs.Grammar.{in_quotes}
 use Rattle.cells.specs.Values.{no_bytes}
 use Rattle.cells.specs.Reading.{gathered}
@@ -12,7 +10,4 @@ use Rattle.cells.proofs.field.quoted.Given as goal
 
 abbrev pub invariant-loop-at : goal.invariant-loop-at
 invariant-loop-at l =
-    (l.at ≤ length l.s) × (gathered l.value (in_quotes l.closing (drop l.at l.s)) ≡ gathered no_bytes (in_quotes false (drop l.from l.s)))
-
-abbrev pub decreases-loop-at : goal.decreases-loop-at
-decreases-loop-at l = length l.s - l.at
+    gathered l.value (in_quotes l.closing (drop l.at l.s)) ≡ gathered no_bytes (in_quotes false (drop l.from l.s))

@@ -1,21 +1,15 @@
 -- `cells::field::read_field` meets its contract.
 -- Assumes nothing.
-use native.Mathlib.Omega.{arith}
-use mathlib.Core.Path.{refl}
-use Rattle.cells.proofs.Fields.{field_none, field_quoted, field_plain}
+use Rattle.std.proofs.Common.{inl, inr, ◌∙◌}
+use Rattle.cells.proofs.Fields.{field_quoted, field_plain}
 use Rattle.cells.proofs.field.read_field.Goals as goal
+use Rattle.cells.proofs.field.read_field.Goals.{else-at-s-via-then-at-s+else-s-at-eq-QUOTE, else-at-s-via-else-at-s}
 
-pub returns-then-s-at : goal.returns-then-s-at
-returns-then-s-at c = rw (field_none _ _ c.if-s-at.true) at c.plain.ensures
+pub returns-then-s-at-eq-QUOTE-clause-reads : goal.returns-then-s-at-eq-QUOTE-clause-reads
+returns-then-s-at-eq-QUOTE-clause-reads c = c.quoted.ensures.reads ∙ field_quoted _ _ c.if-at-s.true c.if-s-at-eq-QUOTE.true
 
-pub returns-then-s-at-eq-QUOTE : goal.returns-then-s-at-eq-QUOTE
-returns-then-s-at-eq-QUOTE c = rw (field_quoted _ _ _ c.if-s-at.false refl c.if-s-at-eq-QUOTE.true) at c.quoted.ensures
-
-pub returns : goal.returns
-returns c = rw (field_plain _ _ _ c.if-s-at.false refl c.if-s-at-eq-QUOTE.false) at c.plain-2.ensures
-
-pub overflow_add-at : goal.overflow_add-at
-overflow_add-at c = omega arith
-
-pub quoted-requires : goal.quoted-requires
-quoted-requires c = omega arith
+pub returns-else-at-s-clause-reads : goal.returns-else-at-s-clause-reads
+returns-else-at-s-clause-reads c =
+    c.plain.ensures.reads
+    ∙ field_plain c.args.s.now c.args.at
+    (elim c.else-at-s.branch [ else-at-s-via-then-at-s+else-s-at-eq-QUOTE w ↦ inr (w.if-at-s.true, w.if-s-at-eq-QUOTE.false) | else-at-s-via-else-at-s w ↦ inl w.if-at-s.false ])

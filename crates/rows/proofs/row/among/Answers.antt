@@ -1,50 +1,52 @@
 -- The goals that the search leaves.
-use Prim.Native.Nat.{◌-◌}
+use Prim.Native.Nat.{◌+◌}
+use mathlib.Core.Option.{Option}
 use native.Mathlib.Omega.{arith}
 use mathlib.Core.Path.{◌≡◌, sym, ap, ◌∙◌}
-use mathlib.Core.Bool.{false}
 use Rattle.cells.specs.declared.value.Value.{Value}
-use Rattle.cells.specs.Grammar.{rows_of}
-use Rattle.cells.specs.Values.{same_value}
-use Rattle.rows.specs.Reading.{columns}
-use Rattle.rows.proofs.Rows.{place_first, more_bytes, is_row, row_held, place_next, any_none, any_more, any_found}
+use Rattle.cells.specs.Grammar.{Record, rows_of, column_of}
+use Rattle.cells.specs.Values.{gather_from, gather, same_value}
+use Rattle.rows.specs.Reading.{columns, is_zones, place}
+use Rattle.rows.proofs.Rows.{place_first, more_bytes, is_row, row_held, place_next, malformed_last, any_none, any_last, any_more, any_found}
 use Rattle.rows.proofs.row.among.Goals as goal
 
 pub loop-k-init : goal.loop-k-init
-loop-k-init c = (place_first _ _, omega arith, any_none _ (rows_of (columns c.args.four) c.args.s.now))
+loop-k-init c = (place_first _ _, any_none _ (rows_of (columns (is_zones c.args.listed)) c.args.s.now))
 
 pub returns-then-same : goal.returns-then-same
 returns-then-same c =
     let at = c.loop-k in
     let l = c.loop-k-test.true in
-    let m = more_bytes _ _ _ _ at.invariant.0 (omega (arith, c.requires.0, l)) in
-    let held = row_held _ _ _ _ at.invariant.0 _ m c.read_row-row.ensures in
-    let e = ap (λ (v : Value). same_value v c.args.value) (sym (c.column.ensures _ held)) ∙ sym c.same.ensures ∙ c.if-same.true in
-    sym (any_found _ _ _ _ l (omega (arith, c.requires.0, l)) e)
+    let m = more_bytes _ _ _ _ at.invariant.0 (omega (arith, c.requires, l)) in
+    let held = row_held _ _ _ _ at.invariant.0 c.in-Some.row m c.in-Some.ensures in
+    let e = ap (λ (v : Value). same_value v c.args.value) (sym (c.field_in.ensures _ held)) ∙ sym c.same-in-loop-k.ensures ∙ c.if-same.true in
+    sym (any_found _ _ _ _ l (omega (arith, c.requires, l)) e)
 
 pub loop-k-preserved : goal.loop-k-preserved
 loop-k-preserved c =
     let at = c.loop-k in
     let l = c.loop-k-test.true in
-    let m = more_bytes _ _ _ _ at.invariant.0 (omega (arith, c.requires.0, l)) in
-    let held = row_held _ _ _ _ at.invariant.0 _ m c.read_row-row.ensures in
-    let e = ap (λ (v : Value). same_value v c.args.value) (sym (c.column.ensures _ held)) ∙ sym c.same.ensures ∙ c.if-same.false in
-    (place_next _ _ _ _ at.invariant.0 _ m c.read_row-row.ensures, omega arith, any_more _ _ _ (is_row _ _ _ _ at.invariant.0 _ m c.read_row-row.ensures) at.invariant.2 e)
+    let m = more_bytes _ _ _ _ at.invariant.0 (omega (arith, c.requires, l)) in
+    let held = row_held _ _ _ _ at.invariant.0 c.in-Some.row m c.in-Some.ensures in
+    let e = ap (λ (v : Value). same_value v c.args.value) (sym (c.field_in.ensures _ held)) ∙ sym c.same-in-loop-k.ensures ∙ c.if-same.false in
+    (place_next _ _ _ _ at.invariant.0 c.in-Some.row m c.in-Some.ensures, any_more _ _ _ (is_row _ _ _ _ at.invariant.0 c.in-Some.row m c.in-Some.ensures) at.invariant.1 e)
 
 pub returns : goal.returns
 returns c =
     let at = c.loop-k in
-    let n : at.k ≡ c.args.rows = omega (arith, at.invariant.1, c.loop-k-test.false) in
-    sym (rw n at at.invariant.2)
+    let n : at.k ≡ c.args.rows = omega (arith, c.loop-k-test.false) in
+    sym (rw n at at.invariant.1)
 
-pub read_row-row-requires : goal.read_row-row-requires
-read_row-row-requires c = c.loop-k.invariant.0.within
+pub returns-in_default : goal.returns-in_default
+unfolding column_of gather_from
+returns-in_default c =
+    let a = c.args in
+    let at = c.loop-k in
+    let l = c.loop-k-test.true in
+    let d = malformed_last _ _ _ _ at.invariant.0 (more_bytes _ _ _ _ at.invariant.0 (omega (arith, c.requires, l))) c.in_default.ensures in
+    let n : a.rows ≡ at.k + 1 = omega (arith, c.requires, l, d.2) in
+    let whole = any_last _ (rows_of (columns (is_zones a.listed)) a.s.now) _ d.0 at.invariant.1 ∙ ap (λ (x : Option Record). same_value (gather (column_of (place a.which) x)) a.value) d.1 in
+    c.same.ensures ∙ ap (λ (v : Value). same_value v a.value) c.empty.ensures ∙ sym (rw n whole)
 
-pub column-requires : goal.column-requires
-column-requires c = c.requires.1
-
-pub overflow_add-k : goal.overflow_add-k
-overflow_add-k c = omega arith
-
-pub loop-k-smaller : goal.loop-k-smaller
-loop-k-smaller c = omega arith
+pub read_row-requires : goal.read_row-requires
+read_row-requires c = c.loop-k.invariant.0.within

@@ -1,34 +1,54 @@
 -- `rows::row::read_row` meets its contract.
 -- Assumes nothing.
-use borrow.Author.Tests.{not-true, not-false}
-use Rattle.rows.proofs.Rows.{read_field, no_field, lead_stop, second_stop, lead_four, lead_three, reads_malformed}
+use mathlib.Core.Path.{ap, ◌∙◌}
+use Rattle.cells.proofs.Fields.{no_field, there}
+use Rattle.rows.specs.Reading.{is_zones}
+use Rattle.rows.proofs.Rows.{lead_stop, second_stop, four_is, three_is, last_stop, last_step, row_stop, two_left, two_stop, still_malformed, reads_three, reads_four}
 use Rattle.rows.proofs.row.read_row.Goals as goal
 
-pub returns-then-not-a : goal.returns-then-not-a
-returns-then-not-a c = reads_malformed _ (lead_stop c.args.four _ (no_field _ _ _ c.lead-a.ensures (not-true _ c.if-not-a.true))) c.malformed.ensures
+pub returns-in_err-first : goal.returns-in_err-first
+returns-in_err-first c = rw c.from_residual.ensures (lead_stop (is_zones c.args.listed) _ (no_field _ c.in_err-first.ensures.reads))
 
-pub lead-b-requires : goal.lead-b-requires
-lead-b-requires c = c.lead-a.ensures.within
+pub returns-in_err-second : goal.returns-in_err-second
+returns-in_err-second c =
+    let f = there _ _ c.in_ok-first.first c.in_ok-first.ensures.reads in
+    rw c.from_residual-in_err-second.ensures (second_stop (is_zones c.args.listed) _ _ _ f.1 (no_field _ c.in_err-second.ensures.reads))
 
-pub returns-then-not-b : goal.returns-then-not-b
-returns-then-not-b c =
-    let f = read_field _ _ _ c.lead-a.ensures (not-false _ c.if-not-a.false) in
-    reads_malformed _ (second_stop c.args.four _ _ _ f.1 (no_field _ _ _ c.lead-b.ensures (not-true _ c.if-not-b.true))) c.malformed-then-not-b.ensures
+pub returns-in_err-third-in-Sites : goal.returns-in_err-third-in-Sites
+returns-in_err-third-in-Sites c =
+    let f = there _ _ c.in_ok-first.first c.in_ok-first.ensures.reads in
+    let g = there _ _ c.in_ok-second.second c.in_ok-second.ensures.reads in
+    rw c.from_residual-in_err-third-in-Sites.ensures
+    (three_is _ _ _ _ _ _ f.1 g.1 (ap is_zones c.in-Sites.is) ∙ still_malformed f.0 g.0 _ (last_stop _ (no_field _ c.in_err-third-in-Sites.ensures.reads)))
 
-pub row_of_four-requires : goal.row_of_four-requires
-row_of_four-requires c = c.lead-b.ensures.within
+pub returns-in_ok-third-in-Sites : goal.returns-in_ok-third-in-Sites
+returns-in_ok-third-in-Sites c =
+    let f = there _ _ c.in_ok-first.first c.in_ok-first.ensures.reads in
+    let g = there _ _ c.in_ok-second.second c.in_ok-second.ensures.reads in
+    let h = there _ _ c.in_ok-third-in-Sites.third c.in_ok-third-in-Sites.ensures.reads in
+    rw (three_is _ _ _ _ _ _ f.1 g.1 (ap is_zones c.in-Sites.is))
+    (reads_three _ f.0 g.0 _ _ _ _ _ c.in_ok-third-in-Sites.ensures.within h.0 f.2 g.2 h.2 c.empty.ensures (last_step _ _ _ h.1))
 
-pub returns-then-four : goal.returns-then-four
-returns-then-four c =
-    let f = read_field _ _ _ c.lead-a.ensures (not-false _ c.if-not-a.false) in
-    let g = read_field _ _ _ c.lead-b.ensures (not-false _ c.if-not-b.false) in
-    lead_four _ _ _ _ _ _ _ c.if-four.true f.1 g.1 _ (c.row_of_four.ensures f.0 g.0 f.2 g.2)
+pub returns-in_err-third-in-Zones : goal.returns-in_err-third-in-Zones
+returns-in_err-third-in-Zones c =
+    let f = there _ _ c.in_ok-first.first c.in_ok-first.ensures.reads in
+    let g = there _ _ c.in_ok-second.second c.in_ok-second.ensures.reads in
+    rw c.from_residual-in_err-third-in-Zones.ensures
+    (four_is _ _ _ _ _ _ f.1 g.1 (ap is_zones c.in-Zones.is) ∙ still_malformed f.0 g.0 _ (row_stop 0 _ (no_field _ c.in_err-third-in-Zones.ensures.reads)))
 
-pub row_of_three-requires : goal.row_of_three-requires
-row_of_three-requires c = c.lead-b.ensures.within
+pub returns-in_err-fourth-in-Zones : goal.returns-in_err-fourth-in-Zones
+returns-in_err-fourth-in-Zones c =
+    let f = there _ _ c.in_ok-first.first c.in_ok-first.ensures.reads in
+    let g = there _ _ c.in_ok-second.second c.in_ok-second.ensures.reads in
+    let h = there _ _ c.in_ok-third-in-Zones.third c.in_ok-third-in-Zones.ensures.reads in
+    rw c.from_residual-in_err-fourth-in-Zones.ensures
+    (four_is _ _ _ _ _ _ f.1 g.1 (ap is_zones c.in-Zones.is) ∙ still_malformed f.0 g.0 _ (two_stop _ _ _ h.1 (no_field _ c.in_err-fourth-in-Zones.ensures.reads)))
 
-pub returns : goal.returns
-returns c =
-    let f = read_field _ _ _ c.lead-a.ensures (not-false _ c.if-not-a.false) in
-    let g = read_field _ _ _ c.lead-b.ensures (not-false _ c.if-not-b.false) in
-    lead_three _ _ _ _ _ _ _ c.if-four.false f.1 g.1 _ (c.row_of_three.ensures f.0 g.0 f.2 g.2)
+pub returns-in_ok-fourth-in-Zones : goal.returns-in_ok-fourth-in-Zones
+returns-in_ok-fourth-in-Zones c =
+    let f = there _ _ c.in_ok-first.first c.in_ok-first.ensures.reads in
+    let g = there _ _ c.in_ok-second.second c.in_ok-second.ensures.reads in
+    let h = there _ _ c.in_ok-third-in-Zones.third c.in_ok-third-in-Zones.ensures.reads in
+    let k = there _ _ c.in_ok-fourth-in-Zones.fourth c.in_ok-fourth-in-Zones.ensures.reads in
+    rw (four_is _ _ _ _ _ _ f.1 g.1 (ap is_zones c.in-Zones.is))
+    (reads_four _ f.0 g.0 _ _ _ _ _ c.in_ok-fourth-in-Zones.ensures.within h.0 k.0 f.2 g.2 h.2 k.2 (two_left _ _ _ _ _ h.1 k.1))
