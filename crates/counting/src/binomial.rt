@@ -51,7 +51,7 @@ fn nearer(m: u64, k: u64) -> u64
     requires { k ≤ m }
     ensures { result ≡ min k (m - k) }
 {
-    if m - k < k { m - k } else { k }
+    k.min(m - k)
 }
 
 // m over k above the triangle.
@@ -116,6 +116,8 @@ fn absorbed(before: u64, m: u64, k: u64) -> u64
 {
     before * m / k
 }
+
+// In what follows m, w and k go one by one, the letters of the difference that each contract says: a struct would put its name before each of them.
 
 // The difference below, where what it gains in its last row is not cut: then the entries behind both numbers are exact.
 fn exact_difference(gain: u64, m: u64, w: u64, k: u64) -> Count

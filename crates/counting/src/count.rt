@@ -1,4 +1,5 @@
-// A count as it is given out: the true number or 4,294,967,295, whichever is smaller, and whether it was cut.
+// A count as it is given out: the true number or 4,294,967,295, whichever is smaller, and whether it was cut. It is the project's `given n`, in which a cut
+// count has a value too: an Option of the number would have to find the value again wherever a count is given out or stored.
 ghost use Rattle.std.specs.Prelude.{◌≡◌, suc, ◌+◌, ◌*◌, ◌<◌};
 ghost use Rattle.plpb.specs.Count.{cap, given, capped};
 ghost use Rattle.counting.specs.Count.{number, count_words, marked_words};
@@ -54,19 +55,6 @@ impl Count {
             return Count::CAP.value as u64 + 1;
         }
         self.value as u64
-    }
-
-    // As it is given out.
-    pub fn marked(self) -> Marked
-        ensures { marked_words result ≡ count_words (given (number self)) }
-    {
-        Marked::from(self)
-    }
-
-    pub fn plus(self, other: Count) -> Count
-        ensures { number result ≡ capped (number self + number other) }
-    {
-        self + other
     }
 
     // A cut one times this one. Zero times a cut one is zero and uncut.

@@ -2,7 +2,7 @@
 // The first three functions are the three cases of paper 004's equations (10) to (12), in its order and "read with 'its literal is
 // true' for 'x is true'". C(m, k) is m over k; w is the weight of the variable's literal, N and P are the weights of the rule's false and
 // of its true literals. K − l + 1 is the size a, and u + 1 the size b: an absent bound has no parts, and a size raised to 0 one, which is
-// empty.
+// empty. The letters go one by one: each line reads as its equation does, which a struct's name before each letter would hide.
 ghost use Rattle.std.specs.Prelude.{◌≡◌, ◌+◌, ◌-◌, ◌≤◌, ◌<◌};
 ghost use Rattle.plpb.specs.Count.{capped};
 ghost use Rattle.plpb.specs.Equations.{over as overSize};

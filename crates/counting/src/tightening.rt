@@ -2,11 +2,11 @@
 ghost use Rattle.std.specs.Prelude.{◌≡◌, ◌<◌, nat_abs};
 ghost use Rattle.plpb.specs.Search.{third as thirdOf, lbs_bound, linear_bound};
 
-// A third, rounded down: the machine's division rounds toward zero, so a negative number is divided by its distance below −1.
+// A third, rounded down, below zero as well.
 pub fn third(a: i64) -> i64
     ensures { result ≡ thirdOf a }
 {
-    if a < 0 { -1 - (-1 - a) / 3 } else { a / 3 }
+    a.div_euclid(3)
 }
 
 // O ≤ (l(O) + 2v)/3, for a find of cost v. Costs and l(O) are sums of 512 coefficients at most.

@@ -14,8 +14,8 @@ pub struct Sums {
     pub cost: i64,
 }
 
-// What is reported: three fractions in lowest terms. found is 0 where no run has a find: then the mean cost is absent, 0 over 0. With a refusal all
-// else is 0.
+// What is reported, as the C interface takes it, and so with a refusal's number and a mark: three fractions in lowest terms. found is 0 where no run has a
+// find: then the mean cost is absent, 0 over 0. With a refusal all else is 0.
 #[repr(C)]
 #[derive(Clone, Copy)]
 pub struct Figures {

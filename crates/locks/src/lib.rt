@@ -17,7 +17,7 @@ fn held(lock: usize, byte: u8) -> u8
     }
 }
 
-// Gives each locked one of n variables its value.
+// Gives each locked one of n variables its value. n goes with the bytes, because what follows them is lent too and stays as it was.
 pub fn hold_locks(tables: &[u8], n: usize, assignment: &mut [u8])
     requires { (n ≤ max_variables) × (n ≤ length assignment.old) × (table_size ≤ length tables.now) }
     ensures { assignment.new ≡ held_bytes tables.now n assignment.old }

@@ -14,7 +14,7 @@ use Rattle.plpb.specs.Walk.{Walk, done, words, pick, flipped, ◌>>=◌, Mark, d
 use Rattle.plpb.specs.Settings.{Mode, Settings}
 use Rattle.plpb.specs.Try.{Try, begun, turn_over}
 use Rattle.plpb.specs.Choice.{pick_from, least_break, with_break, noisy_choice, skc_choice, choice}
-use Rattle.plpb.specs.Search.{Reached, failed, reached, Turn, stuck, turned, turning, move, go_on, flipping, try, or_else, trying, call, tightened, bound_in, Ending, floor, none, at_floor, gap, after, descending, tighten, search_walk}
+use Rattle.plpb.specs.Search.{Reached, failed, reached, stuck, turned, turning, move, go_on, flipping, try, or_else, trying, call, tightened, bound_in, Ending, floor, none, at_floor, gap, after, descending, tighten, search_walk}
 use Rattle.plpb.proofs.Walks.{resume, run_words, run_pick, onward, run_bind}
 
 -- ---- needs, and one walk after another

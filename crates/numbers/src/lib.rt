@@ -61,19 +61,20 @@ fn start_bit(numbers: &[u8], used: usize, i: usize) -> u8
     bit_of(words::word(numbers, used + i / 32), (i % 32) as u32)
 }
 
-// Writes a start for which there are numbers enough.
-fn write_start(numbers: &[u8], used: usize, n: usize, assignment: &mut [u8])
-    requires { (used + start_words n ≤ length numbers.now / 4) × (n ≤ length assignment.old) }
+// Writes a start for which there are numbers enough. That it and the locks each go through the bytes is the library's loop: a function over a closure for
+// both would say no more.
+fn write_start(numbers: &[u8], used: usize, assignment: &mut [u8])
+    requires { used + start_words (length assignment.old) ≤ length numbers.now / 4 }
     ensures { assignment.new
-        ≡ bit_bytes (start_of n (take (start_words n) (drop used (numbers_of numbers.now)))) ++ drop n assignment.old }
+        ≡ bit_bytes (start_of (length assignment.old) (take (start_words (length assignment.old)) (drop used (numbers_of numbers.now)))) }
 {
-    for (i, byte) in assignment[..n].iter_mut().enumerate() {
+    for (i, byte) in assignment.iter_mut().enumerate() {
         *byte = start_bit(numbers, used, i);
     }
 }
 
 // A try's start for n variables; how many numbers are used after it. The numbers are counted first, so that none is taken and no byte changes where too few
-// are left.
+// are left. n goes with the bytes, because what follows them is lent too and stays as it was.
 pub fn start(numbers: &[u8], used: usize, n: usize, assignment: &mut [u8]) -> Result<usize, Short>
     requires { (used ≤ length numbers.now / 4) × (n ≤ length assignment.old) }
     ensures { Starts n (take_words (start_words n) (numbers_of numbers.now) used) assignment.old result assignment.new }
@@ -82,7 +83,7 @@ pub fn start(numbers: &[u8], used: usize, n: usize, assignment: &mut [u8]) -> Re
     if numbers.len() / 4 < after {
         return Err(Short { used });
     }
-    write_start(numbers, used, n, assignment);
+    write_start(numbers, used, &mut assignment[..n]);
     Ok(after)
 }
 
@@ -94,7 +95,8 @@ fn zero(table: &[u8], i: usize) -> usize
     usize::from(words::word(table, i) == 0)
 }
 
-// The k-th, from 0, of the indices below count whose word, behind base others, is 0; or count where there are not so many.
+// The k-th, from 0, of the indices below count whose word, behind base others, is 0; or count where there are not so many. The words are told by their
+// indices, as the layout of the tables has them: a sub-slice would count bytes.
 pub fn nth_zero(table: &[u8], base: usize, count: usize, k: usize) -> usize
     requires { 4 * (base + count) ≤ length table.now }
     ensures { result ≡ get_or (zero_words table.now base count) k count }

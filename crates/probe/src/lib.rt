@@ -104,7 +104,8 @@ impl From<Three> for Shares {
     }
 }
 
-// A literal that weighs more than the sum it counts in is answered by 0 too. The cases are numbers in the C interface.
+// A literal that weighs more than the sum it counts in is answered by 0 too. The cases are numbers in the C interface, and what else it hands over goes one by
+// one to the equations.
 fn shares(case: u32, w: u64, n: u64, p: u64, a: Option<u64>, b: Option<u64>) -> Three
     requires { n + p < 4294967296 }
     ensures { three_words result ≡ share_words (shares_answer (standing_for case w) n p (bound_of a) (bound_of b)) }

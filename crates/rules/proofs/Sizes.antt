@@ -3,25 +3,36 @@
 use Prim.Native.Nat.{ℕ, zero, suc, ◌+◌, ◌-◌, ◌≤◌}
 use native.Mathlib.Omega.{arith}
 use mathlib.Core.Path.{◌≡◌, refl, sym, ap, ◌∙◌}
-use mathlib.Core.Bool.{Bool, true, false, not, cond}
-use lib.Dec.{ltb}
+use mathlib.Core.Bool.{Bool, true, false, not, cond, beq}
+use lib.Dec.{ltb, eqb}
 use lib.IntN.{ℤ, pos, negsuc, neg_ℤ, nat_abs, sub_ℕ, ◌+ℤ◌, ◌-ℤ◌, +ℤ_assoc, +ℤ_comm, neg_ℤ-+ℤ}
-use borrow.Author.Tests.{eq-eqb, ne_eqb, ltb-true}
-use lib.Signed.{lt_z}
+use borrow.Author.Tests.{ltb-true}
 use Rattle.plpb.specs.Plan.{Bound, absent, present, map_bound, Rule}
+use Rattle.std.specs.Bool.{then_some}
+use Rattle.std.specs.Int.{is_negative as signed_below}
 use Rattle.plpb.specs.Normal.{is_negative, rise, raised, K, size_a, size_b}
-use Rattle.format.specs.File.{bound_of}
+use Rattle.std.specs.Prelude.{Option, Some, None}
+use Rattle.counting.specs.Bound.{bound_of}
+use Rattle.format.specs.File.{bound_of as bound_in}
 use Rattle.rules.specs.Rules.{reach, lower_size, upper_size}
 use Rattle.rules.proofs.Summing.{rise_at_most_K}
 
-pub below_zero : (z : ℤ) → lt_z z (pos 0) ≡ is_negative z
+-- The library's test of a sign is the project's.
+pub signs : (z : ℤ) → signed_below z ≡ is_negative z
 unfolding is_negative
-below_zero (pos n) = at (ltb n 0) refl
+signs (pos n) = at (ltb n 0) refl
   where
     at : (b : Bool) → ltb n 0 ≡ b → b ≡ false
     at true e = absurd (omega (arith, ltb-true n 0 e))
     at false e = refl
-below_zero (negsuc n) = refl
+signs (negsuc n) = refl
+
+-- A literal is true where its sign and its variable's value differ.
+pub differs : {r : Bool} (negated value : Bool) → r ≡ not (beq value negated) → r ≡ cond negated (not value) value
+differs true true e = e
+differs true false e = e
+differs false true e = e
+differs false false e = e
 
 -- ---- sums of integers, raised to 0
 
@@ -101,18 +112,27 @@ rule_upper q = at q.upper
 
 -- ---- as the code works them out
 
-pub lower_absent : (base mode : ℕ) (l : ℤ) → mode ≡ 2 → absent ≡ lower_size base (bound_of 2 mode l)
-unfolding lower_size map_bound bound_of
-lower_absent base mode l h = rw (eq-eqb mode 2 h) refl
+pub lower_absent : (base : ℕ) {b : Option ℤ} → b ≡ None → absent ≡ lower_size base (bound_of b)
+unfolding lower_size map_bound
+lower_absent base e = rw e refl
 
-pub lower_present : (base mode : ℕ) (l : ℤ) {r : ℕ} → (mode ≡ 2 → ⊥) → r ≡ reach base (is_negative l) (nat_abs l) → present r ≡ lower_size base (bound_of 2 mode l)
-unfolding lower_size map_bound bound_of
-lower_present base mode l h e = rw (ne_eqb mode 2 h) (ap present e)
+pub lower_present : (base : ℕ) (l : ℤ) {b : Option ℤ} {r : ℕ} → b ≡ Some l → r ≡ reach base (is_negative l) (nat_abs l) → present r ≡ lower_size base (bound_of b)
+unfolding lower_size map_bound
+lower_present base l e h = rw e (ap present h)
 
-pub upper_absent : (base mode : ℕ) (u : ℤ) → mode ≡ 1 → absent ≡ upper_size base (bound_of 1 mode u)
-unfolding upper_size map_bound bound_of
-upper_absent base mode u h = rw (eq-eqb mode 1 h) refl
+pub upper_absent : (base : ℕ) {b : Option ℤ} → b ≡ None → absent ≡ upper_size base (bound_of b)
+unfolding upper_size map_bound
+upper_absent base e = rw e refl
 
-pub upper_present : (base mode : ℕ) (u : ℤ) {r : ℕ} → (mode ≡ 1 → ⊥) → r ≡ reach base (not (is_negative u)) (nat_abs u) → present r ≡ upper_size base (bound_of 1 mode u)
-unfolding upper_size map_bound bound_of
-upper_present base mode u h e = rw (ne_eqb mode 1 h) (ap present e)
+pub upper_present : (base : ℕ) (u : ℤ) {b : Option ℤ} {r : ℕ} → b ≡ Some u → r ≡ reach base (not (is_negative u)) (nat_abs u) → present r ≡ upper_size base (bound_of b)
+unfolding upper_size map_bound
+upper_present base u e h = rw e (ap present h)
+
+-- A bound is read, unless the rule's mode is the one without it.
+pub bound_read : (without mode : ℕ) (v : ℤ) {r : Option ℤ} → r ≡ then_some (not (eqb mode without)) v → bound_of r ≡ bound_in without mode v
+unfolding bound_in
+bound_read without mode v e = ap bound_of e ∙ by (eqb mode without)
+  where
+    by : (b : Bool) → bound_of (then_some (not b) v) ≡ cond b absent (present v)
+    by true = refl
+    by false = refl

@@ -16,7 +16,6 @@ use Rattle.plpb.proofs.Normal.{N_and_P, lower_by_size, upper_by_size}
 use Rattle.plpb.proofs.Flip.{flip_literal_same}
 use Rattle.counting.specs.Bound.{bound_of}
 use Rattle.words.specs.Words.{word_at}
-use Rattle.format.specs.File.{bound_of as bound_in}
 use Rattle.format.proofs.Bools.{and_first, and_stop}
 use Rattle.rules.specs.declared.entry.Entry.{Entry}
 use Rattle.rules.specs.declared.place.Stands.{Stands}
@@ -75,8 +74,8 @@ state_made {f} g {at} {a} {e} {s} {r} d m small none h =
       falses = falses;
       trues = trues;
       stands = stands;
-      lower = h.lower ∙ ap₂ lower_size (ap₂ ◌-◌ whole rises) (ap₂ (bound_in 2) d.mode d.lower) ∙ rule_lower (rule_at f g at);
-      upper = h.upper ∙ ap₂ upper_size rises (ap₂ (bound_in 1) d.mode d.upper) ∙ rule_upper (rule_at f g at);
+      lower = h.lower ∙ ap₂ lower_size (ap₂ ◌-◌ whole rises) d.lower ∙ rule_lower (rule_at f g at);
+      upper = h.upper ∙ ap₂ upper_size rises d.upper ∙ rule_upper (rule_at f g at);
       balanced = record {
         small = omega (arith, falses, trues, N_and_P a ts, whole, small);
         loses = rw (stands, trues) (lost_in_P a 0 ts);

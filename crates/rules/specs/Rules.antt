@@ -4,7 +4,8 @@ use Rattle.std.specs.Prelude.{ℕ, ◌+◌, ◌*◌, ◌-◌, ◌≤◌, ◌≡�
 use Rattle.plpb.specs.Plan.{Bound, map_bound, Rule}
 use Rattle.plpb.specs.Normal.{is_negative}
 use Rattle.words.specs.Words.{word_at, signed}
-use Rattle.format.specs.File.{bound_of}
+use Rattle.counting.specs.Bound.{bound_of}
+use Rattle.format.specs.File.{bound_of as bound_in}
 use Rattle.rules.specs.declared.entry.Entry.{Entry}
 use Rattle.rules.specs.Terms.{terms_at, Readable}
 
@@ -12,16 +13,15 @@ use Rattle.rules.specs.Terms.{terms_at, Readable}
 pub record EntryAt (f : ℕ → ℕ) (at : ℕ) (e : Entry) : Type 0 where
   pub first : e.first ≡ f at
   pub count : e.count ≡ f (at + 1)
-  pub mode : e.mode ≡ f (at + 2)
-  pub lower : e.lower ≡ signed (f (at + 3))
-  pub upper : e.upper ≡ signed (f (at + 4))
+  pub lower : bound_of e.lower ≡ bound_in 2 (f (at + 2)) (signed (f (at + 3)))
+  pub upper : bound_of e.upper ≡ bound_in 1 (f (at + 2)) (signed (f (at + 4)))
 
 -- The rule whose entry begins at a place of the table f, with its terms in the table g.
 unfoldable pub rule_at : (ℕ → ℕ) → (ℕ → ℕ) → ℕ → Rule
 rule_at f g at =
     record {
-      lower = bound_of 2 (f (at + 2)) (signed (f (at + 3)));
-      upper = bound_of 1 (f (at + 2)) (signed (f (at + 4)));
+      lower = bound_in 2 (f (at + 2)) (signed (f (at + 3)));
+      upper = bound_in 1 (f (at + 2)) (signed (f (at + 4)));
       terms = terms_at g (f at) (f (at + 1));
     }
 

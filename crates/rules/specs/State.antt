@@ -7,7 +7,6 @@ use Rattle.plpb.specs.Normal.{N, P, size_a, size_b, below_size}
 use Rattle.plpb.specs.Equations.{Standing, out, on, off, standing, shares, lost, gained}
 use Rattle.plpb.specs.Equations.{Shares as SharesOf}
 use Rattle.counting.specs.Bound.{bound_of}
-use Rattle.format.specs.File.{bound_of as bound_in}
 use Rattle.rules.specs.declared.entry.Entry.{Entry}
 use Rattle.rules.specs.declared.sums.Sums.{Sums}
 use Rattle.rules.specs.declared.place.Stands.{Stands}
@@ -36,8 +35,8 @@ pub record Made (e : Entry) (s : Sums) (r : State) : Type 0 where
   pub falses : r.n ≡ s.k - s.p
   pub trues : r.p ≡ s.p
   pub stands : r.stands ≡ Out
-  pub lower : bound_of r.a ≡ lower_size (s.k - s.rise) (bound_in 2 e.mode e.lower)
-  pub upper : bound_of r.b ≡ upper_size s.rise (bound_in 1 e.mode e.upper)
+  pub lower : bound_of r.a ≡ lower_size (s.k - s.rise) (bound_of e.lower)
+  pub upper : bound_of r.b ≡ upper_size s.rise (bound_of e.upper)
 
 -- The same state seen from a variable that stands so.
 pub record Seen (z : Stands) (s r : State) : Type 0 where

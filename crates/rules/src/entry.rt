@@ -1,6 +1,8 @@
-// A rule's entry in the table: its first term, how many it has, its mode and its two bounds.
-ghost use Rattle.std.specs.Prelude.{◌+◌, ◌*◌, ◌≤◌, length};
-ghost use Rattle.words.specs.Words.{word_at};
+// A rule's entry in the table: its first term, how many it has, and its two bounds where it has them.
+ghost use Rattle.std.specs.Prelude.{◌≡◌, ◌+◌, ◌*◌, ◌≤◌, length};
+ghost use Rattle.counting.specs.Bound.{bound_of};
+ghost use Rattle.words.specs.Words.{word_at, signed};
+ghost use Rattle.format.specs.File.{bound_of as bound_in};
 ghost use Rattle.rules.specs.Rules.{EntryAt};
 
 use words::{index, to_signed, word};
@@ -9,21 +11,28 @@ use words::{index, to_signed, word};
 pub struct Entry {
     pub first: usize,
     pub count: usize,
-    pub mode: u32,
-    pub lower: i32,
-    pub upper: i32,
+    pub lower: Option<i32>,
+    pub upper: Option<i32>,
 }
 
-// The entry whose five words begin at a word of the table.
+// The bound in a word of the table, which a rule of one mode is without.
+fn read_bound(tables: &[u8], at: usize, mode: u32, without: u32) -> Option<i32>
+    requires { 4 * at + 4 ≤ length tables.now }
+    ensures { bound_of result ≡ bound_in without mode (signed (word_at tables.now at)) }
+{
+    (mode != without).then_some(to_signed(word(tables, at)))
+}
+
+// The entry whose five words begin at a word of the table. Mode 2 has no lower bound, mode 1 no upper bound.
 pub fn read_entry(tables: &[u8], at: usize) -> Entry
     requires { 4 * at + 20 ≤ length tables.now }
     ensures { EntryAt (word_at tables.now) at result }
 {
+    let mode = word(tables, at + 2);
     Entry {
         first: index(tables, at),
         count: index(tables, at + 1),
-        mode: word(tables, at + 2),
-        lower: to_signed(word(tables, at + 3)),
-        upper: to_signed(word(tables, at + 4)),
+        lower: read_bound(tables, at + 3, mode, 2),
+        upper: read_bound(tables, at + 4, mode, 1),
     }
 }

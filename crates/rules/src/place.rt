@@ -5,21 +5,25 @@ ghost use Rattle.std.specs.Option.{IfSome};
 ghost use Rattle.rules.specs.Terms.{bits_in, TermReadable};
 ghost use Rattle.rules.specs.Places.{Found, standing_in, standing_at};
 
+use crate::entry::Entry;
 use crate::term::read_literal;
 use words::word;
 
-// The terms are taken from the last to the first, all of them: most rules are short, and where the search ends is hard to foretell.
-pub fn find(terms: &[u8], first: usize, count: usize, x: u32) -> Option<usize>
-    requires { 8 * (first + count) ≤ length terms.now }
-    ensures { Found (word_at terms.now) first count x result }
-{
-    let mut place = None;
-    for k in (0..count).rev() {
-        if word(terms, 2 * (first + k)) == x {
-            place = Some(first + k);
+impl Entry {
+    // The place among all terms of that which names x. The entry's terms are taken from the last to the first, all of them: most rules are short, and where
+    // the search ends is hard to foretell. They are told by their places, and not as a sub-slice, since the place that is found is one of the whole table.
+    pub fn find(self, terms: &[u8], x: u32) -> Option<usize>
+        requires { 8 * (self.first + self.count) ≤ length terms.now }
+        ensures { Found (word_at terms.now) self.first self.count x result }
+    {
+        let mut place = None;
+        for k in (0..self.count).rev() {
+            if word(terms, 2 * (self.first + k)) == x {
+                place = Some(self.first + k);
+            }
         }
+        place
     }
-    place
 }
 
 // How a variable stands in a rule: not at all, or with this weight, its literal true or false. Three ways are the paper's three cases, and an Option of two

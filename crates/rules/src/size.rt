@@ -1,43 +1,35 @@
 // The sizes A and B that the two bounds of a rule ask for, worked out without a sign.
 ghost use Rattle.std.specs.Prelude.{◌≡◌};
 ghost use Rattle.counting.specs.Bound.{bound_of};
-ghost use Rattle.format.specs.File.{bound_of as bound_in};
 ghost use Rattle.rules.specs.Rules.{reach as reachOf, lower_size, upper_size};
 
-use crate::term::is_negative;
 use words::magnitude;
 
-// base + 1 + m or base + 1 − m, the latter no less than 0.
+// base + 1 + m or base + 1 − m, the latter no less than 0. The sign goes beside the size: the opposite of a bound need not fit 32 bits.
 fn reach(base: u32, up: bool, m: u32) -> u64
     ensures { result ≡ reachOf base up m }
 {
     let next = base as u64 + 1;
     let by = m as u64;
     if up {
-        return next + by;
+        next + by
+    } else {
+        next.saturating_sub(by)
     }
-    if next < by {
-        return 0;
-    }
-    next - by
 }
 
-// A = K − l + 1 with the raised l: the positive weights and 1 less l. Mode 2 has no lower bound.
-pub fn lower_size(mode: u32, lower: i32, positive: u32) -> Option<u64>
-    ensures { bound_of result ≡ lower_size positive (bound_in 2 mode lower) }
+// A = K − l + 1 with the raised l: the positive weights and 1 less l.
+pub fn lower_size(lower: Option<i32>, positive: u32) -> Option<u64>
+    ensures { bound_of result ≡ lower_size positive (bound_of lower) }
 {
-    if mode == 2 {
-        return None;
-    }
-    Some(reach(positive, is_negative(lower), magnitude(lower)))
+    let l = lower?;
+    Some(reach(positive, l.is_negative(), magnitude(l)))
 }
 
-// B = u + 1 with the raised u: what the bounds rise by and 1 and u. Mode 1 has no upper bound.
-pub fn upper_size(mode: u32, upper: i32, rise: u32) -> Option<u64>
-    ensures { bound_of result ≡ upper_size rise (bound_in 1 mode upper) }
+// B = u + 1 with the raised u: what the bounds rise by and 1 and u.
+pub fn upper_size(upper: Option<i32>, rise: u32) -> Option<u64>
+    ensures { bound_of result ≡ upper_size rise (bound_of upper) }
 {
-    if mode == 1 {
-        return None;
-    }
-    Some(reach(rise, !is_negative(upper), magnitude(upper)))
+    let u = upper?;
+    Some(reach(rise, !u.is_negative(), magnitude(u)))
 }

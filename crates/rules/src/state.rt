@@ -11,9 +11,9 @@ ghost use Rattle.rules.specs.Rules.{rule_at, RuleInside, RuleReadable};
 ghost use Rattle.rules.specs.State.{Balanced, StateOf, Made, Seen, holds_in, shares_from, Turned};
 
 use crate::entry::{Entry, read_entry};
-use crate::place::{Stands, find, stands_at};
+use crate::place::{Stands, stands_at};
 use crate::size::{lower_size, upper_size};
-use crate::sums::{Sums, scan};
+use crate::sums::Sums;
 use counting::shares::{Shares, literal_absent, literal_false, literal_true};
 
 // N, P, how the variable stands, and the sizes A and B.
@@ -43,8 +43,8 @@ impl State {
             n: s.k - s.p,
             p: s.p,
             stands: Stands::Out,
-            a: lower_size(e.mode, e.lower, s.k - s.rise),
-            b: upper_size(e.mode, e.upper, s.rise),
+            a: lower_size(e.lower, s.k - s.rise),
+            b: upper_size(e.upper, s.rise),
         }
     }
 
@@ -99,13 +99,15 @@ impl State {
     }
 }
 
+// What follows takes the two tables one by one: a plan's tables with their facts are a struct of the crates above, which read rules of tables that hold
+// a plan, and here a rule may stand at any word of any table.
+
 // Whether the rule whose entry begins at a word of the table names a variable. It reads no weight, so it is cheap to ask first.
 pub fn names(tables: &[u8], terms: &[u8], at: usize, x: u32) -> bool
     requires { RuleInside tables.now terms.now at }
     ensures { result ≡ named_in x (rule_at (word_at tables.now) (word_at terms.now) at).terms }
 {
-    let e = read_entry(tables, at);
-    find(terms, e.first, e.count, x).is_some()
+    read_entry(tables, at).find(terms, x).is_some()
 }
 
 // The state of that rule, seen from no variable.
@@ -114,7 +116,7 @@ pub fn read_state(tables: &[u8], terms: &[u8], assignment: &[u8], at: usize) -> 
     ensures { StateOf (bits_in assignment.now) 0 (rule_at (word_at tables.now) (word_at terms.now) at) result }
 {
     let e = read_entry(tables, at);
-    State::of(e, scan(terms, assignment, e.first, e.count))
+    State::of(e, e.scan(terms, assignment))
 }
 
 // The same, seen from x.
@@ -123,7 +125,6 @@ pub fn read_state_from(tables: &[u8], terms: &[u8], assignment: &[u8], at: usize
     ensures { StateOf (bits_in assignment.now) x (rule_at (word_at tables.now) (word_at terms.now) at) result }
 {
     let s = read_state(tables, terms, assignment, at);
-    let e = read_entry(tables, at);
-    let place = find(terms, e.first, e.count, x);
+    let place = read_entry(tables, at).find(terms, x);
     s.seen(stands_at(terms, assignment, place))
 }

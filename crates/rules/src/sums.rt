@@ -6,6 +6,7 @@ ghost use Rattle.format.specs.Tables.{term_of};
 ghost use Rattle.rules.specs.Terms.{bits_in, terms_at, TermReadable, Readable};
 ghost use Rattle.rules.specs.Sums.{Summed, Room, Added, AddedTerm};
 
+use crate::entry::Entry;
 use crate::term::{Literal, read_literal};
 
 // K, what the bounds rise by, and P.
@@ -16,6 +17,7 @@ pub struct Sums {
     pub p: u32,
 }
 
+// A weight goes into a sum where its literal is of the kind that is summed.
 fn plus_if(test: bool, w: u32, n: u32) -> u32
     requires { w + n < 4294967296 }
     ensures { result ≡ cond test w 0 + n }
@@ -51,14 +53,16 @@ fn add_term(s: Sums, terms: &[u8], assignment: &[u8], i: usize) -> Sums
     s.with(read_literal(terms, assignment, i))
 }
 
-// The terms are taken from the last to the first: what is summed is then that of a rest of the list.
-pub fn scan(terms: &[u8], assignment: &[u8], first: usize, count: usize) -> Sums
-    requires { Readable terms.now assignment.now first count }
-    ensures { Summed (bits_in assignment.now) (terms_at (word_at terms.now) first count) result }
-{
-    let mut sums = Sums::NONE;
-    for k in (0..count).rev() {
-        sums = add_term(sums, terms, assignment, first + k);
+impl Entry {
+    // The sums of its terms. They are taken from the last to the first: what is summed is then that of a rest of the list.
+    pub fn scan(self, terms: &[u8], assignment: &[u8]) -> Sums
+        requires { Readable terms.now assignment.now self.first self.count }
+        ensures { Summed (bits_in assignment.now) (terms_at (word_at terms.now) self.first self.count) result }
+    {
+        let mut sums = Sums::NONE;
+        for k in (0..self.count).rev() {
+            sums = add_term(sums, terms, assignment, self.first + k);
+        }
+        sums
     }
-    sums
 }

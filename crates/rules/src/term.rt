@@ -1,7 +1,6 @@
 // One term of the term table, and its literal under an assignment.
-ghost use Rattle.std.specs.Prelude.{◌≡◌, cond, not, ◌+◌, ◌*◌, ◌≤◌, ◌<◌, length};
+ghost use Rattle.std.specs.Prelude.{◌≡◌, ◌+◌, ◌*◌, ◌≤◌, ◌<◌, length};
 ghost use Rattle.plpb.specs.Plan.{value};
-ghost use Rattle.plpb.specs.Normal.{is_negative};
 ghost use Rattle.words.specs.Words.{word_at};
 ghost use Rattle.format.specs.Tables.{term_of};
 ghost use Rattle.rules.specs.Terms.{bits_in, term_in, LiteralOf, TermReadable};
@@ -24,12 +23,6 @@ pub fn read_term(terms: &[u8], i: usize) -> Term
     }
 }
 
-pub fn is_negative(weight: i32) -> bool
-    ensures { result ≡ is_negative weight }
-{
-    weight < 0
-}
-
 // The place of a variable's byte: numbers count from 1.
 fn byte_of(variable: u32) -> usize
     requires { 0 < variable }
@@ -46,13 +39,7 @@ pub fn value_of(assignment: &[u8], variable: u32) -> bool
     assignment[i] == 1
 }
 
-fn truth_of(negated: bool, value: bool) -> bool
-    ensures { result ≡ cond negated (not value) value }
-{
-    if negated { !value } else { value }
-}
-
-// A term's literal: its positive weight, whether it is negated, and whether it is true.
+// A term's literal: its positive weight, whether it is negated, and whether it is true. They are two facts, for each of which weights are summed.
 #[derive(Clone, Copy)]
 pub struct Literal {
     pub size: u32,
@@ -65,11 +52,11 @@ pub fn read_literal(terms: &[u8], assignment: &[u8], i: usize) -> Literal
     ensures { LiteralOf (bits_in assignment.now) (term_of (word_at terms.now) i) result }
 {
     let t = read_term(terms, i);
-    let negated = is_negative(t.weight);
+    let negated = t.weight.is_negative();
     let value = value_of(assignment, t.variable);
     Literal {
         size: magnitude(t.weight),
         negated,
-        truth: truth_of(negated, value),
+        truth: value != negated,
     }
 }

@@ -7,14 +7,14 @@ ghost use Rattle.format.specs.Limits.{max_variables};
 ghost use Rattle.format.specs.Layout.{mark_size, stamp_at};
 ghost use Rattle.stamps.specs.Stamps.{stamp_in, unstamped};
 
-use words::{clear, widen, word, write_word};
+use words::{clear, word, write_word};
 
 // The number of a variable's last flip.
 pub fn last_flip(marks: &[u8], x: u32) -> u32
     requires { (x ≤ max_variables) × (mark_size ≤ length marks.now) }
     ensures { result ≡ stamp_in marks.now x }
 {
-    word(marks, format::STAMPS + widen(x))
+    word(marks, format::STAMPS + x as usize)
 }
 
 // A variable is flipped: the flip's number is its last one.
@@ -22,7 +22,7 @@ pub fn stamp(marks: &mut [u8], x: u32, number: u32)
     requires { (x ≤ max_variables) × (mark_size ≤ length marks.old) }
     ensures { Wrote (stamp_at x) number marks.old marks.new }
 {
-    write_word(marks, format::STAMPS + widen(x), number);
+    write_word(marks, format::STAMPS + x as usize, number);
 }
 
 // A try begins: none is flipped.

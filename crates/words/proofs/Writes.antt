@@ -9,8 +9,8 @@ use mathlib.Core.Path.{◌≡◌, refl, sym, ap, ap₂, ◌∙◌}
 use mathlib.Core.Logic.{◌≢◌}
 use mathlib.Core.List.{List, [], ◌∷◌, ◌++◌, append_assoc, append-nil}
 use lib.ListN.{length, take, drop, get_or, set, replicate, length-append, length-drop, length-replicate, take-append-drop, get_or-replicate, get_or-append}
-use lib.Seq.{take-length, set_at, append_snoc, take-suc, drop-cons, sets, sets-eq, drop_at, drop-drop, length-take-le, drop-append_seam, drop-append-add, take-append_seam, take-append-le, take-take, drop-length, take_all}
-use mir.Syntax.{w16, w32}
+use lib.Seq.{set_at, append_snoc, take-suc, drop-cons, sets, sets-eq, drop_at, drop-drop, length-take-le, drop-append_seam, drop-append-add, take-append_seam, take-append-le, take-take, drop-length, take_all}
+use mir.Syntax.{w16, w32, w64}
 use Rattle.std.specs.Int.{from_le_bytes, to_le_bytes}
 use borrow.Rule.Slice.PartMut.{mid_of, post_of, put_mid, Post-is, mid_len, same_len_mid}
 use Rattle.words.specs.Words.{num_at, bytes_of, word_bytes, word_at}
@@ -27,7 +27,11 @@ pub num_four : (s : List ℕ) (at : ℕ)
 unfolding num_at
 num_four s at = rw (add-one, add-two, add-three) (omega arith)
 
--- The four bytes of a number.
+-- The two low bytes of a number, and the four of one.
+pub low_bytes : (v : ℕ) → take 2 (to_le_bytes w64 v) ≡ bytes_of 2 v
+unfolding bytes_of
+low_bytes v = refl
+
 pub four_bytes : (v : ℕ) → to_le_bytes w32 v ≡ bytes_of 4 v
 unfolding bytes_of
 four_bytes v =
@@ -119,11 +123,10 @@ unfolding front put
 lent_part at end t ys h e = ap (λ (n : ℕ). take at t ++ (ys ++ drop n (drop at t))) (sym e)
 
 -- A part that a number's bytes are copied over.
-pub lent_number : (at v : ℕ) (t : List ℕ) {ys : List ℕ} → ys ≡ to_le_bytes w32 v → put_mid at (at + 4 - at) t ys ≡ put at (bytes_of 4 v) t
-lent_number at v t {ys} e =
-    let same : ys ≡ bytes_of 4 v = e ∙ four_bytes v in
-    let long : length ys ≡ at + 4 - at = ap length same ∙ length_bytes_of 4 v ∙ omega arith in
-    lent_part at (at + 4) t ys (omega arith) long ∙ ap (λ (b : List ℕ). put at b t) same
+pub lent_number : (k at v : ℕ) (t : List ℕ) {ys : List ℕ} → ys ≡ bytes_of k v → put_mid at (at + k - at) t ys ≡ put at (bytes_of k v) t
+lent_number k at v t {ys} e =
+    let long : length ys ≡ at + k - at = ap length e ∙ length_bytes_of k v ∙ omega arith in
+    lent_part at (at + k) t ys (omega arith) long ∙ ap (λ (b : List ℕ). put at b t) e
 
 pub word_bytes_append : (us vs : List ℕ) → word_bytes (us ++ vs) ≡ word_bytes us ++ word_bytes vs
 unfolding word_bytes
@@ -255,9 +258,9 @@ copied_more s t i h k =
     rw (add-one, drop-cons t i 0 k, take-suc s i 0 h, append_snoc)
     (set_at (take i s) (get_or t i 0) (drop (suc i) t) (get_or s i 0) i (length-take-le i s (omega arith)))
 
-pub copied_whole : (s o : List ℕ) {t : List ℕ} → t ≡ take (length s) s ++ drop (length s) o → t ≡ front s o
-unfolding front
-copied_whole s o e = e ∙ ap (λ (l : List ℕ). l ++ drop (length s) o) (take-length s)
+-- The first n bytes of a slice, copied over the first of another.
+pub copied_first : (n : ℕ) (s o : List ℕ) {t : List ℕ} → n ≤ length s → t ≡ take n s ++ drop (length (take n s)) o → t ≡ take n s ++ drop n o
+copied_first n s o h e = e ∙ ap (λ k. take n s ++ drop k o) (length-take-le n s h)
 
 -- What stands past a write is as it was.
 pub drop_put : (n at : ℕ) (bs s : List ℕ) → at + length bs ≤ n → n ≤ length s → drop n (put at bs s) ≡ drop n s

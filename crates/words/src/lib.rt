@@ -1,7 +1,7 @@
 // Numbers in byte slices, little-endian: "All numbers are little-endian; coefficients and bounds are signed 32-bit, the rest unsigned."
 #![tactic(auto)]
 
-ghost use Rattle.std.specs.Prelude.{◌≡◌, [], ◌∷◌, ◌++◌, ◌+◌, ◌*◌, ◌/◌, ◌%◌, ◌≤◌, ◌<◌, length, take, drop, replicate, nat_abs};
+ghost use Rattle.std.specs.Prelude.{◌≡◌, [], ◌∷◌, ◌++◌, ◌+◌, ◌*◌, ◌/◌, ◌%◌, ◌≤◌, ◌<◌, length, drop, replicate, nat_abs};
 ghost use Rattle.words.specs.Words.{num_at, bytes_of, word_at, signed, unsigned};
 ghost use Rattle.words.specs.Writes.{put, put_words};
 ghost use Rattle.words.specs.Tests.{Decides, ZeroWords};
@@ -29,13 +29,7 @@ pub fn byte_word(b: u8) -> u32
     u32::from(b)
 }
 
-// A number as a length, a count or an index, and back.
-pub fn widen(n: u32) -> usize
-    ensures { result ≡ n }
-{
-    n as usize
-}
-
+// A length, a count or a place as a word of a table. It is `as` and no more, but proofs cite its clause: what a word holds.
 pub fn narrow(n: usize) -> u32
     requires { n < 4_294_967_296 }
     ensures { result ≡ n }
@@ -47,7 +41,7 @@ pub fn read_size(s: &[u8], at: usize) -> usize
     requires { at + 2 ≤ length s.now }
     ensures { result ≡ num_at 2 s.now at }
 {
-    widen(read_u16(s, at))
+    read_u16(s, at) as usize
 }
 
 // The word at an index of a table.
@@ -63,10 +57,11 @@ pub fn index(s: &[u8], i: usize) -> usize
     requires { 4 * i + 4 ≤ length s.now }
     ensures { result ≡ word_at s.now i }
 {
-    widen(word(s, i))
+    word(s, i) as usize
 }
 
-// The signed number that a word stands for.
+// The signed number that a word stands for. This method of the library and the two after it have names of the tables' own, for their clauses say what
+// they give in the words of the plan file, where the library's say it in those of the machine.
 pub fn to_signed(n: u32) -> i32
     ensures { result ≡ signed n }
 {
@@ -119,8 +114,8 @@ pub fn write_two(s: &mut [u8], i: usize, a: u32, b: u32)
     write_word(s, i + 1, b);
 }
 
-// Whether the words from an index on and before another are 0. It does not stop at the first that is not: without a way out the loop is compiled to
-// 16 bytes at a time.
+// Whether the words from an index on and before another are 0: the tables' sections begin and end at words, where a sub-slice would count bytes. It does
+// not stop at the first that is not: without a way out the loop is compiled to 16 bytes at a time.
 pub fn zeros(s: &[u8], from: usize, end: usize) -> bool
     requires { 4 * end ≤ length s.now }
     ensures { Decides result (ZeroWords s.now from end) }
@@ -132,12 +127,12 @@ pub fn zeros(s: &[u8], from: usize, end: usize) -> bool
     all
 }
 
-// Copies the first n bytes of a slice over those of another.
-pub fn copy(from: &[u8], to: &mut [u8], n: usize)
-    requires { (n ≤ length from.now) × (n ≤ length to.old) }
-    ensures { to.new ≡ take n from.now ++ drop n to.old }
+// Copies a slice over the first bytes of another.
+pub fn copy(from: &[u8], to: &mut [u8])
+    requires { length from.now ≤ length to.old }
+    ensures { to.new ≡ from.now ++ drop (length from.now) to.old }
 {
-    to[..n].copy_from_slice(&from[..n]);
+    to[..from.len()].copy_from_slice(from);
 }
 
 // Fills a slice with 0.
@@ -145,4 +140,12 @@ pub fn clear(s: &mut [u8])
     ensures { s.new ≡ replicate (length s.old) 0 }
 {
     s.fill(0);
+}
+
+// Writes the 2 low bytes of a number at a place.
+pub fn write_u16(s: &mut [u8], at: usize, v: usize)
+    requires { at + 2 ≤ length s.old }
+    ensures { s.new ≡ put at (bytes_of 2 v) s.old }
+{
+    s[at..at + 2].copy_from_slice(&v.to_le_bytes()[..2]);
 }

@@ -1,7 +1,6 @@
 -- The goals that the search leaves.
-use native.Mathlib.Nat.{mod-le}
 use native.Mathlib.Omega.{arith}
-use mathlib.Core.Path.{◌≡◌, refl, sym, ap, ◌∙◌}
+use mathlib.Core.Path.{refl, sym, ap, ◌∙◌}
 use Rattle.plpb.specs.Numbers.{take_pick, too_few}
 use Rattle.numbers.specs.Taking.{taken_of}
 use Rattle.numbers.proofs.Taking.{pick_keeps, pick_discards, pick_ends}

@@ -3,7 +3,7 @@
 use Prim.Native.Nat.{ℕ}
 use mathlib.Core.List.{List, ◌++◌}
 use mathlib.Core.Path.{◌≡◌}
-use lib.ListN.{take, drop}
+use lib.ListN.{length, take, drop}
 use Rattle.plpb.specs.Numbers.{start_words, start_of}
 use Rattle.format.specs.Assignment.{bit_bytes}
 use Rattle.numbers.specs.Numbers.{numbers_of}
@@ -13,4 +13,4 @@ abbrev pub bytes : List ℕ → ℕ → ℕ → List ℕ
 bytes numbers used n = bit_bytes (start_of n (take (start_words n) (drop used (numbers_of numbers))))
 
 abbrev pub invariant-loop-i : goal.invariant-loop-i
-invariant-loop-i l = l.byte-items ≡ take l.i (bytes l.numbers l.used l.n) ++ drop l.i (take l.n l.fn.assignment)
+invariant-loop-i l = l.assignment ≡ take l.i (bytes l.numbers l.used (length l.fn.assignment)) ++ drop l.i l.fn.assignment

@@ -1,14 +1,10 @@
 -- `stamp` meets its contract: the word of a variable is written.
 -- Assumes nothing.
 use native.Mathlib.Omega.{arith}
-use mathlib.Core.Path.{ap, ◌∙◌}
-use mathlib.Core.List.{[], ◌∷◌}
-use Prim.Native.Nat.{◌+◌}
-use Rattle.words.specs.Writes.{put_words}
 use Rattle.words.proofs.Writes.{word_wrote}
 use Rattle.stamps.proofs.stamp.Goals as goal
 
 pub returns : goal.returns
 returns c =
     word_wrote _ _ c.args.marks.now _ (omega (arith, c.requires)) (omega arith)
-    (c.write_word.ensures ∙ ap (λ i. put_words (127 + i) (c.args.number ∷ []) c.args.marks.now) c.widen.ensures)
+    c.write_word.ensures

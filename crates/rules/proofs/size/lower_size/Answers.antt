@@ -1,21 +1,26 @@
--- `lower_size` meets its contract: absent in the mode without this bound, else worked out from the bound's sign and size.
+-- `lower_size` meets its contract: absent without the bound, else worked out from the bound's sign and size.
 -- Assumes nothing.
+use Rattle.std.proofs.Common.{rules}
 use mathlib.Core.Path.{◌∙◌, ap, ap₂}
 use lib.IntN.{nat_abs}
 use mir.Facts.{to_z-of_z}
-use Rattle.plpb.specs.Normal.{is_negative}
+use mir.Syntax.{w32}
+use mir.Val.{SFits}
+use Rattle.std.specs.Int.{is_negative}
+use Rattle.counting.specs.Bound.{bound_of}
 use Rattle.rules.specs.Rules.{reach}
-use Rattle.rules.proofs.Sizes.{lower_absent, lower_present}
+use Rattle.rules.proofs.Sizes.{lower_absent, lower_present, signs}
 use Rattle.rules.proofs.size.lower_size.Goals as goal
 
-pub returns-then-mode-eq2 : goal.returns-then-mode-eq2
-returns-then-mode-eq2 c = lower_absent _ _ _ c.if-mode-eq2.true
+pub returns-in_err-l : goal.returns-in_err-l
+returns-in_err-l c = ap bound_of c.from_residual.ensures ∙ lower_absent _ c.in_err-l.was
 
 pub returns : goal.returns
 returns c =
-    let read = to_z-of_z c.ranges.lower in
-    lower_present _ _ _ c.if-mode-eq2.false
+    let fits : SFits w32 c.in_ok-l.l = search rules in
+    let read = to_z-of_z fits in
+    lower_present _ _ c.in_ok-l.was
     (c.reach.ensures
     ∙ ap₂ (λ t m. reach c.args.positive t m)
-    (c.is_negative.ensures ∙ ap is_negative read)
+    (c.is_negative.ensures ∙ ap is_negative read ∙ signs _)
     (c.magnitude.ensures ∙ ap nat_abs read))

@@ -9,9 +9,9 @@ use Rattle.rules.proofs.state.read_state_from.Goals as goal
 pub stands_at-requires : goal.stands_at-requires
 stands_at-requires c =
     found_readable c.find-place.result c.find-place.ensures.among
-    (entry_readable c.read_entry-e.ensures c.requires)
+    (entry_readable c.read_entry.ensures c.requires)
 
 pub returns : goal.returns
 returns c =
-    let stands = c.stands_at.ensures ∙ sym (c.find-place.ensures.stands _) ∙ ap (standing _ _) (entry_terms _ c.read_entry-e.ensures) in
+    let stands = c.stands_at.ensures ∙ sym (c.find-place.ensures.stands _) ∙ ap (standing _ _) (entry_terms _ c.read_entry.ensures) in
     state_seen c.read_state-s.ensures stands c.seen.ensures

@@ -3,7 +3,7 @@ use Prim.Native.Nat.{◌-◌}
 use native.Mathlib.Omega.{arith}
 use Rattle.rules.proofs.Terms.{term_readable}
 use Rattle.rules.proofs.Summing.{summed_start, summed_step, summed_end, next_fits}
-use Rattle.rules.proofs.sums.scan.Goals as goal
+use Rattle.rules.proofs.entry.Entry.scan.Goals as goal
 
 pub add_term-sums-requires : goal.add_term-sums-requires
 add_term-sums-requires c =

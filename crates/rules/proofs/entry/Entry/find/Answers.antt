@@ -1,6 +1,6 @@
 -- The goals that the search leaves.
 use Rattle.rules.proofs.Finding.{found_start, found_here, found_other, found_end}
-use Rattle.rules.proofs.place.find.Goals as goal
+use Rattle.rules.proofs.entry.Entry.find.Goals as goal
 
 pub loop-k-init : goal.loop-k-init
 loop-k-init c = found_start _ _ _ _
