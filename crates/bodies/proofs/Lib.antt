@@ -3,3 +3,4 @@ pub mod Found
 pub mod Tags
 pub mod TermLaws
 pub mod LockLaws
+pub mod Parts

@@ -31,37 +31,37 @@ unfolding tag_at
 byte_at s at = tag_byte s at
 
 -- Entry i of a field's.
-module _ (s : List ℕ) (n v from count i : ℕ) where
-  pub entries_end : count ≤ i → entries_fault n v s (from + 3 * i) (count - i) ≡ 0
+module _ (s : List ℕ) (n v count i : ℕ) where
+  pub entries_end : count ≤ i → entries_fault n v s (3 * i) (count - i) ≡ 0
   unfolding entries_fault
-  entries_end h = ap (entries_fault n v s (from + 3 * i)) (none h)
+  entries_end h = ap (entries_fault n v s (3 * i)) (none h)
     where
       none : count ≤ i → count - i ≡ 0
       none h = omega arith
 
-  module _ (x f : ℕ) (some : i < count) (number : x ≡ num_at 2 s (from + 3 * i)) (fault : f ≡ entry_fault n v x (get_or s (from + 3 * i + 2) 0)) where
+  module _ (x f : ℕ) (some : i < count) (number : x ≡ num_at 2 s (3 * i)) (fault : f ≡ entry_fault n v x (get_or s (3 * i + 2) 0)) where
     one_more : count - i ≡ suc (count - (i + 1))
     one_more = omega (arith, some)
 
-    next : from + 3 * i + 3 ≡ from + 3 * (i + 1)
+    next : 3 * i + 3 ≡ 3 * (i + 1)
     next = omega arith
 
-    here : f ≡ entry_fault n v (num_at 2 s (from + 3 * i)) (num_at 1 s (from + 3 * i + 2))
+    here : f ≡ entry_fault n v (num_at 2 s (3 * i)) (num_at 1 s (3 * i + 2))
     here =
         fault
-        ∙ ap (λ (y : ℕ). entry_fault n v y (get_or s (from + 3 * i + 2) 0)) number
-        ∙ ap (entry_fault n v (num_at 2 s (from + 3 * i))) (byte_at s (from + 3 * i + 2))
+        ∙ ap (λ (y : ℕ). entry_fault n v y (get_or s (3 * i + 2) 0)) number
+        ∙ ap (entry_fault n v (num_at 2 s (3 * i))) (byte_at s (3 * i + 2))
 
-    pub entries_stop : (f ≡ 0 → ⊥) → entries_fault n v s (from + 3 * i) (count - i) ≡ f
+    pub entries_stop : (f ≡ 0 → ⊥) → entries_fault n v s (3 * i) (count - i) ≡ f
     unfolding entries_fault entry_fault
-    entries_stop z = ap (entries_fault n v s (from + 3 * i)) one_more ∙ stopped _ _ _ (λ e. z (here ∙ e)) ∙ sym here
+    entries_stop z = ap (entries_fault n v s (3 * i)) one_more ∙ stopped _ _ _ (λ e. z (here ∙ e)) ∙ sym here
 
   pub entries_go :
-      (x : ℕ) → i < count → x ≡ num_at 2 s (from + 3 * i) → 0 ≡ entry_fault n v x (get_or s (from + 3 * i + 2) 0)
-      → entries_fault n v s (from + 3 * i) (count - i) ≡ entries_fault n x s (from + 3 * (i + 1)) (count - (i + 1))
+      (x : ℕ) → i < count → x ≡ num_at 2 s (3 * i) → 0 ≡ entry_fault n v x (get_or s (3 * i + 2) 0)
+      → entries_fault n v s (3 * i) (count - i) ≡ entries_fault n x s (3 * (i + 1)) (count - (i + 1))
   unfolding entries_fault entry_fault
   entries_go x some number fault =
-      ap (entries_fault n v s (from + 3 * i)) (one_more x 0 some number fault)
+      ap (entries_fault n v s (3 * i)) (one_more x 0 some number fault)
       ∙ passed _ _ _ (sym (here x 0 some number fault))
       ∙ ap₂ (λ (y a : ℕ). entries_fault n y s a (count - (i + 1))) (sym number) (next x 0 some number fault)
 

@@ -5,9 +5,11 @@ use native.Mathlib.Omega.{arith}
 use mathlib.Core.Path.{◌≡◌, refl, sym, ap, ap₂, ◌∙◌}
 use mathlib.Core.Bool.{Bool, true, false}
 use mathlib.Core.List.{List}
-use lib.Dec.{ltb, eqb}
+use lib.Dec.{leb, ltb, eqb}
 use lib.IntN.{ℤ, pos, nat_abs}
-use borrow.Author.Tests.{le-leb}
+use native.Mathlib.Decide.{dec_lt}
+use borrow.Author.Tests.{le-leb, lt-leb}
+use Rattle.format.proofs.Bools.{and_stop, and_false}
 use Rattle.plpb.specs.Lists.{◌and◌, ◌or◌, all}
 use Rattle.plpb.specs.Plan.{Term, rising, rising_above}
 use Rattle.words.specs.Words.{num_at}
@@ -29,6 +31,28 @@ pub lacks_upper : (m l u : ℕ) → m ≡ 1 → l ≤ 1_000_000_000 → u ≤ 1_
 unfolding bounds_lawful ◌and◌ ◌or◌
 lacks_upper m l u e a b = rw (e, le-leb l 1_000_000_000 a, le-leb u 1_000_000_000 b)
 
+module _ (m l u : ℕ) where
+  pub wide_lower : 1_000_000_000 < l → false ≡ bounds_lawful m (pos l) (pos u)
+  unfolding bounds_lawful
+  wide_lower h = sym (and_stop _ _ (and_stop _ _ (and_stop _ _ (and_false _ _ (lt-leb l 1_000_000_000 h)))))
+
+  pub wide_upper : 1_000_000_000 < u → false ≡ bounds_lawful m (pos l) (pos u)
+  unfolding bounds_lawful
+  wide_upper h = sym (and_stop _ _ (and_stop _ _ (and_false _ _ (lt-leb u 1_000_000_000 h))))
+
+  -- Mode 3 has both bounds, and there is no other.
+  pub lacks_none : m ≡ 3 → l ≤ 1_000_000_000 → u ≤ 1_000_000_000 → true ≡ bounds_lawful m (pos l) (pos u)
+  unfolding bounds_lawful ◌and◌ ◌or◌
+  lacks_none e a b = rw (e, le-leb l 1_000_000_000 a, le-leb u 1_000_000_000 b)
+
+  pub no_mode : (m ≡ 1 → ⊥) → (m ≡ 2 → ⊥) → (m ≡ 3 → ⊥) → false ≡ bounds_lawful m (pos l) (pos u)
+  unfolding bounds_lawful
+  no_mode a b c = sym (and_stop _ _ (and_stop _ _ (and_stop _ _ (and_stop _ _ (by (dec_lt 3 m))))))
+    where
+      by : Dec (3 < m) → (leb 1 m and leb m 3) ≡ false
+      by (yes h) = and_false _ _ (lt-leb m 3 h)
+      by (no n) = and_stop _ _ (lt-leb 1 m (omega (arith, a, b, c, n)))
+
 -- Only the sizes of bounds and weights are judged.
 pub bounds_size : (mode : ℕ) (l u : ℤ) → bounds_lawful mode (pos (nat_abs l)) (pos (nat_abs u)) ≡ bounds_lawful mode l u
 unfolding bounds_lawful
@@ -42,19 +66,19 @@ pub lawful_start : (n : ℕ) (ts : List Term) → lawful_above n 0 ts ≡ terms_
 unfolding lawful_above terms_lawful rising
 lawful_start n ts = refl
 
-pub lawful_first : (s : List ℕ) (n from count : ℕ) → lawful_above n 0 (terms_at s (from + 6 * 0) (count - 0)) ≡ terms_lawful n (terms_at s from count)
-lawful_first s n from count = lawful_start n (terms_at s (from + 6 * 0) (count - 0)) ∙ ap₂ (λ (a k : ℕ). terms_lawful n (terms_at s a k)) first all_left
+pub lawful_first : (s : List ℕ) (n count : ℕ) → lawful_above n 0 (terms_at s (6 * 0) (count - 0)) ≡ terms_lawful n (terms_at s 0 count)
+lawful_first s n count = lawful_start n (terms_at s (6 * 0) (count - 0)) ∙ ap₂ (λ (a k : ℕ). terms_lawful n (terms_at s a k)) first all_left
   where
-    first : from + 6 * 0 ≡ from
-    first = omega arith
+    first : 6 * 0 ≡ 0
+    first = refl
 
     all_left : count - 0 ≡ count
     all_left = omega arith
 
 -- No term is left.
-pub lawful_end : (s : List ℕ) (n v from count i : ℕ) → count ≤ i → lawful_above n v (terms_at s (from + 6 * i) (count - i)) ≡ true
+pub lawful_end : (s : List ℕ) (n v count i : ℕ) → count ≤ i → lawful_above n v (terms_at s (6 * i) (count - i)) ≡ true
 unfolding lawful_above terms_at rising_above all ◌and◌
-lawful_end s n v from count i h = ap (λ (m : ℕ). lawful_above n v (terms_at s (from + 6 * i) m)) none
+lawful_end s n v count i h = ap (λ (m : ℕ). lawful_above n v (terms_at s (6 * i) m)) none
   where
     none : count - i ≡ 0
     none = omega arith
@@ -72,23 +96,23 @@ unfolding lawful_above terms_at rising_above all term_lawful
 lawful_more s n v at k = cross (ltb v (term_at s at).variable) _ _ _
 
 -- Term i of a field's.
-module _ (s : List ℕ) (n v from count i : ℕ) (some : i < count) where
+module _ (s : List ℕ) (n v count i : ℕ) (some : i < count) where
   less : count - i ≡ suc (count - (i + 1))
   less = omega (arith, some)
 
-  next : from + 6 * i + 6 ≡ from + 6 * (i + 1)
+  next : 6 * i + 6 ≡ 6 * (i + 1)
   next = omega arith
 
   pub lawful_go :
-      (x : ℕ) → term_lawful n v (term_at s (from + 6 * i)) ≡ true → x ≡ num_at 2 s (from + 6 * i)
-      → lawful_above n v (terms_at s (from + 6 * i) (count - i)) ≡ lawful_above n x (terms_at s (from + 6 * (i + 1)) (count - (i + 1)))
+      (x : ℕ) → term_lawful n v (term_at s (6 * i)) ≡ true → x ≡ num_at 2 s (6 * i)
+      → lawful_above n v (terms_at s (6 * i) (count - i)) ≡ lawful_above n x (terms_at s (6 * (i + 1)) (count - (i + 1)))
   unfolding ◌and◌ term_at
   lawful_go x e q =
-      ap (λ (m : ℕ). lawful_above n v (terms_at s (from + 6 * i) m)) less
-      ∙ lawful_more s n v (from + 6 * i) (count - (i + 1))
+      ap (λ (m : ℕ). lawful_above n v (terms_at s (6 * i) m)) less
+      ∙ lawful_more s n v (6 * i) (count - (i + 1))
       ∙ rw e (ap₂ (λ (m a : ℕ). lawful_above n m (terms_at s a (count - (i + 1)))) (sym q) next)
 
-  pub lawful_stop : term_lawful n v (term_at s (from + 6 * i)) ≡ false → lawful_above n v (terms_at s (from + 6 * i) (count - i)) ≡ false
+  pub lawful_stop : term_lawful n v (term_at s (6 * i)) ≡ false → lawful_above n v (terms_at s (6 * i) (count - i)) ≡ false
   unfolding ◌and◌
   lawful_stop e =
-      ap (λ (m : ℕ). lawful_above n v (terms_at s (from + 6 * i) m)) less ∙ lawful_more s n v (from + 6 * i) (count - (i + 1)) ∙ rw e
+      ap (λ (m : ℕ). lawful_above n v (terms_at s (6 * i) m)) less ∙ lawful_more s n v (6 * i) (count - (i + 1)) ∙ rw e

@@ -1,5 +1,5 @@
 // The test of a field of locks: "5 for a wrong number as in terms, 10 for another value (after 5 of that entry)".
-ghost use Rattle.std.specs.Prelude.{◌≡◌, ◌+◌, ◌*◌, ◌≤◌, leb, ltb, length};
+ghost use Rattle.std.specs.Prelude.{◌≡◌, ◌/◌, leb, ltb, length};
 ghost use Rattle.plpb.specs.Lists.{◌and◌};
 ghost use Rattle.format.specs.File.{entries_fault};
 ghost use Rattle.bodies.specs.Faults.{found};
@@ -28,15 +28,15 @@ fn entry_fault(variable: u32, value: u8, before: u32, variables: u32) -> Result<
     Ok(())
 }
 
-pub fn entries_fault(file: &[u8], from: usize, count: usize, variables: u32) -> Result<(), Fault>
-    requires { from + 3 * count ≤ length file.now }
-    ensures { found result ≡ entries_fault variables 0 file.now from count }
+// Entries one behind the other.
+pub fn entries_fault(entries: &[u8], variables: u32) -> Result<(), Fault>
+    ensures { found result ≡ entries_fault variables 0 entries.now 0 (length entries.now / 3) }
 {
     let mut before = 0;
-    for i in 0..count {
-        let at = from + 3 * i;
-        let variable = words::read_u16(file, at);
-        entry_fault(variable, file[at + 2], before, variables)?;
+    for i in 0..entries.len() / 3 {
+        let at = 3 * i;
+        let variable = words::read_u16(entries, at);
+        entry_fault(variable, entries[at + 2], before, variables)?;
         before = variable;
     }
     Ok(())

@@ -1,5 +1,5 @@
 // The tests of a rule's bounds and of a field's terms.
-ghost use Rattle.std.specs.Prelude.{◌≡◌, ◌+◌, ◌*◌, ◌≤◌, pos, length};
+ghost use Rattle.std.specs.Prelude.{◌≡◌, ◌+◌, ◌/◌, ◌≤◌, pos, length};
 ghost use Rattle.format.specs.Limits.{terms_lawful};
 ghost use Rattle.format.specs.File.{term_at, terms_at, bounds_lawful};
 ghost use Rattle.bodies.specs.Terms.{term_lawful};
@@ -8,25 +8,18 @@ ghost use Rattle.bodies.specs.Terms.{term_lawful};
 fn sizes_lawful(mode: u8, lower: u32, upper: u32) -> bool
     ensures { result ≡ bounds_lawful mode (pos lower) (pos upper) }
 {
-    if mode < 1 {
-        return false;
-    }
-    if 3 < mode {
-        return false;
-    }
     if 1000000000 < lower {
         return false;
     }
     if 1000000000 < upper {
         return false;
     }
-    if mode == 2 {
-        return lower == 0;
+    match mode {
+        1 => upper == 0,
+        2 => lower == 0,
+        3 => true,
+        _ => false,
     }
-    if mode == 1 {
-        return upper == 0;
-    }
-    true
 }
 
 pub fn bounds_lawful(mode: u8, lower: i32, upper: i32) -> bool
@@ -60,17 +53,17 @@ fn term_lawful(file: &[u8], at: usize, before: u32, variables: u32) -> bool
     term_fits(variable, size, before, variables)
 }
 
-pub fn terms_lawful(file: &[u8], from: usize, count: usize, variables: u32) -> bool
-    requires { from + 6 * count ≤ length file.now }
-    ensures { result ≡ terms_lawful variables (terms_at file.now from count) }
+// Terms one behind the other.
+pub fn terms_lawful(terms: &[u8], variables: u32) -> bool
+    ensures { result ≡ terms_lawful variables (terms_at terms.now 0 (length terms.now / 6)) }
 {
     let mut before = 0;
-    for i in 0..count {
-        let at = from + 6 * i;
-        if !term_lawful(file, at, before, variables) {
+    for i in 0..terms.len() / 6 {
+        let at = 6 * i;
+        if !term_lawful(terms, at, before, variables) {
             return false;
         }
-        before = words::read_u16(file, at);
+        before = words::read_u16(terms, at);
     }
     true
 }

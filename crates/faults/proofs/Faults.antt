@@ -8,17 +8,19 @@ use mathlib.Core.Bool.{Bool, true, false, not}
 use mathlib.Core.List.{List}
 use lib.Dec.{ltb, leb}
 use lib.IntN.{ℤ}
-use lib.ListN.{length, get_or}
+use lib.ListN.{length, get_or, take, drop, length-drop}
+use Rattle.std.proofs.lemmas.List.{length-take-le}
 use borrow.Author.Tests.{ne_eqb, lt-ltb, le-ltb, eqb-true, leb-true, le-leb, lt-leb}
 use Rattle.plpb.specs.Lists.{◌and◌, ◌or◌, all}
 use Rattle.plpb.specs.Plan.{rising, rising_above}
 use Rattle.words.specs.Words.{num_at, signed}
 use Rattle.format.proofs.Bools.{and_left}
 use Rattle.format.specs.File as File
-use Rattle.format.specs.File.{tag_at, length_at, length_lawful, refuse, past_limits, bounds_lawful, lower_at, upper_at, mode_at, wrong_bounds, terms_in, terms_at, field_terms, locks_fault}
+use Rattle.format.specs.File.{tag_at, length_at, length_lawful, refuse, past_limits, bounds_lawful, lower_at, upper_at, mode_at, wrong_bounds, terms_in, terms_at, field_terms, entries_fault, locks_fault}
 use Rattle.format.specs.Limits.{terms_lawful}
 use Rattle.faults.specs.Faults.{body_fault, Headed}
 use Rattle.bodies.proofs.Tags.{tag_byte}
+use Rattle.bodies.proofs.Parts.{terms_part, entries_part}
 
 not_lt : {a b : ℕ} → (a < b → ⊥) → b ≤ a
 not_lt n = omega arith
@@ -89,13 +91,39 @@ module _ (s : List ℕ) (at : ℕ) where
   unfolding wrong_bounds lower_at upper_at mode_at tag_at ◌and◌
   bounds_some b l u e p q r = rw (p, q, r, tag_is s at 4 e) (ap (λ (m : ℕ). not (bounds_lawful m (signed (num_at 4 s (at + 4))) (signed (num_at 4 s (at + 8))))) (tag_byte s (at + 3)))
 
-  pub terms_objective : (b : Bool) (n k : ℕ) → get_or s at 0 ≡ 2 → b ≡ terms_lawful n (terms_at s (at + 3) (k / 6)) → k ≡ num_at 2 s (at + 1) → b ≡ terms_lawful n (field_terms s at)
-  unfolding field_terms terms_in length_at
-  terms_objective b n k e p q = p ∙ rw (q, tag_is s at 2 e)
+  -- The terms of a body, and the entries of locks, read from the part that it is.
+  module _ (h : Headed s at) {e : ℕ} (ends : e ≡ at + 3 + length_at s at) where
+    part_length : (from : ℕ) → from ≤ e → length (take (e - from) (drop from s)) ≡ e - from
+    part_length from l = length-take-le (e - from) (drop from s) (omega (arith, length-drop from s, h.room))
 
-  pub terms_rule : (b : Bool) (n k : ℕ) → get_or s at 0 ≡ 4 → b ≡ terms_lawful n (terms_at s (at + 12) ((k - 9) / 6)) → k ≡ num_at 2 s (at + 1) → b ≡ terms_lawful n (field_terms s at)
-  unfolding field_terms terms_in length_at
-  terms_rule b n k e p q = p ∙ rw (q, tag_is s at 4 e)
+    pub terms_objective :
+        (b : Bool) (n : ℕ) → get_or s at 0 ≡ 2
+        → b ≡ terms_lawful n (terms_at (take (e - (at + 3)) (drop (at + 3) s)) 0 (length (take (e - (at + 3)) (drop (at + 3) s)) / 6))
+        → b ≡ terms_lawful n (field_terms s at)
+    unfolding field_terms terms_in
+    terms_objective b n t p =
+        let m : e - (at + 3) ≡ length_at s at = omega arith in
+        let k = part_length (at + 3) (omega arith) ∙ m in
+        p ∙ ap (terms_lawful n) (terms_part s (at + 3) (e - (at + 3)) _ (omega (arith, k)) ∙ ap (λ (i : ℕ). terms_at s (at + 3) (i / 6)) k) ∙ rw (tag_is s at 2 t)
+
+    pub terms_rule :
+        (b : Bool) (n : ℕ) → get_or s at 0 ≡ 4
+        → b ≡ terms_lawful n (terms_at (take (e - (at + 12)) (drop (at + 12) s)) 0 (length (take (e - (at + 12)) (drop (at + 12) s)) / 6))
+        → b ≡ terms_lawful n (field_terms s at)
+    unfolding field_terms terms_in length_at
+    terms_rule b n t p =
+        let long = rule_size s at h t in
+        let m : e - (at + 12) ≡ num_at 2 s (at + 1) - 9 = omega arith in
+        let k = part_length (at + 12) (omega (arith, long)) ∙ m in
+        p ∙ ap (terms_lawful n) (terms_part s (at + 12) (e - (at + 12)) _ (omega (arith, k, m)) ∙ ap (λ (i : ℕ). terms_at s (at + 12) (i / 6)) k) ∙ rw (tag_is s at 4 t)
+
+    pub entries_body :
+        (f n : ℕ) → f ≡ entries_fault n 0 (take (e - (at + 3)) (drop (at + 3) s)) 0 (length (take (e - (at + 3)) (drop (at + 3) s)) / 3)
+        → f ≡ entries_fault n 0 s (at + 3) (length_at s at / 3)
+    entries_body f n p =
+        let m : e - (at + 3) ≡ length_at s at = omega arith in
+        let k = part_length (at + 3) (omega arith) ∙ m in
+        p ∙ entries_part s (at + 3) (e - (at + 3)) n _ (omega (arith, k)) ∙ ap (λ (i : ℕ). entries_fault n 0 s (at + 3) (i / 3)) k
 
   pub terms_none : (n : ℕ) → (get_or s at 0 ≡ 2 → ⊥) → (get_or s at 0 ≡ 4 → ⊥) → true ≡ terms_lawful n (field_terms s at)
   unfolding field_terms terms_lawful rising rising_above all ◌and◌

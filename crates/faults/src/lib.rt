@@ -4,13 +4,14 @@
 ghost use Rattle.std.specs.Prelude.{◌≡◌, not, ◌+◌, leb, ltb};
 ghost use Rattle.plpb.specs.Lists.{◌and◌, ◌or◌};
 ghost use Rattle.format.specs.Limits.{terms_lawful};
-ghost use Rattle.format.specs.File.{past_limits, wrong_bounds, field_terms, locks_fault};
+ghost use Rattle.format.specs.File.{length_at, past_limits, wrong_bounds, field_terms, locks_fault};
 ghost use Rattle.bodies.specs.Faults.{found};
 ghost use Rattle.faults.specs.Faults.{state_of, body_fault, Headed};
 
 use bodies::Fault;
 use bodies::locks::entries_fault;
 use bodies::terms::{bounds_lawful, terms_lawful};
+use format::Tag;
 
 // What may stand next: "Order: 01, 02, then clauses, each 03 followed by one or more 04, then 05 as the last bytes."
 // "an optional field, tag 06, between objective and first clause"
@@ -42,10 +43,11 @@ fn count_wrong(variables: u32) -> bool
     if variables < 1 { true } else { 512 < variables }
 }
 
-fn rules_full(rules: usize, terms: usize, more: usize) -> bool
-    ensures { result ≡ (leb 1_024 rules or ltb 6_000 (terms + more)) }
+// One rule more than the most that there may be, or its terms above 6,000.
+pub fn rules_full<const MOST: usize>(rules: usize, terms: usize, more: usize) -> bool
+    ensures { result ≡ (leb MOST rules or ltb 6_000 (terms + more)) }
 {
-    if 1024 <= rules {
+    if MOST <= rules {
         return true;
     }
     if 6000 < terms {
@@ -70,14 +72,15 @@ impl<'a> Field<'a> {
         let st = self.st;
         let at = st.at;
         let tag = file[at];
-        if tag == 1 {
+        if tag == Tag::Variables as u8 {
             return count_wrong(words::read_u16(file, at + 3));
         }
-        if tag == 3 {
+        if tag == Tag::Clause as u8 {
             return 512 <= st.clauses;
         }
-        if tag == 4 {
-            return rules_full(st.rules, st.terms, (words::read_size(file, at + 1) - 9) / 6);
+        if tag == Tag::Rule as u8 {
+            let size = words::read_size(file, at + 1);
+            return rules_full::<1024>(st.rules, st.terms, (size - 9) / 6);
         }
         false
     }
@@ -88,7 +91,7 @@ impl<'a> Field<'a> {
     {
         let file = self.file;
         let at = self.st.at;
-        if file[at] != 4 {
+        if file[at] != Tag::Rule as u8 {
             return false;
         }
         !bounds_lawful(
@@ -98,22 +101,24 @@ impl<'a> Field<'a> {
         )
     }
 
+    // Where it ends.
+    fn end(self) -> usize
+        ensures { result ≡ self.entry.st.at + 3 + length_at self.entry.file.now self.entry.st.at }
+    {
+        self.st.at + 3 + words::read_size(self.file, self.st.at + 1)
+    }
+
     fn right_terms(self) -> bool
         ensures { result ≡ terms_lawful self.entry.st.variables (field_terms self.entry.file.now self.entry.st.at) }
     {
         let file = self.file;
         let at = self.st.at;
         let variables = self.st.variables;
-        if file[at] == 2 {
-            return terms_lawful(file, at + 3, words::read_size(file, at + 1) / 6, variables);
+        if file[at] == Tag::Objective as u8 {
+            return terms_lawful(&file[at + 3..self.end()], variables);
         }
-        if file[at] == 4 {
-            return terms_lawful(
-                file,
-                at + 12,
-                (words::read_size(file, at + 1) - 9) / 6,
-                variables,
-            );
+        if file[at] == Tag::Rule as u8 {
+            return terms_lawful(&file[at + 12..self.end()], variables);
         }
         true
     }
@@ -124,11 +129,10 @@ impl<'a> Field<'a> {
     {
         let file = self.file;
         let at = self.st.at;
-        if file[at] != 6 {
+        if file[at] != Tag::Locks as u8 {
             return Ok(());
         }
-        let size = words::read_size(file, at + 1);
-        entries_fault(file, at + 3, size / 3, self.st.variables)
+        entries_fault(&file[at + 3..self.end()], self.st.variables)
     }
 }
 

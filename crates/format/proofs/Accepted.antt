@@ -24,7 +24,7 @@ use Rattle.format.proofs.Fields.{Clean, read_past}
 use Rattle.format.proofs.Sizes.{terms_of}
 use Rattle.format.proofs.WrittenRule.{length_terms}
 use Rattle.format.proofs.LockField.{length_locks, length_lock_entries, entries_rise, entries_within, peel_locks}
-use Rattle.format.proofs.Order.{fields_from, no_rules, rules}
+use Rattle.format.proofs.Order.{fields_from, no_rules}
 use Rattle.format.proofs.Peel.{length_terms_at, peel, peel_terms, peel_field}
 use Rattle.format.proofs.Held.{not_refused, accepted_clean, mapped, accepted_behind, Held, Within, held}
 

@@ -10,7 +10,7 @@ use mathlib.Core.List.{List, [], ◌∷◌, map, map-map}
 use lib.Dec.{T, leb, eqb, le→leb}
 use lib.ListN.{length, take, drop}
 use borrow.Author.Tests.{leb-true, leb-false, eqb-true, le-leb, eq-eqb}
-use Rattle.plpb.specs.Lists.{◌and◌, all, row}
+use Rattle.plpb.specs.Lists.{all, row}
 use Rattle.plpb.specs.Plan.{Plan}
 use Rattle.plpb.specs.Tallies.{rules_of}
 use Rattle.plpb.proofs.Lists.{and_both}

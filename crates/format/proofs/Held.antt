@@ -13,7 +13,7 @@ use Rattle.plpb.specs.Lists.{◌and◌, ◌or◌, all, concat, sum_by}
 use Rattle.plpb.specs.Plan.{Rule}
 use Rattle.words.specs.Words.{num_at, bytes_of, signed, unsigned}
 use Rattle.words.proofs.Words.{Below}
-use Rattle.format.specs.Limits.{rule_lawful, lawful}
+use Rattle.format.specs.Limits.{rule_lawful}
 use Rattle.format.specs.File.{State, tag_at, length_at, length_lawful, terms_in, terms_at, mode_at, lower_at, upper_at, field_terms, past_limits, wrong_bounds, fault, next, stage_after, rule_at, Contents, Reading, refused, accepted, add_field, map_reading, finish, read_from, behind}
 use Rattle.format.specs.Writer.{field, rule_field, clause_fields}
 use Rattle.format.proofs.Bools.{and_left, and_right, and_join, true_T}

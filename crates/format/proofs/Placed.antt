@@ -9,7 +9,7 @@ use mathlib.Core.List.{List, [], ◌∷◌, ◌++◌, map}
 use lib.Dec.{T, ltb}
 use lib.ListN.{length, get_or, take, length-append}
 use borrow.Author.Tests.{leb-true, ltb-true, eqb-true, le-leb, lt-ltb, eq-eqb}
-use Rattle.plpb.specs.Lists.{◌and◌, concat, row, sum_by}
+use Rattle.plpb.specs.Lists.{concat, row, sum_by}
 use Rattle.plpb.specs.Plan.{Rule, Clause, Plan}
 use Rattle.plpb.specs.Normal.{is_negative}
 use Rattle.plpb.specs.Tallies.{rules_of}

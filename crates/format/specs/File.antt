@@ -165,6 +165,7 @@ pub record Contents : Type 0 where
   pub rules : List Rule
   pub clauses : List Clause
 
+-- What reading comes to. A `Result` with a pair for its error would not say which of the two numbers is the refusal's and which the offset.
 pub data Reading (A : Type 0) : Type 0 where
   refused : ℕ → ℕ → Reading A
   accepted : A → Reading A

@@ -1,6 +1,7 @@
 -- The plan file and the tables, in reading order.
 pub mod Limits
 pub mod File
+pub mod Tags
 pub mod Writer
 pub mod Layout
 pub mod Tables

@@ -2,6 +2,36 @@
 // specs/Layout.antt has the same for contracts, and each crate that uses both ties the two.
 #![tactic(auto)]
 
+ghost use Rattle.format.specs.Tags.{Tagged};
+
+// What a field of a plan file is: its first byte (docs/FORMAT.md).
+#[derive(Clone, Copy, PartialEq, Eq)]
+pub enum Tag {
+    Variables = 1,
+    Objective = 2,
+    Clause = 3,
+    Rule = 4,
+    End = 5,
+    Locks = 6,
+}
+
+impl Tag {
+    // The tag that a byte is, if it is one.
+    pub fn of(byte: u8) -> Option<Tag>
+        ensures { Tagged byte result }
+    {
+        match byte {
+            1 => Some(Tag::Variables),
+            2 => Some(Tag::Objective),
+            3 => Some(Tag::Clause),
+            4 => Some(Tag::Rule),
+            5 => Some(Tag::End),
+            6 => Some(Tag::Locks),
+            _ => None,
+        }
+    }
+}
+
 // How many of each a plan may have.
 pub const MAX_VARIABLES: usize = 512;
 
@@ -73,7 +103,8 @@ pub const TALLIES: usize = 4 * (UNSATISFIED + 1);
 // A byte for each variable: an assignment, and the marks of a search.
 pub const ASSIGNMENT: usize = MAX_VARIABLES;
 
-// Behind the marks a word for each variable, the number of its last flip in a try: where these words begin in bytes, and that of a variable, at its number more.
+// Behind the marks a word for each variable, the number of its last flip in a try: where these words begin in bytes, and that of a variable, at its number
+// more.
 pub const STAMP_BYTE: usize = MAX_VARIABLES;
 
 pub const STAMPS: usize = MAX_VARIABLES / 4 - 1;

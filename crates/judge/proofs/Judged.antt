@@ -5,46 +5,76 @@ use native.Mathlib.Omega.{arith}
 use mathlib.Core.Path.{◌≡◌, refl, sym, ap, ap₂, ◌∙◌}
 use mathlib.Core.Bool.{Bool, true, false}
 use mathlib.Core.List.{List}
-use lib.Dec.{eqb}
+use lib.Dec.{eqb, eqb-suc-suc}
+use denote.Enum.Bare.{sameb}
+use denote.Enum.Declared.{tag_of}
 use lib.ListN.{length, get_or}
 use borrow.Author.Tests.{ne_eqb, lt-ltb, le-ltb, ltb-false, not-false}
 use Rattle.plpb.specs.Lists.{◌or◌}
 use Rattle.words.specs.Words.{num_at}
 use Rattle.format.specs.File as File
-use Rattle.format.specs.File.{at_locks, at_clause, after_rule, may_stand, tag_at, length_at, length_lawful, refuse, fault}
+use Rattle.format.specs.contracts.Tag.{the_type}
+use Rattle.format.specs.declared.Tag.{Tag}
+use Rattle.format.specs.declared.Tag.TheVariants.{Variables, Objective, Clause, Rule, End, Locks}
+use Rattle.format.specs.Tags.{tag_number}
+use Rattle.format.specs.File.{at_count, at_objective, at_locks, at_clause, at_rule, after_rule, may_stand, tag_at, length_at, length_lawful, refuse, fault}
 use Rattle.faults.specs.Faults.{body_fault, Headed}
 use Rattle.judge.specs.Fields.{head_fault}
 use Rattle.bodies.proofs.Tags.{tag_byte}
 
-either : (a b c : Bool) → b ≡ false → (a or c) ≡ (a or b or c)
-unfolding ◌or◌
-either true b c e = refl
-either false b c e = rw e
+-- A tag is told by its number: the code compares the places of the tags, from 0 on.
+number_above : (t : Tag) → tag_number t ≡ suc (tag_of the_type t)
+number_above Variables = refl
+number_above Objective = refl
+number_above Clause = refl
+number_above Rule = refl
+number_above End = refl
+number_above Locks = refl
 
--- Behind a rule may stand what may stand at a clause, and a rule.
-pub stands_rule : (tag : ℕ) → tag ≡ 4 → true ≡ may_stand after_rule tag
-unfolding may_stand ◌or◌
-stands_rule tag e = simp e
+pub same_number : (t u : Tag) → sameb the_type t u ≡ eqb (tag_number t) (tag_number u)
+same_number t u = sym (eqb-suc-suc (tag_of the_type t) (tag_of the_type u)) ∙ ap₂ eqb (sym (number_above t)) (sym (number_above u))
 
-pub stands_else : (tag : ℕ) → (tag ≡ 4 → ⊥) → may_stand at_clause tag ≡ may_stand after_rule tag
-unfolding may_stand
-stands_else tag n = either (eqb tag 3) (eqb tag 4) (eqb tag 5) (ne_eqb tag 4 n)
+-- Of tests one after the other, the first that holds tells.
+module _ {a b : Bool} (e : a ≡ b) where
+  pub or_then : (c : Bool) → a ≡ true → a ≡ (b or c)
+  unfolding ◌or◌
+  or_then c t = t ∙ rw (sym e ∙ t)
 
--- Behind the objective may stand what may stand at a clause, and a field of locks.
-pub stands_locks : (tag : ℕ) → tag ≡ 6 → true ≡ may_stand at_locks tag
-unfolding may_stand ◌or◌
-stands_locks tag e = simp e
+  pub or_else : {c d : Bool} → a ≡ false → c ≡ d → c ≡ (b or d)
+  unfolding ◌or◌
+  or_else {c} {d} f q = q ∙ rw (sym e ∙ f)
 
-pub stands_clause : (tag : ℕ) → (tag ≡ 6 → ⊥) → may_stand at_clause tag ≡ may_stand at_locks tag
-unfolding may_stand ◌or◌
-stands_clause tag n = simp (ne_eqb tag 6 n)
+  pub second_then : (c d : Bool) → a ≡ true → a ≡ (c or b or d)
+  unfolding ◌or◌
+  second_then true d t = t
+  second_then false d t = t ∙ rw (sym e ∙ t)
 
-pub told_tag : (s : List ℕ) (at : ℕ) (stage : File.Stage) (b : Bool) → b ≡ may_stand stage (get_or s at 0) → may_stand stage (tag_at s at) ≡ b
-told_tag s at stage b e = ap (may_stand stage) (sym (tag_byte s at)) ∙ sym e
+  pub second_else : {x : Bool} (c d : Bool) → a ≡ false → x ≡ (c or d) → x ≡ (c or b or d)
+  unfolding ◌or◌
+  second_else true d f q = q
+  second_else false d f q = q ∙ rw (sym e ∙ f)
 
-pub told_length : (s : List ℕ) (at n : ℕ) (b : Bool) → b ≡ length_lawful (get_or s at 0) n → n ≡ num_at 2 s (at + 1) → length_lawful (tag_at s at) (length_at s at) ≡ b
+-- What a byte that is a tag tells, and one that is none.
+pub told_tag : (s : List ℕ) (at : ℕ) (stage : File.Stage) (t : Tag) (b : Bool) → tag_number t ≡ get_or s at 0 → b ≡ may_stand stage (tag_number t) → may_stand stage (tag_at s at) ≡ b
+told_tag s at stage t b here e = ap (may_stand stage) (sym (tag_byte s at) ∙ sym here) ∙ sym e
+
+pub told_length :
+    (s : List ℕ) (at n : ℕ) (t : Tag) (b : Bool) → tag_number t ≡ get_or s at 0 → b ≡ length_lawful (tag_number t) n → n ≡ num_at 2 s (at + 1)
+    → length_lawful (tag_at s at) (length_at s at) ≡ b
 unfolding length_at
-told_length s at n b e m = ap₂ length_lawful (sym (tag_byte s at)) (sym m) ∙ sym e
+told_length s at n t b here e m = ap₂ length_lawful (sym (tag_byte s at) ∙ sym here) (sym m) ∙ sym e
+
+no_stage : (stage : File.Stage) (n : ℕ) → ((t : Tag) → tag_number t ≡ n → ⊥) → may_stand stage n ≡ false
+unfolding may_stand ◌or◌
+no_stage at_count n f = ne_eqb n 1 (λ e. f Variables (sym e))
+no_stage at_objective n f = ne_eqb n 2 (λ e. f Objective (sym e))
+no_stage at_locks n f = rw (ne_eqb n 6 (λ e. f Locks (sym e)), ne_eqb n 3 (λ e. f Clause (sym e)), ne_eqb n 5 (λ e. f End (sym e)))
+no_stage at_clause n f = rw (ne_eqb n 3 (λ e. f Clause (sym e)), ne_eqb n 5 (λ e. f End (sym e)))
+no_stage at_rule n f = ne_eqb n 4 (λ e. f Rule (sym e))
+no_stage after_rule n f = rw (ne_eqb n 3 (λ e. f Clause (sym e)), ne_eqb n 4 (λ e. f Rule (sym e)), ne_eqb n 5 (λ e. f End (sym e)))
+
+pub no_tag : (s : List ℕ) (at : ℕ) (stage : File.Stage) → ((t : Tag) → tag_number t ≡ get_or s at 0 → ⊥) → may_stand stage (tag_at s at) ≡ false
+no_tag s at stage f = no_stage stage (tag_at s at) (λ t e. f t (e ∙ sym (tag_byte s at)))
 
 -- The tests of the head, in their order.
 module _ (s : List ℕ) (at : ℕ) (stage : File.Stage) where

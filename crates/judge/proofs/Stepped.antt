@@ -1,6 +1,6 @@
 -- Laws of one step of reading: the state behind a field, and what reading from a state comes to.
 -- Assumes nothing.
-use Prim.Native.Nat.{ℕ, suc, ◌+◌, ◌-◌, ◌≤◌, ◌<◌}
+use Prim.Native.Nat.{ℕ, suc, ◌+◌, ◌-◌, ◌/◌, ◌≤◌, ◌<◌}
 use native.Mathlib.Omega.{arith}
 use mathlib.Core.Path.{◌≡◌, refl, sym, ap, ap₂, ◌∙◌, subst}
 use mathlib.Core.Bool.{Bool, true, false, cond}
@@ -12,6 +12,9 @@ use borrow.Author.Tests.{lt-ltb, eq-eqb, ne_eqb, ltb-false, leb-false, eqb-true}
 use Rattle.plpb.specs.Lists.{◌or◌}
 use Rattle.words.specs.Words.{num_at}
 use Rattle.format.specs.File as File
+use Rattle.format.specs.declared.Tag.{Tag}
+use Rattle.format.specs.declared.Tag.TheVariants.{Variables, Objective, Clause, Rule, End, Locks}
+use Rattle.format.specs.Tags.{tag_number}
 use Rattle.format.specs.File.{tag_at, length_at, length_lawful, terms_in, past_limits, fault, stage_after, next, Reading, refused, accepted, map_reading, finish, read_from, begin, plan_of, read}
 use Rattle.format.proofs.Fields.{Clean, fault_clean, read_on, read_end}
 use Rattle.faults.specs.declared.Stage.{Stage}
@@ -24,7 +27,7 @@ use Rattle.bodies.specs.declared.Fault.{Fault}
 use Rattle.bodies.specs.Faults.{number}
 use Rattle.bodies.proofs.Found.{fault_numbered}
 use Rattle.faults.specs.Faults.{stage_of, state_of, Headed}
-use Rattle.judge.specs.Fields.{taken_at, ending, Steps}
+use Rattle.judge.specs.Fields.{TakenAt, ending, Steps}
 use Rattle.bodies.proofs.Tags.{tag_byte}
 use Rattle.faults.proofs.Faults.{count_size, rule_size, body_room}
 
@@ -69,59 +72,62 @@ module _ (s : List ℕ) (st : File.State) (c : Clean s st) where
   clean_end e = eqb-true _ _ (rw e at c.size)
 
 -- The same of what the code took from the field.
-module _ (s : List ℕ) (st : State) (t : TakenT) (f : fault s (state_of st) ≡ 0) (p : t ≡ taken_at s st.at) where
-  tag : t.tag ≡ tag_at s st.at
-  unfolding taken_at
-  tag = ap (λ (x : TakenT). x.tag) p
+module _ (s : List ℕ) (st : State) (t : TakenT) (f : fault s (state_of st) ≡ 0) (p : TakenAt s st.at t) where
+  clean : Clean s (state_of st)
+  clean = fault_clean s (state_of st) f
 
-  body : t.body ≡ st.at + 3
-  unfolding taken_at
-  body = ap (λ (x : TakenT). x.body) p
-
-  behind : t.next ≡ st.at + 3 + length_at s st.at
-  unfolding taken_at
-  behind = ap (λ (x : TakenT). x.next) p
+  here : {k : ℕ} → tag_number t.tag ≡ k → tag_at s st.at ≡ k
+  here e = sym p.tag ∙ e
 
   size : t.next - t.body ≡ length_at s st.at
-  size = omega (arith, body, behind)
+  size = omega (arith, p.body, p.next)
 
-  pub taken_count : t.tag ≡ 1 → t.body + 2 ≤ length s
+  pub taken_count : t.tag ≡ Variables → t.body + 2 ≤ length s
   unfolding state_of
-  taken_count e = omega (arith, body, clean_count s (state_of st) (fault_clean s (state_of st) f) (sym tag ∙ e))
+  taken_count e = omega (arith, p.body, clean_count s (state_of st) clean (here (ap tag_number e)))
 
-  pub taken_clause : t.tag ≡ 3 → st.clauses < 1_024
+  pub taken_clause : t.tag ≡ Clause → st.clauses < 1_024
   unfolding state_of
-  taken_clause e = omega (arith, clean_clause s (state_of st) (fault_clean s (state_of st) f) (sym tag ∙ e))
+  taken_clause e = omega (arith, clean_clause s (state_of st) clean (here (ap tag_number e)))
 
-  pub taken_rule : t.tag ≡ 4 → st.rules < 1_024
+  pub taken_rule : t.tag ≡ Rule → st.rules < 1_024
   unfolding state_of
-  taken_rule e = clean_rule s (state_of st) (fault_clean s (state_of st) f) (sym tag ∙ e)
+  taken_rule e = clean_rule s (state_of st) clean (here (ap tag_number e))
 
-  pub taken_order : t.body ≤ t.next
-  taken_order = omega (arith, body, behind)
-
-  pub taken_terms : t.tag ≡ 4 → (9 ≤ t.next - t.body) × (st.terms + terms_in 4 (t.next - t.body) ≤ 6_000)
+  pub taken_size : t.tag ≡ Rule → 9 ≤ t.next - t.body
   unfolding state_of
-  taken_terms e =
-      let h = fault_clean s (state_of st) f in
-      rw size (omega (arith, clean_size s (state_of st) h (sym tag ∙ e)), clean_terms s (state_of st) h (sym tag ∙ e))
+  taken_size e = omega (arith, size, clean_size s (state_of st) clean (here (ap tag_number e)))
+
+  pub taken_terms : t.tag ≡ Rule → st.terms + (t.next - t.body - 9) / 6 ≤ 6_000
+  unfolding state_of terms_in
+  taken_terms e = rw size (clean_terms s (state_of st) clean (here (ap tag_number e)))
 
   pub next_is :
-      (stage : Stage) (v cl ru te : ℕ)
-      → stage_of stage ≡ stage_after t.tag
-      → v ≡ cond (eqb t.tag 1) (num_at 2 s t.body) st.variables
-      → cl ≡ cond (eqb t.tag 3) (st.clauses + 1) st.clauses
-      → ru ≡ cond (eqb t.tag 4) (st.rules + 1) st.rules
-      → te ≡ cond (eqb t.tag 4) (st.terms + terms_in 4 (t.next - t.body)) st.terms
+      (tag : Tag) (stage : Stage) (v cl ru te : ℕ) → t.tag ≡ tag
+      → stage_of stage ≡ stage_after (tag_number tag)
+      → v ≡ cond (eqb (tag_number tag) 1) (num_at 2 s t.body) st.variables
+      → cl ≡ cond (eqb (tag_number tag) 3) (st.clauses + 1) st.clauses
+      → ru ≡ cond (eqb (tag_number tag) 4) (st.rules + 1) st.rules
+      → te ≡ cond (eqb (tag_number tag) 4) (st.terms + (t.next - t.body - 9) / 6) st.terms
       → state_of (record { at = t.next; stage = stage; variables = v; clauses = cl; rules = ru; terms = te }) ≡ next s (state_of st)
-  unfolding state_of next
-  next_is stage v cl ru te qs qv qc qr qt =
-      let pv = qv ∙ ap₂ (λ (a b : ℕ). cond (eqb a 1) (num_at 2 s b) st.variables) tag body in
-      let pc = qc ∙ ap (λ (a : ℕ). cond (eqb a 3) (st.clauses + 1) st.clauses) tag in
-      let pr = qr ∙ ap (λ (a : ℕ). cond (eqb a 4) (st.rules + 1) st.rules) tag in
-      let pt = qt ∙ ap₂ (λ (a b : ℕ). cond (eqb a 4) (st.terms + terms_in 4 b) st.terms) tag size in
-      let ps = qs ∙ ap stage_after tag in
-      λ i. record { at = behind i; stage = ps i; variables = pv i; clauses = pc i; rules = pr i; terms = pt i }
+  unfolding state_of next terms_in
+  next_is tag stage v cl ru te is qs qv qc qr qt =
+      let told : tag_number tag ≡ tag_at s st.at = sym (ap tag_number is) ∙ p.tag in
+      let pv = qv ∙ ap₂ (λ (a b : ℕ). cond (eqb a 1) (num_at 2 s b) st.variables) told p.body in
+      let pc = qc ∙ ap (λ (a : ℕ). cond (eqb a 3) (st.clauses + 1) st.clauses) told in
+      let pr = qr ∙ ap (λ (a : ℕ). cond (eqb a 4) (st.rules + 1) st.rules) told in
+      let pt = qt ∙ ap₂ (λ (a b : ℕ). cond (eqb a 4) (st.terms + terms_in 4 b) st.terms) told size in
+      let ps = qs ∙ ap stage_after told in
+      λ i. record { at = p.next i; stage = ps i; variables = pv i; clauses = pc i; rules = pr i; terms = pt i }
+
+-- No other tag has the number of the end.
+ends_here : (tag : Tag) → tag_number tag ≡ 5 → tag ≡ End
+ends_here Variables e = absurd (omega (arith, e))
+ends_here Objective e = absurd (omega (arith, e))
+ends_here Clause e = absurd (omega (arith, e))
+ends_here Rule e = absurd (omega (arith, e))
+ends_here End e = refl
+ends_here Locks e = absurd (omega (arith, e))
 
 outcome_map : {A B : Type 0} (f : A → B) (r : Reading A) → outcome (map_reading f r) ≡ outcome r
 unfolding outcome map_reading
@@ -147,28 +153,28 @@ module _ (s : List ℕ) (st : State) where
       let some : 0 < fault s (state_of st) = omega (arith, e, fault_numbered f) in
       rw (lt-ltb 0 (fault s (state_of st)) some) (ap (λ (k : ℕ). Refused k st.at) (sym e) ∙ sym (ap (λ (x : Refusal). Err x) q))
 
-  module _ (t : TakenT) (f : 0 ≡ fault s (state_of st)) (p : t ≡ taken_at s st.at) where
-    pub took_more : (on : State) → (t.tag ≡ 5 → ⊥) → state_of on ≡ next s (state_of st) → Steps s st (Ok (Some on))
+  module _ (t : TakenT) (f : 0 ≡ fault s (state_of st)) (p : TakenAt s st.at t) where
+    pub took_more : (on : State) → (t.tag ≡ End → ⊥) → state_of on ≡ next s (state_of st) → Steps s st (Ok (Some on))
     unfolding Steps state_of
     took_more on n e left =
-        ap outcome (read_on s left (state_of st) (fault_clean s (state_of st) (sym f)) (ne_eqb _ _ (λ g. n (tag s st t (sym f) p ∙ g))))
+        ap outcome (read_on s left (state_of st) (fault_clean s (state_of st) (sym f)) (ne_eqb _ _ (λ g. n (ends_here t.tag (p.tag ∙ g)))))
         ∙ outcome_map _ (read_from s left (next s (state_of st)))
         ∙ ap (λ (x : File.State). outcome (read_from s left x)) (sym e)
 
-    took_end : (a : Answer) → t.tag ≡ 5 → a ≡ ending s t.next → (left : ℕ) → outcome (read_from s (suc left) (state_of st)) ≡ a
+    took_end : (a : Answer) → t.tag ≡ End → a ≡ ending s t.next → (left : ℕ) → outcome (read_from s (suc left) (state_of st)) ≡ a
     unfolding state_of
     took_end a g q left =
         let clean = fault_clean s (state_of st) (sym f) in
-        let here : tag_at s st.at ≡ 5 = sym (tag s st t (sym f) p) ∙ g in
+        let here : tag_at s st.at ≡ 5 = sym p.tag ∙ ap tag_number g in
         ap outcome (read_end s left (state_of st) clean (eq-eqb _ _ here))
-        ∙ end_outcome s (state_of st) t.next (omega (arith, behind s st t (sym f) p, clean_end s (state_of st) clean here))
+        ∙ end_outcome s (state_of st) t.next (omega (arith, p.next, clean_end s (state_of st) clean here))
         ∙ sym q
 
-    pub took_last : t.tag ≡ 5 → Accepted ≡ ending s t.next → Steps s st (Ok None)
+    pub took_last : t.tag ≡ End → Accepted ≡ ending s t.next → Steps s st (Ok None)
     unfolding Steps
     took_last g q = took_end Accepted g q
 
-    pub took_bytes : (r : Result (Option State) Refusal) (e : Refusal) → t.tag ≡ 5 → Err e ≡ ending s t.next → IsErrAnd r (λ x. x ≡ e) → Steps s st r
+    pub took_bytes : (r : Result (Option State) Refusal) (e : Refusal) → t.tag ≡ End → Err e ≡ ending s t.next → IsErrAnd r (λ x. x ≡ e) → Steps s st r
     unfolding Steps
     took_bytes (Ok x) e g q h = absurd h
     took_bytes (Err x) e g q h = took_end (Err x) g (ap (λ (y : Refusal). Err y) h ∙ q)

@@ -2,6 +2,7 @@
 -- Assumes nothing.
 use Rattle.std.specs.Prelude.{ℕ, suc, ◌+◌, ◌≡◌, not, cond, List, ltb, length, Option, None, Some, Result, Ok, Err}
 use Rattle.format.specs.File as File
+use Rattle.format.specs.Tags.{tag_number}
 use Rattle.format.specs.File.{may_stand, tag_at, length_at, length_lawful, refuse, read_from}
 use Rattle.faults.specs.declared.State.{State}
 use Rattle.judge.specs.declared.field.Taken.{Taken as TakenT}
@@ -18,8 +19,10 @@ head_fault s at stage =
     (refuse (ltb (length s) (at + 3 + length_at s at)) 1 0)))
 
 -- "A field is taken apart into tag, body and next place, or reading stops with its refusal."
-unfoldable pub taken_at : List ℕ → ℕ → TakenT
-taken_at s at = record { tag = tag_at s at; body = at + 3; next = at + 3 + length_at s at }
+pub record TakenAt (s : List ℕ) (at : ℕ) (field : TakenT) : Type 0 where
+  pub tag : tag_number field.tag ≡ tag_at s at
+  pub body : field.body ≡ at + 3
+  pub next : field.next ≡ at + 3 + length_at s at
 
 -- What reading comes to behind the end field.
 unfoldable pub ending : List ℕ → ℕ → Answer

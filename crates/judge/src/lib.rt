@@ -1,76 +1,62 @@
 // A whole plan file judged, field by field: "The first field at fault decides."
 #![tactic(auto)]
 
-ghost use Rattle.std.specs.Prelude.{◌≡◌, cond, ◌+◌, ◌-◌, ◌≤◌, ◌<◌, eqb, length};
-ghost use Rattle.words.specs.Words.{num_at};
-ghost use Rattle.format.specs.File.{stage_after, terms_in, fault, next, read};
+ghost use Rattle.std.specs.Prelude.{◌≡◌};
+ghost use Rattle.format.specs.File.{fault, next, read};
 ghost use Rattle.verdict.specs.Answers.{outcome};
-ghost use Rattle.faults.specs.Faults.{stage_of, state_of};
+ghost use Rattle.faults.specs.Faults.{state_of};
 ghost use Rattle.bodies.specs.Faults.{number};
-ghost use Rattle.judge.specs.Fields.{taken_at, ending, Steps};
+ghost use Rattle.judge.specs.Fields.{TakenAt, ending, Steps};
 
 use crate::field::Taken;
 use bodies::Fault;
 use faults::{Stage, State};
+use format::Tag;
 use verdict::Refusal;
 
 mod field;
 
-fn stage_after(tag: u8) -> Stage
-    ensures { stage_of result ≡ stage_after tag }
-{
-    match tag {
-        1 => Stage::Objective,
-        2 => Stage::Locks,
-        3 => Stage::Rule,
-        6 => Stage::Clause,
-        _ => Stage::MoreRules,
-    }
-}
-
-// How many fields of a tag there are behind one more field.
-fn counted(tag: u8, wanted: u8, count: usize) -> usize
-    requires { tag ≡ wanted → count < 1_024 }
-    ensures { result ≡ cond (eqb tag wanted) (count + 1) count }
-{
-    if tag == wanted { count + 1 } else { count }
-}
-
-fn terms_behind(tag: u8, size: usize, terms: usize) -> usize
-    requires { tag ≡ 4 → (9 ≤ size) × (terms + terms_in 4 size ≤ 6_000) }
-    ensures { result ≡ cond (eqb tag 4) (terms + terms_in 4 size) terms }
-{
-    if tag == 4 {
-        terms + (size - 9) / 6
-    } else {
-        terms
-    }
-}
-
-fn variables_behind(file: &[u8], tag: u8, body: usize, variables: u32) -> u32
-    requires { tag ≡ 1 → body + 2 ≤ length file.now }
-    ensures { result ≡ cond (eqb tag 1) (num_at 2 file.now body) variables }
-{
-    if tag == 1 {
-        words::read_u16(file, body)
-    } else {
-        variables
-    }
-}
-
 // The state behind a field.
 fn behind(file: &[u8], st: State, field: Taken) -> State
-    requires { (fault file.now (state_of st) ≡ 0) × (field ≡ taken_at file.now st.at) }
+    requires { (fault file.now (state_of st) ≡ 0) × TakenAt file.now st.at field }
     ensures { state_of result ≡ next file.now (state_of st) }
 {
-    let stage = stage_after(field.tag);
-    State {
-        at: field.next,
-        stage,
-        variables: variables_behind(file, field.tag, field.body, st.variables),
-        clauses: counted(field.tag, 3, st.clauses),
-        rules: counted(field.tag, 4, st.rules),
-        terms: terms_behind(field.tag, field.next - field.body, st.terms),
+    let at = field.next;
+    match field.tag {
+        Tag::Variables => State {
+            at,
+            stage: Stage::Objective,
+            variables: words::read_u16(file, field.body),
+            ..st
+        },
+        Tag::Objective => State {
+            at,
+            stage: Stage::Locks,
+            ..st
+        },
+        Tag::Locks => State {
+            at,
+            stage: Stage::Clause,
+            ..st
+        },
+        Tag::Clause => State {
+            at,
+            stage: Stage::Rule,
+            clauses: st.clauses + 1,
+            ..st
+        },
+        Tag::Rule => State {
+            at,
+            stage: Stage::MoreRules,
+            rules: st.rules + 1,
+            terms: st.terms + (at - field.body - 9) / 6,
+            ..st
+        },
+        Tag::End => State {
+            at,
+            stage: Stage::MoreRules,
+            ..st
+        },
     }
 }
 
@@ -101,7 +87,7 @@ fn go_on(file: &[u8], st: State) -> Result<Option<State>, Refusal>
     let Ok(taken) = answer else {
         return Err(refusal(answer.unwrap_err(), st.at));
     };
-    if taken.tag == 5 {
+    if taken.tag == Tag::End {
         finish(file, taken.next)?;
         return Ok(None);
     }

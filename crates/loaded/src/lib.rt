@@ -3,23 +3,22 @@
 // compares words does not stop at the first fault: without a way out it takes 16 bytes at a time.
 #![tactic(auto)]
 
-ghost use Rattle.std.specs.Prelude.{◌≡◌, ◌+◌, ◌*◌, ◌-◌, ◌≤◌, leb, ltb, eqb, nat_abs, length};
+ghost use Rattle.std.specs.Prelude.{◌≡◌, ℕ, Bool, ◌+◌, ◌*◌, ◌-◌, ◌≤◌, ◌<◌, leb, ltb, eqb, nat_abs, length};
 ghost use Rattle.plpb.specs.Lists.{◌and◌};
 ghost use Rattle.words.specs.Words.{word_at, signed};
-ghost use Rattle.format.specs.Limits.{max_variables, max_clauses, max_rules, max_terms, weight_lawful};
-ghost use Rattle.format.specs.Layout.{table_size, term_size, locks_at, clause_first_at, clause_count_at, rule_first_at, rule_count_at};
+ghost use Rattle.format.specs.Limits.{max_variables, max_clauses, max_rules, max_terms, max_weight, weight_lawful};
+ghost use Rattle.format.specs.Layout.{table_size, term_size, clause_first_at, clause_count_at, rule_first_at, rule_count_at};
 ghost use Rattle.format.specs.File.{bounds_lawful};
 ghost use Rattle.format.specs.Tables.{is_loaded};
-ghost use Rattle.format.specs.Good.{every_from, chain_from, terms_from, coefficient_good, objective_good, lock_good, locks_good};
-ghost use Rattle.format.specs.Good.{clauses_good, rules_good, rule_good, base_good};
+ghost use Rattle.format.specs.Good.{every_from, zeros_from, chain_from, terms_from};
+ghost use Rattle.format.specs.Good.{objective_good, locks_good, clauses_good, rules_good, rule_good, base_good};
 
 use format::{
-    CLAUSE_COUNT, CLAUSES, ENDS, LOCKS, MAX_CLAUSES, MAX_RULES, MAX_TERMS, MAX_VARIABLES,
-    OBJECTIVE, RULE_COUNT, RULE_LOWER, RULE_MODE, RULE_UPPER, RULES, RULES_END, TABLES, TERM_WORDS,
-    TERMS,
+    CLAUSE_COUNT, CLAUSES, LOCKS, MAX_CLAUSES, MAX_RULES, MAX_TERMS, MAX_VARIABLES, OBJECTIVE,
+    RULE_COUNT, RULE_LOWER, RULE_MODE, RULE_UPPER, RULES, RULES_END, TABLES, TERM_WORDS, TERMS,
 };
 use ordered::order_good;
-use words::{index, magnitude, to_signed, word, zeros};
+use words::{index, magnitude, narrow, to_signed, word, zeros};
 
 // The size of the signed number that a word stands for.
 fn size(w: u32) -> u32
@@ -36,30 +35,6 @@ fn weight_good(w: u32) -> bool
     (0 < m) & (m <= 1000000)
 }
 
-// The objective's coefficients, one for each variable.
-fn coefficients(tables: &[u8], variables: usize) -> bool
-    requires { 4 * (4 + variables) ≤ length tables.now }
-    ensures { result ≡ every_from (coefficient_good (word_at tables.now)) 1 variables }
-{
-    let mut all = true;
-    for x in 1..variables + 1 {
-        all = all & (size(word(tables, OBJECTIVE + x)) <= 1000000);
-    }
-    all
-}
-
-// The locks, one for each variable.
-fn locks(tables: &[u8], variables: usize) -> bool
-    requires { 4 * (locks_at + variables) ≤ length tables.now }
-    ensures { result ≡ every_from (lock_good (word_at tables.now)) 1 variables }
-{
-    let mut all = true;
-    for x in 1..variables + 1 {
-        all = all & (word(tables, LOCKS + x) <= 2);
-    }
-    all
-}
-
 // An entry of a chain: it begins where the one before it ended, and of the places up to an end it takes one at least.
 fn link_good(first: usize, count: usize, at: usize, end: usize) -> bool
     requires { at ≤ end }
@@ -68,44 +43,11 @@ fn link_good(first: usize, count: usize, at: usize, end: usize) -> bool
     (first == at) & (1 <= count) & (count <= end - at)
 }
 
-// The clauses share out the rules in order.
-fn clause_chain(tables: &[u8], clauses: usize, rules: usize) -> bool
-    requires { 4 * clause_first_at clauses ≤ length tables.now }
-    ensures { result
-        ≡ chain_from (λ c. word_at tables.now (clause_first_at c)) (λ c. word_at tables.now (clause_count_at c)) rules 0 0 clauses }
-{
-    let mut at = 0;
-    for c in 0..clauses {
-        let count = index(tables, CLAUSE_COUNT + 2 * c);
-        if !link_good(index(tables, CLAUSES + 2 * c), count, at, rules) {
-            return false;
-        }
-        at += count;
-    }
-    at == rules
-}
-
 // "a term's variable outside 1 to n or not above the one before" is refused.
 fn term_good(above: u32, variable: u32, weight: u32, variables: u32) -> bool
     ensures { result ≡ (ltb above variable and leb variable variables and weight_lawful (signed weight)) }
 {
     (above < variable) & (variable <= variables) & weight_good(weight)
-}
-
-// A rule's terms, from a place up to another.
-fn rule_terms(terms: &[u8], variables: u32, from: usize, to: usize) -> bool
-    requires from_le_to { from ≤ to }
-    requires to_in_bounds { 8 * to ≤ length terms.now }
-    ensures { result ≡ terms_from (word_at terms.now) variables 0 from (to - from) }
-{
-    let mut all = true;
-    let mut above = 0;
-    for i in from..to {
-        let variable = word(terms, 2 * i);
-        all = all & term_good(above, variable, word(terms, 2 * i + 1), variables);
-        above = variable;
-    }
-    all
 }
 
 // "mode outside 1 to 3, a bound outside ±1,000,000,000, an absent bound not 0" is refused.
@@ -120,44 +62,6 @@ fn bounds_good(mode: u32, lower: u32, upper: u32) -> bool
         & (u <= 1000000000)
         & (!(mode == 2) | (l == 0))
         & (!(mode == 1) | (u == 0))
-}
-
-// A rule, whose terms stand from a place up to another.
-fn rule_good(tables: &[u8], terms: &[u8], variables: u32, r: usize, from: usize, to: usize) -> bool
-    requires variables_value { variables ≡ word_at tables.now 0 }
-    requires from_value { from ≡ word_at tables.now (rule_first_at r) }
-    requires to_value { to ≡ from + word_at tables.now (rule_count_at r) }
-    requires r_in_bounds { 4 * rule_first_at (r + 1) ≤ length tables.now }
-    requires to_in_bounds { 8 * to ≤ length terms.now }
-    ensures { result ≡ rule_good (word_at tables.now) (word_at terms.now) r }
-{
-    let mode = word(tables, RULE_MODE + 5 * r);
-    let lower = word(tables, RULE_LOWER + 5 * r);
-    let upper = word(tables, RULE_UPPER + 5 * r);
-    bounds_good(mode, lower, upper) & rule_terms(terms, variables, from, to)
-}
-
-// The rules share out the terms in order, and each is lawful.
-fn rule_chain(tables: &[u8], terms: &[u8], rules: usize, total: usize) -> bool
-    requires rules_in_bounds { 4 * rule_first_at rules ≤ length tables.now }
-    requires total_in_bounds { 8 * total ≤ length terms.now }
-    ensures { result
-        ≡ (chain_from (λ r. word_at tables.now (rule_first_at r)) (λ r. word_at tables.now (rule_count_at r)) total 0 0 rules and every_from
-        (rule_good (word_at tables.now) (word_at terms.now)) 0 rules) }
-{
-    let variables = word(tables, 0);
-    let mut at = 0;
-    for r in 0..rules {
-        let count = index(tables, RULE_COUNT + 5 * r);
-        if !link_good(index(tables, RULES + 5 * r), count, at, total) {
-            return false;
-        }
-        if !rule_good(tables, terms, variables, r, at, at + count) {
-            return false;
-        }
-        at += count;
-    }
-    at == total
 }
 
 // The counts within the limits.
@@ -186,19 +90,109 @@ struct Counted<'a> {
 }
 
 impl<'a> Counted<'a> {
+    // A section that has a word for each variable, that of variable x at `before + x`: each word passes a test, and beyond the last they are 0.
+    fn section_good<F: Fn(u32) -> bool>(self, before: usize, test: F) -> bool
+        requires inside { 4 * (before + 513) ≤ length self.tables.now }
+        requires callable { F.IsAlwaysCallable test }
+        ensures { (good : ℕ → Bool) → ((w : ℕ) (r : Bool) → F.post test w r → r ≡ good w) → result
+            ≡ (every_from (λ x. good (word_at self.entry.tables.now (before + x))) 1 self.entry.variables
+            and zeros_from (word_at self.entry.tables.now) (before + 1 + self.entry.variables) (512 - self.entry.variables)) }
+    {
+        let mut all = true;
+        for x in 1..self.variables + 1 {
+            all = all & test(word(self.tables, before + x));
+        }
+        all & zeros(
+            self.tables,
+            before + 1 + self.variables,
+            before + 1 + MAX_VARIABLES,
+        )
+    }
+
     // The objective: 0 or a lawful coefficient for each variable, 0 beyond the last.
     fn objective_good(self) -> bool
         ensures { result ≡ objective_good (word_at self.entry.tables.now) }
     {
-        coefficients(self.tables, self.variables) & zeros(self.tables, 4 + self.variables, CLAUSES)
+        self.section_good(
+            OBJECTIVE,
+            |w|
+                ensures { result ≡ leb (nat_abs (signed w)) max_weight }
+            { size(w) <= 1000000 },
+        )
+    }
+
+    // The clauses share out the rules in order.
+    fn clause_chain(self) -> bool
+        ensures { result
+            ≡ chain_from (λ c. word_at self.entry.tables.now (clause_first_at c)) (λ c. word_at self.entry.tables.now (clause_count_at c))
+            self.entry.rules 0 0 self.entry.clauses }
+    {
+        let mut at = 0;
+        for c in 0..self.clauses {
+            let count = index(self.tables, CLAUSE_COUNT + 2 * c);
+            if !link_good(index(self.tables, CLAUSES + 2 * c), count, at, self.rules) {
+                return false;
+            }
+            at += count;
+        }
+        at == self.rules
     }
 
     // The clauses, and 0 beyond the last.
     fn clauses_good(self) -> bool
         ensures { result ≡ clauses_good (word_at self.entry.tables.now) }
     {
-        clause_chain(self.tables, self.clauses, self.rules)
-            & zeros(self.tables, CLAUSES + 2 * self.clauses, RULES)
+        self.clause_chain() & zeros(self.tables, CLAUSES + 2 * self.clauses, RULES)
+    }
+
+    // A rule's terms, named by their places in the table: from one up to another.
+    fn rule_terms(self, from: usize, to: usize) -> bool
+        requires { (from ≤ to) × (to ≤ self.total) }
+        ensures { result ≡ terms_from (word_at self.entry.terms.now) self.entry.variables 0 from (to - from) }
+    {
+        let variables = narrow(self.variables);
+        let mut all = true;
+        let mut above = 0;
+        for i in from..to {
+            let variable = word(self.terms, 2 * i);
+            all = all & term_good(above, variable, word(self.terms, 2 * i + 1), variables);
+            above = variable;
+        }
+        all
+    }
+
+    // A rule, whose terms stand from a place up to another.
+    fn rule_good(self, r: usize, from: usize, to: usize) -> bool
+        requires from_value { from ≡ word_at self.tables.now (rule_first_at r) }
+        requires to_value { to ≡ from + word_at self.tables.now (rule_count_at r) }
+        requires in_bounds { (r < self.rules) × (to ≤ self.total) }
+        ensures { result ≡ rule_good (word_at self.entry.tables.now) (word_at self.entry.terms.now) r }
+    {
+        let mode = word(self.tables, RULE_MODE + 5 * r);
+        let lower = word(self.tables, RULE_LOWER + 5 * r);
+        let upper = word(self.tables, RULE_UPPER + 5 * r);
+        bounds_good(mode, lower, upper) & self.rule_terms(from, to)
+    }
+
+    // The rules share out the terms in order, and each is lawful.
+    fn rule_chain(self) -> bool
+        ensures { result
+            ≡ (chain_from (λ r. word_at self.entry.tables.now (rule_first_at r)) (λ r. word_at self.entry.tables.now (rule_count_at r))
+            self.entry.total 0 0 self.entry.rules
+            and every_from (rule_good (word_at self.entry.tables.now) (word_at self.entry.terms.now)) 0 self.entry.rules) }
+    {
+        let mut at = 0;
+        for r in 0..self.rules {
+            let count = index(self.tables, RULE_COUNT + 5 * r);
+            if !link_good(index(self.tables, RULES + 5 * r), count, at, self.total) {
+                return false;
+            }
+            if !self.rule_good(r, at, at + count) {
+                return false;
+            }
+            at += count;
+        }
+        at == self.total
     }
 
     // The rules, and 0 beyond the last.
@@ -207,15 +201,19 @@ impl<'a> Counted<'a> {
             ≡ (rules_good (word_at self.entry.tables.now)
             and every_from (rule_good (word_at self.entry.tables.now) (word_at self.entry.terms.now)) 0 self.entry.rules) }
     {
-        rule_chain(self.tables, self.terms, self.rules, self.total)
-            & zeros(self.tables, RULES + 5 * self.rules, RULES_END)
+        self.rule_chain() & zeros(self.tables, RULES + 5 * self.rules, RULES_END)
     }
 
     // The locks: 0, 1 or 2 for each variable, 0 beyond the last.
     fn locks_good(self) -> bool
         ensures { result ≡ locks_good (word_at self.entry.tables.now) }
     {
-        locks(self.tables, self.variables) & zeros(self.tables, RULES_END + self.variables, ENDS)
+        self.section_good(
+            LOCKS,
+            |w|
+                ensures { result ≡ leb w 2 }
+            { w <= 2 },
+        )
     }
 }
 
@@ -262,5 +260,3 @@ pub fn good(tables: &[u8], terms: &[u8]) -> bool
     }
     order_good(tables, terms)
 }
-// 1
-// 2

@@ -10,7 +10,7 @@ use borrow.Author.Tests.{ltb-true, not-true, not-false, le-ltb, lt-ltb, lt-leb, 
 use Rattle.plpb.specs.Lists.{◌and◌}
 use Rattle.plpb.specs.Normal.{is_negative}
 use Rattle.words.specs.Words.{word_at, signed}
-use Rattle.order.specs.Order.{spelled, word_place}
+use Rattle.order.specs.Order.{Place, spelled, word_place}
 use Rattle.format.specs.Layout.{clause_count_at, clause_first_at, rule_count_at, rule_first_at}
 use Rattle.format.specs.Good.{place_good, word_good, entry_good}
 use Rattle.format.proofs.Bools.{and_left, and_right, and_first, and_false, and_stop, both}
@@ -20,6 +20,12 @@ use Rattle.ordered.specs.Ready.{Ready}
 module _ {tables terms : List ℕ} (y : Ready tables terms) where
   pub sound : Sound (word_at tables) (word_at terms)
   sound = good_sound (word_at tables) (word_at terms) y.base
+
+  pub few_variables : word_at tables 0 ≤ 512
+  few_variables = omega (arith, sound.variables)
+
+  pub few_terms : word_at tables 3 ≤ 6_000
+  few_terms = omega (arith, sound.terms)
 
 -- ---- a place that there is
 
@@ -74,6 +80,9 @@ module _ {tables terms : List ℕ} (y : Ready tables terms) where
         term = omega (arith, size, (rule_within f (word_at terms) s r below).1, s.terms);
       }
 
+  pub term_fits : (c r i : ℕ) {n : ℕ} → place_good (word_at tables) (record { clause = c; rule = r; term = i }) ≡ true → n ≡ word_at tables (rule_first_at r) → n + i < 6_000
+  term_fits c r i t e = omega (arith, e, (there {c = c} {r = r} {i = i} t).term)
+
 -- ---- its word
 
 pub word_told : (f g : ℕ → ℕ) (x least w c r i : ℕ) {first count named weight spelt : ℕ} {negated : Bool} → first ≡ f (rule_first_at r) → count ≡ f (clause_count_at c) → weight ≡ g (2 * (first + i) + 1) → negated ≡ is_negative (signed weight) → named ≡ g (2 * (first + i)) → spelt ≡ spelled (ltb 1 count) (record { clause = c; rule = r; term = i }) negated → ((eqb named x && leb least r) && eqb w spelt) ≡ word_good f g x least w (record { clause = c; rule = r; term = i })
@@ -92,15 +101,11 @@ pub goes : {b t : Bool} → b ≡ t → not b ≡ false → t ≡ true
 goes {b} h n = sym h ∙ not-false b n
 
 -- A word is tested by its place.
-module _ (f g : ℕ → ℕ) (x least w : ℕ) {c r i : ℕ} (e : c ≡ (word_place w).clause) (k : r ≡ (word_place w).rule) (l : i ≡ (word_place w).term) where
-  place_is : record { clause = c; rule = r; term = i } ≡ word_place w
-  unfolding word_place
-  place_is = λ j. record { clause = e j; rule = k j; term = l j }
-
-  pub entry_refused : {b : Bool} → b ≡ place_good f (record { clause = c; rule = r; term = i }) → not b ≡ true → false ≡ entry_good f g x least w
+module _ (f g : ℕ → ℕ) (x least w : ℕ) {q : Place} (e : q ≡ word_place w) where
+  pub entry_refused : {b : Bool} → b ≡ place_good f q → not b ≡ true → false ≡ entry_good f g x least w
   unfolding entry_good
-  entry_refused {b} h n = sym (and_stop _ _ (ap (place_good f) (sym place_is) ∙ sym h ∙ not-true b n))
+  entry_refused {b} h n = sym (and_stop _ _ (ap (place_good f) (sym e) ∙ sym h ∙ not-true b n))
 
-  pub entry_told : {b d : Bool} → b ≡ place_good f (record { clause = c; rule = r; term = i }) → not b ≡ false → d ≡ word_good f g x least w (record { clause = c; rule = r; term = i }) → d ≡ entry_good f g x least w
+  pub entry_told : {b d : Bool} → b ≡ place_good f q → not b ≡ false → d ≡ word_good f g x least w q → d ≡ entry_good f g x least w
   unfolding entry_good
-  entry_told {b} {d} h n m = m ∙ ap (word_good f g x least w) place_is ∙ sym (and_first _ _ (ap (place_good f) (sym place_is) ∙ goes h n))
+  entry_told {b} {d} h n m = m ∙ ap (word_good f g x least w) e ∙ sym (and_first _ _ (ap (place_good f) (sym e) ∙ goes h n))

@@ -5,20 +5,14 @@
 ghost use Rattle.std.specs.Prelude.{◌≡◌, true, ◌-◌, ◌≤◌, ◌<◌};
 ghost use Rattle.words.specs.Words.{word_at};
 ghost use Rattle.format.specs.Good.{every_from, place_good, word_good, entry_good, entries_from, run_good, order_good};
+ghost use Rattle.places.specs.Places.{place_of};
 ghost use Rattle.format.specs.Layout.{end_at};
 ghost use Rattle.ordered.specs.Ready.{Ready};
 
 use format::{CLAUSE_COUNT, CLAUSES, ENDS, ORDER, RULE_COUNT, RULES, TABLE_WORDS};
-use places::{clause_in, is_negative_word, rule_in, spell, term_in};
+use places::parts::Place;
+use places::{is_negative_word, rule_in};
 use words::{index, word, zeros};
-
-// What a word of the order names: a clause, a rule and a place among the rule's terms.
-#[derive(Clone, Copy)]
-struct Place {
-    clause: usize,
-    rule: usize,
-    term: usize,
-}
 
 // Tables whose base has passed its test, and the terms beside them.
 #[derive(Clone, Copy)]
@@ -30,10 +24,9 @@ struct Base<'a> {
 
 impl<'a> Base<'a> {
     // A place that there is.
+    #[tactic(auto, using(crate::proofs::Places::clause_fits))]
     fn place_good(self, place: Place) -> bool
-        requires { place.rule < 2_048 }
-        ensures { result
-            ≡ place_good (word_at self.entry.tables.now) (record { clause = place.clause; rule = place.rule; term = place.term }) }
+        ensures { result ≡ place_good (word_at self.entry.tables.now) (place_of place) }
     {
         let c = place.clause;
         let r = place.rule;
@@ -52,30 +45,23 @@ impl<'a> Base<'a> {
     }
 
     // The word of such a place in the run of x, where rules from `least` on may stand.
+    #[tactic(auto, using(crate::proofs::Places::there, crate::proofs::Places::term_fits))]
     fn word_good(self, x: u32, least: usize, w: u32, place: Place) -> bool
-        requires { (place.term < 512)
-            × (place_good (word_at self.tables.now) (record { clause = place.clause; rule = place.rule; term = place.term }) ≡ true) }
-        ensures { result
-            ≡ word_good (word_at self.entry.tables.now) (word_at self.entry.terms.now) x least w
-            (record { clause = place.clause; rule = place.rule; term = place.term }) }
+        requires { place_good (word_at self.tables.now) (place_of place) ≡ true }
+        ensures { result ≡ word_good (word_at self.entry.tables.now) (word_at self.entry.terms.now) x least w (place_of place) }
     {
         let c = place.clause;
         let r = place.rule;
-        let i = place.term;
-        let k = index(self.tables, RULES + 5 * r) + i;
+        let k = index(self.tables, RULES + 5 * r) + place.term;
         let several = 1 < index(self.tables, CLAUSE_COUNT + 2 * c);
         let negated = is_negative_word(word(self.terms, 2 * k + 1));
-        (word(self.terms, 2 * k) == x) & (least <= r) & (w == spell(several, c, r, i, negated))
+        (word(self.terms, 2 * k) == x) & (least <= r) & (w == place.spell(several, negated))
     }
 
     fn entry_good(self, x: u32, least: usize, w: u32) -> bool
         ensures { result ≡ entry_good (word_at self.entry.tables.now) (word_at self.entry.terms.now) x least w }
     {
-        let place = Place {
-            clause: clause_in(w),
-            rule: rule_in(w),
-            term: term_in(w),
-        };
+        let place = Place::of(w);
         if !self.place_good(place) {
             return false;
         }
@@ -83,6 +69,7 @@ impl<'a> Base<'a> {
     }
 
     // The entries of x from one on and before another: their rules rise.
+    #[tactic(auto, using(crate::proofs::Places::few_terms))]
     fn entries_good(self, x: u32, from: usize, to: usize) -> bool
         requires { (from ≤ to) × (to ≤ word_at self.tables.now 3) }
         ensures { result ≡ entries_from (word_at self.entry.tables.now) (word_at self.entry.terms.now) x 0 from (to - from) }
@@ -129,6 +116,7 @@ impl<'a> Base<'a> {
 }
 
 // The order: the first run begins at 0, the last ends where the terms do; unused entries 0.
+#[tactic(auto, using(crate::proofs::Places::few_variables, crate::proofs::Places::few_terms))]
 pub fn order_good(tables: &[u8], terms: &[u8]) -> bool
     requires { Ready tables.now terms.now }
     ensures { result ≡ order_good (word_at tables.now) (word_at terms.now) }

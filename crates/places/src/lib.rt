@@ -2,12 +2,16 @@
 // coefficient is negative. Quotients and remainders by powers of 2 are shifts and masks to the compiler.
 #![tactic(auto)]
 
-ghost use Rattle.std.specs.Prelude.{◌≡◌, cond, ◌≤◌, ◌<◌};
+ghost use Rattle.std.specs.Prelude.{◌≡◌};
 ghost use Rattle.plpb.specs.Normal.{is_negative};
 ghost use Rattle.words.specs.Words.{signed};
 ghost use Rattle.order.specs.Order.{spelled, word_place};
+ghost use Rattle.places.specs.Places.{place_of};
 
-use words::narrow;
+use crate::parts::Place;
+use words::{narrow, to_signed};
+
+pub mod parts;
 
 const RULE: u32 = 2; // the rule's number stands above the sign
 
@@ -40,23 +44,29 @@ pub fn term_in(w: u32) -> usize
 pub fn is_negative_word(weight: u32) -> bool
     ensures { result ≡ is_negative (signed weight) }
 {
-    2147483648 <= weight
+    to_signed(weight).is_negative()
 }
 
-fn if_so(test: bool, n: u32) -> u32
-    ensures { (result ≡ cond test n 0) × (result ≤ n) }
-{
-    if test { n } else { 0 }
-}
+impl Place {
+    // The place that a word tells.
+    pub fn of(w: u32) -> Place
+        ensures { place_of result ≡ word_place w }
+    {
+        Place {
+            clause: clause_in(w),
+            rule: rule_in(w),
+            term: term_in(w),
+        }
+    }
 
-// The word of a place.
-pub fn spell(several: bool, clause: usize, rule: usize, term: usize, negated: bool) -> u32
-    requires { (clause < 1_024) × (rule < 2_048) × (term < 512) }
-    ensures { result ≡ spelled several (record { clause = clause; rule = rule; term = term }) negated }
-{
-    if_so(several, SEVERAL)
-        + TERM * narrow(term)
-        + CLAUSE * narrow(clause)
-        + RULE * narrow(rule)
-        + if_so(negated, 1)
+    // The word of a place, with what is asked of it first.
+    pub fn spell(self, several: bool, negated: bool) -> u32
+        ensures { result ≡ spelled several (place_of self) negated }
+    {
+        SEVERAL * u32::from(several)
+            + TERM * narrow(self.term)
+            + CLAUSE * narrow(self.clause)
+            + RULE * narrow(self.rule)
+            + u32::from(negated)
+    }
 }

@@ -3,7 +3,7 @@
 use Prim.Native.Nat.{ℕ, zero, suc, ◌+◌, ◌*◌, ◌-◌, ◌/◌, ◌≤◌, ◌<◌}
 use native.Mathlib.Omega.{arith}
 use native.Mathlib.Nat.{add-zero}
-use native.Mathlib.Numerals.{one-add}
+use native.Mathlib.Numerals.{add-one, one-add}
 use native.Mathlib.Decide.{dec_lt, ℕ_discrete}
 use mathlib.Core.Path.{◌≡◌, refl, sym, ap, ap₂, ◌∙◌, subst}
 use mathlib.Core.Bool.{Bool, true, false, cond}
@@ -30,7 +30,7 @@ use Rattle.format.proofs.Locks.{lock_dense}
 use Rattle.tables.specs.Places.{behind_objective, behind_field, locks_in}
 use Rattle.tables.specs.Sections.{objective_words, lock_words, placed, in_range}
 use Rattle.bodies.proofs.Tags.{tag_byte}
-use Rattle.tables.proofs.Entered.{one_less, none_left, all_left, terms_more}
+use Rattle.tables.proofs.Entered.{one_less, none_left, all_left}
 use Rattle.tables.proofs.Found.{begun_file, begun_front}
 use Rattle.tables.proofs.Filled.{lawful_file}
 
@@ -155,9 +155,6 @@ pub record Placing (ts : List Term) (o : List ℕ) (left : List Term) (t : List 
 pub placing_start : (ts : List Term) (o : List ℕ) → in_range ts ≡ true → length o ≡ 2_048 → Placing ts o ts o
 placing_start ts o r n = record { whole = refl; range = r; long = n; same = refl }
 
-pub placing_first : (ts left : List Term) (o : List ℕ) → left ≡ ts → in_range ts ≡ true → length o ≡ 2_048 → Placing ts o left o
-placing_first ts left o e r n = subst (λ (l : List Term). Placing ts o l o) (sym e) (placing_start ts o r n)
-
 module _ {ts : List Term} {o : List ℕ} {left : List Term} {t : List ℕ} (h : Placing ts o left t) where
   module _ (x : Term) (rest : List Term) (e : left ≡ x ∷ rest) where
     range_here : in_range (x ∷ rest) ≡ true
@@ -184,65 +181,80 @@ module _ {ts : List Term} {o : List ℕ} {left : List Term} {t : List ℕ} (h : 
   unfolding placed
   placing_end e = ap (λ (l : List Term). placed l t) (sym e) ∙ h.whole
 
--- The terms left of a field, and of the locks of one.
-module _ (s : List ℕ) (from count i : ℕ) where
-  pub terms_left_lem : i < count → terms_at s (from + 6 * i) (count - i) ≡ term_at s (from + 6 * i) ∷ terms_at s (from + 6 * (i + 1)) (count - (i + 1))
-  unfolding terms_at
-  terms_left_lem h = terms_more s (from + 6 * i) (one_less h) (omega arith)
+-- A field's terms, and the locks of one, by their places.
+terms_row : (s : List ℕ) (from i k : ℕ) → map (λ j. term_at s (from + 6 * j)) (row i k) ≡ terms_at s (from + 6 * i) k
+unfolding row terms_at
+terms_row s from i zero = refl
+terms_row s from i (suc k) =
+    ap (λ (ts : List Term). term_at s (from + 6 * i) ∷ ts)
+    (terms_row s from (suc i) k ∙ ap (λ (a : ℕ). terms_at s a k) (let e : from + 6 * suc i ≡ from + 6 * i + 6 = omega arith in e))
 
-  pub no_terms_left : count ≤ i → terms_at s (from + 6 * i) (count - i) ≡ []
-  unfolding terms_at
-  no_terms_left h = ap (terms_at s (from + 6 * i)) (none_left h)
+terms_by_place : (s : List ℕ) (from k : ℕ) → map (λ j. term_at s (from + 6 * j)) (row 0 k) ≡ terms_at s from k
+terms_by_place s from k = terms_row s from 0 k ∙ ap (λ (a : ℕ). terms_at s a k) (let e : from + 6 * 0 ≡ from = omega arith in e)
 
-  pub locks_left :
-      i < count → map lock_term (lock_entries s (from + 3 * i) (count - i))
-      ≡ lock_term (lock_entry s (from + 3 * i)) ∷ map lock_term (lock_entries s (from + 3 * (i + 1)) (count - (i + 1)))
-  unfolding lock_entries
-  locks_left h =
-      ap (λ (k : ℕ). map lock_term (lock_entries s (from + 3 * i) k)) (one_less h)
-      ∙ ap (λ (a : ℕ). lock_term (lock_entry s (from + 3 * i)) ∷ map lock_term (lock_entries s a (count - (i + 1)))) next_lock
-    where
-      next_lock : from + 3 * i + 3 ≡ from + 3 * (i + 1)
-      next_lock = omega arith
+locks_row : (s : List ℕ) (from i k : ℕ) → map (λ j. lock_term (lock_entry s (from + 3 * j))) (row i k) ≡ map lock_term (lock_entries s (from + 3 * i) k)
+unfolding row lock_entries
+locks_row s from i zero = refl
+locks_row s from i (suc k) =
+    ap (λ (ts : List Term). lock_term (lock_entry s (from + 3 * i)) ∷ ts)
+    (locks_row s from (suc i) k ∙ ap (λ (a : ℕ). map lock_term (lock_entries s a k)) (let e : from + 3 * suc i ≡ from + 3 * i + 3 = omega arith in e))
 
-  pub no_locks_left : count ≤ i → map lock_term (lock_entries s (from + 3 * i) (count - i)) ≡ []
-  unfolding lock_entries
-  no_locks_left h = ap (λ (k : ℕ). map lock_term (lock_entries s (from + 3 * i) k)) (none_left h)
+locks_by_place : (s : List ℕ) (from k : ℕ) → map (λ j. lock_term (lock_entry s (from + 3 * j))) (row 0 k) ≡ map lock_term (lock_entries s from k)
+locks_by_place s from k = locks_row s from 0 k ∙ ap (λ (a : ℕ). map lock_term (lock_entries s a k)) (let e : from + 3 * 0 ≡ from = omega arith in e)
 
-pub terms_first : (s : List ℕ) (from count : ℕ) → terms_at s (from + 6 * 0) (count - 0) ≡ terms_at s from count
-terms_first s from count = ap₂ (terms_at s) first_place (all_left count)
-  where
-    first_place : from + 6 * 0 ≡ from
-    first_place = omega arith
+-- Each of terms that have their places has one.
+range_by : (g : ℕ → Term) (i j : ℕ) → Dec (i ≡ j) → (1 ≤ (g i).variable) × ((g i).variable ≤ 512)
+    → ((i ≡ j → ⊥) → (1 ≤ (g j).variable) × ((g j).variable ≤ 512)) → (1 ≤ (g j).variable) × ((g j).variable ≤ 512)
+range_by g i j (yes e) h f = subst (λ (n : ℕ). (1 ≤ (g n).variable) × ((g n).variable ≤ 512)) e h
+range_by g i j (no q) h f = f q
 
-pub locks_first : (s : List ℕ) (from count : ℕ) → map lock_term (lock_entries s (from + 3 * 0) (count - 0)) ≡ map lock_term (lock_entries s from count)
-locks_first s from count = ap₂ (λ (a k : ℕ). map lock_term (lock_entries s a k)) first_place (all_left count)
-  where
-    first_place : from + 3 * 0 ≡ from
-    first_place = omega arith
+range_at : (g : ℕ → Term) (i k j : ℕ) → in_range (map g (row i k)) ≡ true → i ≤ j → j < i + k → (1 ≤ (g j).variable) × ((g j).variable ≤ 512)
+unfolding row
+range_at g i zero j h low high = absurd (omega arith)
+range_at g i (suc k) j h low high =
+    range_by g i j (ℕ_discrete i j) (ranged (g i) (map g (row (suc i) k)) h)
+    (λ q. range_at g (suc i) k j (range_rest (g i) (map g (row (suc i) k)) h) (omega (arith, q)) (omega arith))
 
--- What is written for a term, and for a lock.
-pub term_written :
-    (s : List ℕ) (at : ℕ) (t u : List ℕ) → Below 256 s → u ≡ put (4 * (num_at 2 s at - 1)) (bytes_of 4 (num_at 4 s (at + 2))) t
-    → u ≡ put (4 * ((term_at s at).variable - 1)) (bytes_of 4 (unsigned (term_at s at).weight)) t
+range_of : (g : ℕ → Term) (n i : ℕ) {x : ℕ} → in_range (map g (row 0 n)) ≡ true → i < n → x ≡ (g i).variable → (1 ≤ x) × (x ≤ 512)
+range_of g n i h l p = let (a, b) = range_at g 0 n i h (omega arith) (omega arith) in (omega (arith, p), omega (arith, p))
+
+-- Terms written one after the other: what those left would still write is what all write over the first.
+module _ (g : ℕ → Term) (n : ℕ) (o : List ℕ) where
+  unfoldable pub Laying : ℕ → List ℕ → Type 0
+  Laying i t = placed (map g (row i (n - i))) t ≡ placed (map g (row 0 n)) o
+
+  pub laying_start : Laying 0 o
+  unfolding Laying
+  laying_start = ap (λ (k : ℕ). placed (map g (row 0 k)) o) (all_left n)
+
+  module _ (i : ℕ) (t : List ℕ) (h : Laying i t) where
+    pub laying_more : {x v : ℕ} (u : List ℕ) → i < n → x ≡ (g i).variable → v ≡ unsigned (g i).weight → u ≡ put (4 * (x - 1)) (bytes_of 4 v) t → Laying (i + 1) u
+    unfolding Laying placed row
+    laying_more {x} {v} u l p q e =
+        ap (placed (map g (row (i + 1) (n - (i + 1))))) (e ∙ ap₂ (λ (a b : ℕ). put (4 * (a - 1)) (bytes_of 4 b) t) p q)
+        ∙ ap (λ (a : ℕ). placed (map g (row a (n - (i + 1)))) (put (4 * ((g i).variable - 1)) (bytes_of 4 (unsigned (g i).weight)) t)) (add-one i)
+        ∙ sym (ap (λ (k : ℕ). placed (map g (row i k)) t) (one_less l))
+        ∙ h
+
+    pub laying_end : n ≤ i → t ≡ placed (map g (row 0 n)) o
+    unfolding Laying placed row
+    laying_end l = sym (ap (λ (k : ℕ). placed (map g (row i k)) t) (none_left l)) ∙ h
+
+-- What is read of a term, and of a lock.
+pub term_lays : (s : List ℕ) (at : ℕ) {x v : ℕ} → x ≡ num_at 2 s at → v ≡ num_at 4 s (at + 2) → Below 256 s → (x ≡ (term_at s at).variable) × (v ≡ unsigned (term_at s at).weight)
 unfolding term_at
-term_written s at t u b e =
-    e ∙ ap (λ (v : ℕ). put (4 * (num_at 2 s at - 1)) (bytes_of 4 v) t) (sym (unsigned_signed (num_at 4 s (at + 2)) (num_at_lt 4 s (at + 2) b)))
+term_lays s at p q b = (p, q ∙ sym (unsigned_signed (num_at 4 s (at + 2)) (num_at_lt 4 s (at + 2) b)))
 
 lock_weight : (b : Bool) → cond b 2 1 ≡ unsigned (cond b (pos 2) (pos 1))
 unfolding unsigned
 lock_weight true = refl
 lock_weight false = refl
 
-pub value_byte : (s : List ℕ) (at : ℕ) → get_or s at 0 ≡ num_at 1 s at
-unfolding tag_at
-value_byte s at = tag_byte s at
-
-pub lock_written :
-    (s : List ℕ) (at : ℕ) (t u : List ℕ) → u ≡ put (4 * (num_at 2 s at - 1)) (bytes_of 4 (cond (eqb (num_at 1 s (at + 2)) 1) 2 1)) t
-    → u ≡ put (4 * ((lock_term (lock_entry s at)).variable - 1)) (bytes_of 4 (unsigned (lock_term (lock_entry s at)).weight)) t
-unfolding lock_term lock_entry
-lock_written s at t u e = e ∙ ap (λ (v : ℕ). put (4 * (num_at 2 s at - 1)) (bytes_of 4 v) t) (lock_weight (eqb (num_at 1 s (at + 2)) 1))
+pub lock_lays :
+    (s : List ℕ) (at : ℕ) {x v : ℕ} → x ≡ num_at 2 s at → v ≡ cond (eqb (get_or s (at + 2) 0) 1) 2 1
+    → (x ≡ (lock_term (lock_entry s at)).variable) × (v ≡ unsigned (lock_term (lock_entry s at)).weight)
+unfolding lock_term lock_entry tag_at
+lock_lays s at p q = (p, q ∙ ap (λ (m : ℕ). cond (eqb m 1) 2 1) (tag_byte s (at + 2)) ∙ lock_weight (eqb (num_at 1 s (at + 2)) 1))
 
 -- The objective of an accepted file.
 module _ (s : List ℕ) (p : Plan) (a : read s ≡ accepted p) (k : ℕ) (e : k ≡ num_at 2 s 6) where
@@ -254,19 +266,23 @@ module _ (s : List ℕ) (p : Plan) (a : read s ≡ accepted p) (k : ℕ) (e : k 
   unfolding behind_objective length_at
   objective_room = omega (arith, e, begun_front s p a)
 
-  pub objective_range : in_range (terms_at s 8 (k / 6)) ≡ true
+  objective_range : in_range (terms_at s 8 (k / 6)) ≡ true
   unfolding rising
   objective_range =
       let q = lawful_file s p a in
       ap in_range (sym objective_terms) ∙ lawful_range p.variables 0 p.objective q.high q.objective.rise q.objective.within
 
+  pub objective_ranged : (i : ℕ) {x : ℕ} → i < k / 6 → x ≡ (term_at s (8 + 6 * i)).variable → (1 ≤ x) × (x ≤ 512)
+  objective_ranged i = range_of (λ j. term_at s (8 + 6 * j)) (k / 6) i (ap in_range (terms_by_place s 8 (k / 6)) ∙ objective_range)
+
   pub objective_done :
-      (o t u : List ℕ) → length o ≡ 2_048 → t ≡ replicate (length o) 0 → u ≡ placed (terms_at s 8 (k / 6)) t → u ≡ word_bytes (objective_words p)
+      (o t u : List ℕ) → length o ≡ 2_048 → t ≡ replicate (length o) 0 → u ≡ placed (map (λ j. term_at s (8 + 6 * j)) (row 0 (k / 6))) t
+      → u ≡ word_bytes (objective_words p)
   unfolding objective_words
   objective_done o t u n c r =
       let q = lawful_file s p a in
       r
-      ∙ ap (λ (ts : List Term). placed ts t) (sym objective_terms)
+      ∙ ap (λ (ts : List Term). placed ts t) (terms_by_place s 8 (k / 6) ∙ sym objective_terms)
       ∙ ap (placed p.objective) (c ∙ ap (λ (m : ℕ). replicate m 0) n)
       ∙ dense p.variables p.objective (λ x. unsigned (coefficient p.objective x)) q.high q.objective (λ x l. refl)
 
@@ -291,19 +307,22 @@ module _ (s : List ℕ) (p : Plan) (a : read s ≡ accepted p) (at k : ℕ) (pla
   unfolding behind_field
   locks_room = omega (arith, e, in_field _ refl, ap (λ (n : ℕ). n + 3 + length_at s n) place, (begun_file s p a).body)
 
-  pub locks_range : in_range (map lock_term (lock_entries s (at + 3) k)) ≡ true
+  locks_range : in_range (map lock_term (lock_entries s (at + 3) k)) ≡ true
   unfolding rising
   locks_range =
       let q = lawful_file s p a in
       ap in_range (sym locks_terms) ∙ lawful_range p.variables 0 (lock_terms p) q.high q.locks.rise q.locks.within
 
+  pub locks_ranged : (i : ℕ) {x : ℕ} → i < k → x ≡ (lock_term (lock_entry s (at + 3 + 3 * i))).variable → (1 ≤ x) × (x ≤ 512)
+  locks_ranged i = range_of (λ j. lock_term (lock_entry s (at + 3 + 3 * j))) k i (ap in_range (locks_by_place s (at + 3) k) ∙ locks_range)
+
   pub locks_done :
-      (o t u : List ℕ) → length o ≡ 2_048 → t ≡ replicate (length o) 0 → u ≡ placed (map lock_term (lock_entries s (at + 3) k)) t
+      (o t u : List ℕ) → length o ≡ 2_048 → t ≡ replicate (length o) 0 → u ≡ placed (map (λ j. lock_term (lock_entry s (at + 3 + 3 * j))) (row 0 k)) t
       → u ≡ word_bytes (lock_words p)
   unfolding lock_words
   locks_done o t u n c r =
       let q = lawful_file s p a in
       r
-      ∙ ap (λ (ts : List Term). placed ts t) (sym locks_terms)
+      ∙ ap (λ (ts : List Term). placed ts t) (locks_by_place s (at + 3) k ∙ sym locks_terms)
       ∙ ap (placed (lock_terms p)) (c ∙ ap (λ (m : ℕ). replicate m 0) n)
       ∙ dense p.variables (lock_terms p) (λ x. lock_word (lock_of p x)) q.high q.locks (λ x l. lock_dense p x q.locks.within l)

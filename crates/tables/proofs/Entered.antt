@@ -1,10 +1,10 @@
 -- Laws of entries: the words that the code writes for a rule and for terms are those of the definitions.
 -- Assumes nothing.
-use Prim.Native.Nat.{ℕ, suc, ◌+◌, ◌*◌, ◌-◌, ◌≤◌, ◌<◌}
+use Prim.Native.Nat.{ℕ, suc, ◌+◌, ◌*◌, ◌-◌, ◌/◌, ◌≤◌, ◌<◌}
 use native.Mathlib.Omega.{arith}
 use mathlib.Core.Path.{◌≡◌, refl, sym, ap, ap₂, ◌∙◌}
 use mathlib.Core.List.{List, [], ◌∷◌, ◌++◌, append_assoc, append-nil}
-use lib.ListN.{length, get_or, length-append, take}
+use lib.ListN.{length, get_or, length-append, take, drop, length-drop}
 use borrow.Rule.Slice.PartMut.{mid_of, put_mid}
 use Rattle.plpb.specs.Plan.{Term, Rule}
 use Rattle.words.specs.Words.{num_at, word_bytes, signed, unsigned}
@@ -20,6 +20,7 @@ use Rattle.format.proofs.Peel.{length_terms_at}
 use Rattle.format.proofs.Sections.{length_term_entries}
 use Rattle.tables.specs.Places.{RuleHere, behind_field}
 use Rattle.bodies.proofs.Tags.{tag_byte}
+use Rattle.bodies.proofs.Parts.{terms_part}
 
 -- A field's length has two bytes.
 pub size_small : (s : List ℕ) (at : ℕ) → Below 256 s → terms_in 4 (length_at s at) < 4_294_967_296
@@ -119,29 +120,38 @@ terms_none s at e = ap (terms_at s at) e
 pub front_long : (o : List ℕ) (ts : List Term) → 8 * length ts ≤ length o → length (front (word_bytes (term_entries ts)) o) ≡ length o
 front_long o ts h = length_front (word_bytes (term_entries ts)) o (omega (arith, length_word_bytes (term_entries ts), length_term_entries ts))
 
+-- The terms of a rule, in the part of the file that they are.
+pub rule_part :
+    (s : List ℕ) (from count : ℕ) {b : ℕ} → b ≡ from + 6 * count → b ≤ length s
+    → (length (take (b - from) (drop from s)) / 6 ≡ count) × (terms_at (take (b - from) (drop from s)) 0 (length (take (b - from) (drop from s)) / 6) ≡ terms_at s from count)
+rule_part s from count {b} e l =
+    let n : length (take (b - from) (drop from s)) ≡ 6 * count = length-take-le (b - from) (drop from s) (omega (arith, length-drop from s)) ∙ (let m : b - from ≡ 6 * count = omega arith in m) in
+    let k : length (take (b - from) (drop from s)) / 6 ≡ count = omega (arith, n) in
+    (k, terms_part s from (b - from) _ (omega (arith, k, e)) ∙ ap (terms_at s from) k)
+
 -- Terms of a field written one behind the other.
-pub record Written (s : List ℕ) (from count : ℕ) (o : List ℕ) (i : ℕ) (t : List ℕ) : Type 0 where
+pub record Written (s : List ℕ) (count : ℕ) (o : List ℕ) (i : ℕ) (t : List ℕ) : Type 0 where
   pub done : List Term
   pub filled : t ≡ front (word_bytes (term_entries done)) o
   pub many : length done ≡ i
-  pub rest : done ++ terms_at s (from + 6 * i) (count - i) ≡ terms_at s from count
+  pub rest : done ++ terms_at s (6 * i) (count - i) ≡ terms_at s 0 count
   pub same : length t ≡ length o
 
-pub written_start : (s : List ℕ) (from count : ℕ) (o : List ℕ) → Written s from count o 0 o
+pub written_start : (s : List ℕ) (count : ℕ) (o : List ℕ) → Written s count o 0 o
 unfolding term_entries word_bytes
-written_start s from count o =
+written_start s count o =
     record { done = []; filled = sym (front_none o); many = refl; rest = ap₂ (terms_at s) first_place (all_left count); same = refl }
   where
-    first_place : from + 6 * 0 ≡ from
-    first_place = omega arith
+    first_place : 6 * 0 ≡ 0
+    first_place = refl
 
-module _ {s : List ℕ} {from count : ℕ} {o : List ℕ} {i : ℕ} {t : List ℕ} (h : Written s from count o i t) where
+module _ {s : List ℕ} {count : ℕ} {o : List ℕ} {i : ℕ} {t : List ℕ} (h : Written s count o i t) where
   pub written_more :
       (ys : List ℕ) → i < count → 8 * count ≤ length o
-      → ys ≡ front (word_bytes (term_entries (term_at s (from + 6 * i) ∷ []))) (mid_of (8 * i) (length t - 8 * i) t)
-      → Written s from count o (i + 1) (put_mid (8 * i) (length t - 8 * i) t ys)
+      → ys ≡ front (word_bytes (term_entries (term_at s (6 * i) ∷ []))) (mid_of (8 * i) (length t - 8 * i) t)
+      → Written s count o (i + 1) (put_mid (8 * i) (length t - 8 * i) t ys)
   written_more ys l space e =
-      let x = term_at s (from + 6 * i) in
+      let x = term_at s (6 * i) in
       let f = terms_lent o t h.done (x ∷ []) (8 * i) ys h.filled (omega (arith, h.many)) (omega (arith, space, l, h.same)) e in
       let n : length (h.done ++ (x ∷ [])) ≡ length h.done + 1 = length-append h.done (x ∷ []) in
       record {
@@ -149,14 +159,14 @@ module _ {s : List ℕ} {from count : ℕ} {o : List ℕ} {i : ℕ} {t : List �
         filled = f;
         many = omega (arith, n, h.many);
         rest =
-            append_assoc h.done (x ∷ []) (terms_at s (from + 6 * (i + 1)) (count - (i + 1)))
-            ∙ ap (λ (l : List Term). h.done ++ l) (sym (terms_more s (from + 6 * i) (one_less l) (omega arith)))
+            append_assoc h.done (x ∷ []) (terms_at s (6 * (i + 1)) (count - (i + 1)))
+            ∙ ap (λ (l : List Term). h.done ++ l) (sym (terms_more s (6 * i) (one_less l) (omega arith)))
             ∙ h.rest;
         same = ap length f ∙ front_long o (h.done ++ (x ∷ [])) (omega (arith, n, h.many, l, space));
       }
 
-  pub written_end : count ≤ i → t ≡ front (word_bytes (term_entries (terms_at s from count))) o
+  pub written_end : count ≤ i → t ≡ front (word_bytes (term_entries (terms_at s 0 count))) o
   written_end l =
       h.filled
       ∙ ap (λ (ts : List Term). front (word_bytes (term_entries ts)) o)
-      (sym (append-nil h.done) ∙ ap (λ (ts : List Term). h.done ++ ts) (sym (terms_none s (from + 6 * i) (none_left l))) ∙ h.rest)
+      (sym (append-nil h.done) ∙ ap (λ (ts : List Term). h.done ++ ts) (sym (terms_none s (6 * i) (none_left l))) ∙ h.rest)

@@ -1,5 +1,5 @@
 // The entries of the tables, each written at the front of the part that is lent.
-ghost use Rattle.std.specs.Prelude.{◌≡◌, ◌+◌, ◌*◌, ◌≤◌, ◌<◌, [], ◌∷◌, length};
+ghost use Rattle.std.specs.Prelude.{◌≡◌, ◌+◌, ◌*◌, ◌/◌, ◌≤◌, ◌<◌, [], ◌∷◌, length};
 ghost use Rattle.words.specs.Words.{word_bytes};
 ghost use Rattle.words.specs.Writes.{front};
 ghost use Rattle.format.specs.File.{term_at, terms_at, rule_at};
@@ -71,11 +71,11 @@ fn put_term(file: &[u8], at: usize, out: &mut [u8])
 }
 
 // "each rule's terms are written into the term table after those of the rules before it": out begins where those end.
-pub fn put_terms(file: &[u8], from: usize, count: usize, out: &mut [u8])
-    requires { (from + 6 * count ≤ length file.now) × (8 * count ≤ length out.old) }
-    ensures { out.new ≡ front (word_bytes (term_entries (terms_at file.now from count))) out.old }
+pub fn put_terms(terms: &[u8], out: &mut [u8])
+    requires { 8 * (length terms.now / 6) ≤ length out.old }
+    ensures { out.new ≡ front (word_bytes (term_entries (terms_at terms.now 0 (length terms.now / 6)))) out.old }
 {
-    for i in 0..count {
-        put_term(file, from + 6 * i, &mut out[8 * i..]);
+    for i in 0..terms.len() / 6 {
+        put_term(terms, 6 * i, &mut out[8 * i..]);
     }
 }

@@ -3,6 +3,8 @@ ghost use Rattle.std.specs.Prelude.{◌≡◌, ◌+◌, ◌≤◌, length};
 ghost use Rattle.format.specs.File.{terms_in, length_at};
 ghost use Rattle.tables.specs.Places.{Reads, behind_objective, locks_in, first_clause, behind_field, rule_from, first_rule, next_rule, Ran};
 
+use format::Tag;
+
 // Where the field of locks stands, or what comes behind it: behind the fields 01 and 02.
 pub fn behind_objective(file: &[u8]) -> usize
     requires { behind_objective file.now ≤ length file.now }
@@ -16,7 +18,7 @@ pub fn locks_of(file: &[u8], at: usize) -> usize
     requires { at + 3 ≤ length file.now }
     ensures { result ≡ locks_in file.now at }
 {
-    if file[at] == 6 {
+    if file[at] == Tag::Locks as u8 {
         words::read_size(file, at + 1) / 3
     } else {
         0
@@ -37,7 +39,11 @@ pub fn first_clause(file: &[u8]) -> usize
     ensures { result ≡ first_clause file.now }
 {
     let at = behind_objective(file);
-    if file[at] == 6 { after(file, at) } else { at }
+    if file[at] == Tag::Locks as u8 {
+        after(file, at)
+    } else {
+        at
+    }
 }
 
 // A clause's first rule, or the place itself, where a rule or the end stands.
@@ -45,7 +51,11 @@ pub fn rule_from(file: &[u8], at: usize) -> usize
     requires { at + 3 ≤ length file.now }
     ensures { result ≡ rule_from file.now at }
 {
-    if file[at] == 3 { at + 3 } else { at }
+    if file[at] == Tag::Clause as u8 {
+        at + 3
+    } else {
+        at
+    }
 }
 
 // The first rule of a file, or the end.
@@ -85,7 +95,7 @@ pub fn clause_run(file: &[u8], from: usize) -> Run
 {
     let mut at = from;
     let mut rules = 0;
-    while file[at] == 4 {
+    while file[at] == Tag::Rule as u8 {
         at = after(file, at);
         rules += 1;
     }

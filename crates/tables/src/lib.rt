@@ -18,9 +18,9 @@ use verdict::Refusal;
 
 // A file that was judged lawful.
 #[derive(Clone, Copy)]
-struct Lawful<'a> {
-    file: &'a [u8],
-    ghost accepts: { Accepts file.now },
+pub struct Lawful<'a> {
+    pub file: &'a [u8],
+    pub ghost accepts: { Accepts file.now },
 }
 
 impl<'a> Lawful<'a> {

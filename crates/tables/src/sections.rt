@@ -1,32 +1,35 @@
 // The sections of the tables, filled from a file that was judged lawful. Each is lent whole and filled to its end: "unused entries are 0".
-ghost use Rattle.std.specs.Prelude.{◌≡◌, true, cond, map, eqb, ◌+◌, ◌*◌, ◌-◌, ◌≤◌, length};
+ghost use Rattle.std.specs.Prelude.{◌≡◌, ℕ, cond, map, eqb, ◌+◌, ◌*◌, ◌≤◌, ◌<◌, length};
+ghost use Rattle.plpb.specs.Lists.{row};
+ghost use Rattle.plpb.specs.Plan.{Term};
 ghost use Rattle.plpb.specs.Tallies.{rules_of};
-ghost use Rattle.words.specs.Words.{num_at, bytes_of, word_bytes};
-ghost use Rattle.words.specs.Writes.{put};
+ghost use Rattle.words.specs.Words.{word_bytes};
 ghost use Rattle.format.specs.Limits.{lock_term, term_count};
-ghost use Rattle.format.specs.File.{terms_at, lock_entries};
+ghost use Rattle.format.specs.File.{term_at, lock_entry};
 ghost use Rattle.format.specs.Tables.{term_words};
 ghost use Rattle.tables.specs.Places.{Accepts, plan_of_file};
-ghost use Rattle.tables.specs.Sections.{objective_words, clause_words, rule_words, lock_words, placed, in_range};
+ghost use Rattle.tables.specs.declared.sections.Entry.{Entry};
+ghost use Rattle.tables.specs.Sections.{objective_words, clause_words, rule_words, lock_words, placed, Lays};
 ghost use Rattle.format.specs.Layout.{clause_section_size, rule_section_size, term_size};
 
 use crate::{Lawful, entries, fields};
+use format::Tag;
 
-fn put_coefficient(file: &[u8], at: usize, out: &mut [u8])
-    requires { (at + 6 ≤ length file.now) × (1 ≤ num_at 2 file.now at) × (num_at 2 file.now at ≤ 512) × (length out.old ≡ 2_048) }
-    ensures { out.new
-        ≡ put (4 * (num_at 2 file.now at - 1)) (bytes_of 4 (num_at 4 file.now (at + 2))) out.old }
-{
-    let place = 4 * (words::read_size(file, at) - 1);
-    words::write_u32(out, place, words::read_u32(file, at + 2));
+// What an entry of a field lays in a section that has a word for each variable.
+#[derive(Clone, Copy)]
+struct Entry {
+    variable: usize,
+    word: u32,
 }
 
-fn put_coefficients(file: &[u8], from: usize, count: usize, out: &mut [u8])
-    requires { (from + 6 * count ≤ length file.now) × (in_range (terms_at file.now from count) ≡ true) × (length out.old ≡ 2_048) }
-    ensures { out.new ≡ placed (terms_at file.now from count) out.old }
+// The coefficient at a place.
+fn coefficient(file: &[u8], at: usize) -> Entry
+    requires { at + 6 ≤ length file.now }
+    ensures { Lays result (term_at file.now at) }
 {
-    for i in 0..count {
-        put_coefficient(file, from + 6 * i, out);
+    Entry {
+        variable: words::read_size(file, at),
+        word: words::read_u32(file, at + 2),
     }
 }
 
@@ -37,22 +40,27 @@ fn lock_word(value: u8) -> u32
     if value == 1 { 2 } else { 1 }
 }
 
-fn put_lock(file: &[u8], at: usize, out: &mut [u8])
-    requires { (at + 3 ≤ length file.now) × (1 ≤ num_at 2 file.now at) × (num_at 2 file.now at ≤ 512) × (length out.old ≡ 2_048) }
-    ensures { out.new
-        ≡ put (4 * (num_at 2 file.now at - 1)) (bytes_of 4 (cond (eqb (num_at 1 file.now (at + 2)) 1) 2 1)) out.old }
+// The lock at a place.
+fn lock(file: &[u8], at: usize) -> Entry
+    requires { at + 3 ≤ length file.now }
+    ensures { Lays result (lock_term (lock_entry file.now at)) }
 {
-    let variable = words::read_size(file, at);
-    words::write_u32(out, 4 * (variable - 1), lock_word(file[at + 2]));
+    Entry {
+        variable: words::read_size(file, at),
+        word: lock_word(file[at + 2]),
+    }
 }
 
-fn put_locks(file: &[u8], from: usize, count: usize, out: &mut [u8])
-    requires { (from + 3 * count ≤ length file.now) × (in_range (map lock_term (lock_entries file.now from count)) ≡ true)
-        × (length out.old ≡ 2_048) }
-    ensures { out.new ≡ placed (map lock_term (lock_entries file.now from count)) out.old }
+// The words of n entries, each at its variable's place.
+fn put_words<F: Fn(usize) -> Entry>(n: usize, entry: F, out: &mut [u8])
+    requires callable { (i : ℕ) → i < n → F.pre entry i }
+    requires ranged { (i : ℕ) (r : Entry) → i < n → F.post entry i r → (1 ≤ r.variable) × (r.variable ≤ 512) }
+    requires out_len { length out.old ≡ 2_048 }
+    ensures { (g : ℕ → Term) → ((i : ℕ) (r : Entry) → i < n → F.post entry i r → Lays r (g i)) → out.new ≡ placed (map g (row 0 n)) out.old }
 {
-    for i in 0..count {
-        put_lock(file, from + 3 * i, out);
+    for i in 0..n {
+        let laid = entry(i);
+        words::write_u32(out, 4 * (laid.variable - 1), laid.word);
     }
 }
 
@@ -70,7 +78,14 @@ impl<'a> Lawful<'a> {
     {
         let file = self.file;
         words::clear(out);
-        put_coefficients(file, 8, words::read_size(file, 6) / 6, out);
+        put_words(
+            words::read_size(file, 6) / 6,
+            |i|
+                requires { 8 + 6 * i + 6 ≤ length file.now }
+                ensures { Lays result (term_at file.entry.now (8 + 6 * i)) }
+            { coefficient(file, 8 + 6 * i) },
+            out,
+        );
     }
 
     // The locks, a word for each variable.
@@ -81,7 +96,14 @@ impl<'a> Lawful<'a> {
         let file = self.file;
         words::clear(out);
         let at = fields::behind_objective(file);
-        put_locks(file, at + 3, fields::locks_of(file, at), out);
+        put_words(
+            fields::locks_of(file, at),
+            |i|
+                requires { at + 3 + 3 * i + 3 ≤ length file.now }
+                ensures { Lays result (lock_term (lock_entry file.entry.now (at + 3 + 3 * i))) }
+            { lock(file, at + 3 + 3 * i) },
+            out,
+        );
     }
 
     // The clauses; it answers how many there are.
@@ -94,7 +116,7 @@ impl<'a> Lawful<'a> {
         let mut at = fields::first_clause(file);
         let mut clauses = 0;
         let mut first = 0;
-        while file[at] == 3 {
+        while file[at] == Tag::Clause as u8 {
             let run = fields::clause_run(file, at + 3);
             let place = 8 * clauses;
             let rules = run.rules;
@@ -118,7 +140,7 @@ impl<'a> Lawful<'a> {
         let mut at = fields::first_rule(file);
         let mut rules = 0;
         let mut first = 0;
-        while file[at] == 4 {
+        while file[at] == Tag::Rule as u8 {
             let place = 20 * rules;
             entries::put_rule(file, at, first, &mut out[place..]);
             first += fields::terms_of(file, at);
@@ -141,9 +163,10 @@ impl<'a> Lawful<'a> {
         let file = self.file;
         let mut at = fields::first_rule(file);
         let mut end = 0;
-        while file[at] == 4 {
+        while file[at] == Tag::Rule as u8 {
             let count = fields::terms_of(file, at);
-            entries::put_terms(file, at + 12, count, &mut terms[end..]);
+            let behind = at + 12 + 6 * count;
+            entries::put_terms(&file[at + 12..behind], &mut terms[end..]);
             end += 8 * count;
             at = fields::next_rule(file, at);
         }

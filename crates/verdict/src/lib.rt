@@ -11,6 +11,7 @@ pub struct Refusal {
     pub offset: usize,
 }
 
+// The same in two numbers, as the C interface hands it over: 0 and 0 where nothing is refused.
 #[repr(C)]
 #[derive(Clone, Copy)]
 pub struct Loaded {
@@ -18,7 +19,6 @@ pub struct Loaded {
     pub offset: usize,
 }
 
-// The answer in numbers: 0 and 0 for an accepted file.
 impl From<Result<(), Refusal>> for Loaded {
     ghost from_gives = { λ answer loaded. (loaded.refusal ≡ refusal_of answer) × (loaded.offset ≡ offset_of answer) };
 

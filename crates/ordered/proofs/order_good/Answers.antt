@@ -12,26 +12,8 @@ use Rattle.ordered.proofs.order_good.Goals as goal
 pub returns-then-not-word : goal.returns-then-not-word
 returns-then-not-word c = order_begins _ _ c.word.ensures c.index-variables.ensures c.index-total.ensures (ap not (ne_eqb _ _ c.if-not-word.true))
 
-pub runs_good-requires : goal.runs_good-requires
-runs_good-requires c = omega (arith, c.index-variables.ensures, (sound c.requires).variables)
-
 pub returns-then-not-runs_good : goal.returns-then-not-runs_good
 returns-then-not-runs_good c = order_runs _ _ c.word.ensures c.index-variables.ensures c.index-total.ensures (ap not (eq-eqb _ _ c.if-not-word.false)) c.runs_good.ensures (ap not c.if-not-runs_good.true)
-
-pub overflow_add-variables : goal.overflow_add-variables
-overflow_add-variables c = omega (arith, c.index-variables.ensures, (sound c.requires).variables)
-
-pub index-requires : goal.index-requires
-index-requires c = omega (arith, c.index-variables.ensures, (sound c.requires).variables, c.requires.long)
-
-pub overflow_add-variables-2 : goal.overflow_add-variables-2
-overflow_add-variables-2 c = omega (arith, c.index-variables.ensures, (sound c.requires).variables)
-
-pub overflow_add-variables-3 : goal.overflow_add-variables-3
-overflow_add-variables-3 c = omega (arith, c.index-variables.ensures, (sound c.requires).variables)
-
-pub overflow_add-total : goal.overflow_add-total
-overflow_add-total c = omega (arith, c.index-total.ensures, (sound c.requires).terms)
 
 pub returns : goal.returns
 returns c =

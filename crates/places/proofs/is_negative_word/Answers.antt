@@ -1,22 +1,20 @@
--- `is_negative_word` meets its contract: the upper half of the words stands for negative numbers.
+-- `is_negative_word` meets its contract: the number that the word stands for has the sign.
 -- Assumes nothing.
-use Prim.Native.Nat.{ℕ, ◌-◌}
-use mathlib.Core.Path.{◌≡◌, refl}
-use mathlib.Core.Bool.{Bool, true, false, cond}
-use lib.Dec.{leb, ltb}
-use lib.IntN.{pos, negsuc}
-use borrow.Author.Tests.{le-leb, lt-leb, ltb-true, ltb-false}
+use Prim.Native.Nat.{zero-le}
+use mathlib.Core.Path.{◌≡◌, refl, ap, ◌∙◌}
+use lib.IntN.{ℤ, pos, negsuc}
+use borrow.Author.Tests.{le-ltb}
+use mir.Syntax.{w32}
+use mir.Facts.{to_z-of_z}
+use Rattle.std.specs.Int as Int
 use Rattle.plpb.specs.Normal.{is_negative}
-use Rattle.words.specs.Words.{signed}
 use Rattle.places.proofs.is_negative_word.Goals as goal
 
-sign : (w : ℕ) → leb 2_147_483_648 w ≡ is_negative (signed w)
-unfolding signed is_negative
-sign w = at (ltb w 2_147_483_648) refl
-  where
-    at : (b : Bool) → ltb w 2_147_483_648 ≡ b → leb 2_147_483_648 w ≡ is_negative (cond b (pos w) (negsuc (4_294_967_295 - w)))
-    at true e = lt-leb 2_147_483_648 w (ltb-true w 2_147_483_648 e)
-    at false e = le-leb 2_147_483_648 w (ltb-false w 2_147_483_648 e)
+sign : (z : ℤ) → Int.is_negative z ≡ is_negative z
+unfolding is_negative
+sign (pos n) = le-ltb n 0 zero-le
+sign (negsuc n) = refl
 
 pub returns : goal.returns
-returns c = sign c.args.weight
+returns c =
+    c.is_negative.ensures ∙ ap Int.is_negative (to_z-of_z {w = w32} (record { sfits = c.to_signed.type_inv }) ∙ c.to_signed.ensures) ∙ sign _

@@ -9,21 +9,21 @@ use Rattle.faults.proofs.Field.wrong_bounds.Goals as goal
 
 pub bounds-file-at-2 : goal.bounds-file-at-2
 bounds-file-at-2 c =
-    omega (arith, body_room _ _ c.args.self.headed, rule_size _ _ c.args.self.headed c.if-file-at-ne4.false)
+    omega (arith, body_room _ _ c.args.self.headed, rule_size _ _ c.args.self.headed c.if-file-at.false)
 
 pub read_i32-requires : goal.read_i32-requires
 read_i32-requires c =
-    omega (arith, body_room _ _ c.args.self.headed, rule_size _ _ c.args.self.headed c.if-file-at-ne4.false)
+    omega (arith, body_room _ _ c.args.self.headed, rule_size _ _ c.args.self.headed c.if-file-at.false)
 
 pub read_i32-requires-2 : goal.read_i32-requires-2
 read_i32-requires-2 c =
-    omega (arith, body_room _ _ c.args.self.headed, rule_size _ _ c.args.self.headed c.if-file-at-ne4.false)
+    omega (arith, body_room _ _ c.args.self.headed, rule_size _ _ c.args.self.headed c.if-file-at.false)
 
 pub returns : goal.returns
 returns c =
-    bounds_some _ _ _ _ _ c.if-file-at-ne4.false c.bounds_lawful.ensures
+    bounds_some _ _ _ _ _ c.if-file-at.false c.bounds_lawful.ensures
     (to_z-of_z {w = w32} (record { sfits = c.read_i32.type_inv }) ∙ c.read_i32.ensures)
     (to_z-of_z {w = w32} (record { sfits = c.read_i32-2.type_inv }) ∙ c.read_i32-2.ensures)
 
-pub returns-then-file-at-ne4 : goal.returns-then-file-at-ne4
-returns-then-file-at-ne4 c = bounds_none _ _ c.if-file-at-ne4.true
+pub returns-then-file-at : goal.returns-then-file-at
+returns-then-file-at c = bounds_none _ _ c.if-file-at.true

@@ -1,16 +1,13 @@
--- `loaded::objective_good` meets its contract: the two parts of its definition.
+-- `loaded::Counted::objective_good` meets its contract: its section passes the test of a coefficient.
 -- Assumes nothing.
-use Prim.Native.Nat.{◌+◌, ◌-◌}
-use mathlib.Core.Path.{◌≡◌}
-use native.Mathlib.Omega.{arith}
-use Rattle.format.specs.Good.{objective_good}
-use Rattle.format.proofs.Bools.{both}
-use Rattle.format.proofs.Good.{zeros_are}
-use Rattle.format.specs.Layout.{clauses_at}
+use Prim.Native.Nat.{ℕ}
+use lib.Dec.{leb}
+use lib.IntN.{nat_abs}
+use Rattle.words.specs.Words.{signed}
+use Rattle.format.specs.Limits.{max_weight}
+use Rattle.format.specs.Good.{objective_good, coefficient_good}
 use Rattle.loaded.proofs.Counted.objective_good.Goals as goal
 
 pub returns : goal.returns
-unfolding objective_good
-returns c =
-    let n : clauses_at - (4 + c.args.self.variables) ≡ 512 - c.args.self.variables = omega arith in
-    cc (both c.coefficients.result c.zeros.result, zeros_are _ _ _ _ c.zeros.ensures, c.args.self.counts.0)
+unfolding objective_good coefficient_good
+returns c = rw (← c.args.self.counts.0) (c.section_good.ensures (λ (w : ℕ). leb (nat_abs (signed w)) max_weight) (λ w r p. p))

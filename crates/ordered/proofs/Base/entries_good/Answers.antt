@@ -3,15 +3,9 @@ use mathlib.Core.Bool.{not}
 use mathlib.Core.Path.{ap}
 use native.Mathlib.Omega.{arith}
 use mathlib.Core.Path.{sym, ◌∙◌}
-use Rattle.ordered.proofs.Places.{sound, parts_small}
+use Rattle.ordered.proofs.Places.{parts_small}
 use Rattle.ordered.proofs.Runs.{entries_turn, entries_refused, entries_end}
 use Rattle.ordered.proofs.Base.entries_good.Goals as goal
-
-pub overflow_add-k : goal.overflow_add-k
-overflow_add-k c = omega (arith, c.loop-k-test.true, c.requires.1, (sound c.args.self.ready).terms)
-
-pub word-w-requires : goal.word-w-requires
-word-w-requires c = omega (arith, c.loop-k-test.true, c.requires.1, (sound c.args.self.ready).terms, c.args.self.ready.long)
 
 pub returns-then-not-entry_good : goal.returns-then-not-entry_good
 returns-then-not-entry_good c = entries_refused _ _ _ _ _ _ c.loop-k-test.true c.word-w.ensures c.entry_good.ensures (ap not c.if-not-entry_good.true) ∙ c.loop-k.invariant.1

@@ -1,7 +1,7 @@
 -- The goals that the search leaves.
 use native.Mathlib.Omega.{arith}
 use Rattle.tables.proofs.Found.{begun_file, begun_front, begun_room}
-use Rattle.tables.proofs.Filled.{lawful_file, clause_start, clause_few, clause_space, clause_room_lem, clause_reads, clause_rules, clause_part, clause_same, clause_more, clause_on, clause_count_lem, clause_end}
+use Rattle.tables.proofs.Filled.{lawful_file, clause_start, clause_few, clause_space, clause_room_lem, clause_reads, clause_rules, clause_part, clause_more, clause_on, clause_count_lem, clause_end}
 use Rattle.tables.proofs.Lawful.clause_section.Goals as goal
 
 pub loop-at-init : goal.loop-at-init

@@ -1,12 +1,11 @@
 -- `tables::fill_tables` meets its contract: the sections stand side by side.
 -- Assumes nothing.
 use native.Mathlib.Omega.{arith}
-use mathlib.Core.Path.{sym, ap, ◌∙◌}
-use lib.ListN.{length}
+use mathlib.Core.Path.{sym, ◌∙◌}
 use Rattle.tables.specs.Places.{behind_objective}
 use Rattle.tables.proofs.Found.{begun_file, begun_front}
 use Rattle.tables.proofs.Filled.{lawful_file}
-use Rattle.tables.proofs.Whole.{three_long, behind_long, tables_whole, base_size_lem}
+use Rattle.tables.proofs.Whole.{behind_long, tables_whole}
 use Rattle.tables.proofs.Lawful.fill_tables.Goals as goal
 
 pub read_u16-variables-requires : goal.read_u16-variables-requires

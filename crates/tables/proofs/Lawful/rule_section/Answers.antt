@@ -4,7 +4,7 @@ use mathlib.Core.Path.{sym, ◌∙◌}
 use Rattle.bodies.proofs.Tags.{tag_byte}
 use Rattle.tables.proofs.Entered.{here_room}
 use Rattle.tables.proofs.Found.{begun_file, begun_front, begun_room, rules_room, behind_room, rules_on}
-use Rattle.tables.proofs.Filled.{lawful_file, rule_start, rule_few, rule_space, rule_first, rule_here, rule_part, rule_same, rule_more_terms, rule_more, rule_count_lem, rule_terms, rule_end}
+use Rattle.tables.proofs.Filled.{lawful_file, rule_start, rule_few, rule_space, rule_first, rule_here, rule_part, rule_more_terms, rule_more, rule_count_lem, rule_terms, rule_end}
 use Rattle.tables.proofs.Lawful.rule_section.Goals as goal
 
 pub loop-at-init : goal.loop-at-init

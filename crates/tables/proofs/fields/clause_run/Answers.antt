@@ -1,7 +1,7 @@
 -- The goals that the search leaves.
 use native.Mathlib.Omega.{arith}
 use Rattle.tables.specs.Places.{behind_field}
-use Rattle.tables.proofs.Found.{run_start, run_more, run_end, found_room, found_body}
+use Rattle.tables.proofs.Found.{run_more, run_end, found_room, found_body}
 use Rattle.tables.proofs.fields.clause_run.Goals as goal
 
 pub loop-at-smaller : goal.loop-at-smaller

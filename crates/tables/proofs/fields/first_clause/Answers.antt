@@ -9,10 +9,10 @@ use Rattle.tables.proofs.fields.first_clause.Goals as goal
 
 pub after-requires : goal.after-requires
 after-requires c =
-    subst (λ (n : ℕ). n ≤ length c.args.file.now) (sym (past_field _ _ c.if-file-at-eq6.true ∙ ap (past_locks _) c.behind_objective-at.ensures)) c.requires.1
+    subst (λ (n : ℕ). n ≤ length c.args.file.now) (sym (past_field _ _ c.if-file-at.true ∙ ap (past_locks _) c.behind_objective-at.ensures)) c.requires.1
 
-pub returns-then-file-at-eq6 : goal.returns-then-file-at-eq6
-returns-then-file-at-eq6 c = c.after.ensures ∙ past_field _ _ c.if-file-at-eq6.true ∙ ap (past_locks _) c.behind_objective-at.ensures
+pub returns-then-file-at : goal.returns-then-file-at
+returns-then-file-at c = c.after.ensures ∙ past_field _ _ c.if-file-at.true ∙ ap (past_locks _) c.behind_objective-at.ensures
 
-pub returns-else-file-at-eq6 : goal.returns-else-file-at-eq6
-returns-else-file-at-eq6 c = past_none _ _ c.if-file-at-eq6.false ∙ ap (past_locks _) c.behind_objective-at.ensures
+pub returns-else-file-at : goal.returns-else-file-at
+returns-else-file-at c = past_none _ _ c.if-file-at.false ∙ ap (past_locks _) c.behind_objective-at.ensures
