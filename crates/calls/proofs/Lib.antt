@@ -1,4 +1,4 @@
 -- What holds of the tests and calls.
-pub mod BitsLeft
+pub mod Bits
 pub mod Opening
 pub mod Accepting

@@ -6,6 +6,7 @@ ghost use Rattle.tallies.specs.Calls.{call_refusal, counts_break, counts_make, l
 use crate::tests::Lent;
 use counting::count::Marked;
 use exact::counts_core;
+use recount::tables::Tables;
 
 // The refusal and the two counts: a struct of the C interface, so a number and no Result.
 #[repr(C)]
@@ -16,6 +17,7 @@ pub struct Counted {
     pub makes: Marked,
 }
 
+// The C interface lends the buffers one by one.
 pub fn counts(tables: &[u8], terms: &[u8], assignment: &[u8], tallies: &[u8], x: u32) -> Counted
     ensures refusal_value { result.refusal ≡ call_refusal (lent tables.now terms.now assignment.now tallies.now) x }
     ensures breaks_value { marked_words result.breaks
@@ -36,7 +38,8 @@ pub fn counts(tables: &[u8], terms: &[u8], assignment: &[u8], tallies: &[u8], x:
             makes: Marked::ZERO,
         };
     }
-    let c = counts_core(tables, terms, assignment, x);
+    let t = Tables { tables, terms };
+    let c = counts_core(&t, assignment, x);
     Counted {
         refusal: 0,
         breaks: Marked::from(c.breaks),

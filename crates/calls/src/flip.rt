@@ -4,6 +4,7 @@ ghost use Rattle.tallies.specs.Calls.{flip_assignment, flip_refusal, flip_rules,
 
 use crate::tests::Lent;
 use flips::flip_core;
+use recount::tables::Tables;
 
 // The refusal, and how many rule tallies were rewritten: a struct of the C interface, so a number and no Result.
 #[repr(C)]
@@ -13,6 +14,7 @@ pub struct Flipped {
     pub rules: u32,
 }
 
+// The C interface lends the buffers one by one.
 pub fn flip(
     tables: &[u8],
     terms: &[u8],
@@ -39,6 +41,7 @@ pub fn flip(
             rules: 0,
         };
     }
-    let rules = flip_core(tables, terms, assignment, tallies, x);
+    let t = Tables { tables, terms };
+    let rules = flip_core(&t, assignment, tallies, x);
     Flipped { refusal: 0, rules }
 }

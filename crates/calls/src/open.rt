@@ -4,7 +4,9 @@ ghost use Rattle.tallies.specs.Calls.{open_refusal, open_tallies, lent};
 
 use crate::tests::Lent;
 use recount::open::open_core;
+use recount::tables::Tables;
 
+// The C interface lends the buffers one by one, and wants a refusal's number, or 0.
 pub fn open(tables: &[u8], terms: &[u8], assignment: &[u8], tallies: &mut [u8]) -> u32
     ensures value { result ≡ open_refusal (lent tables.now terms.now assignment.now tallies.old) }
     ensures tallies_after { tallies.new
@@ -19,6 +21,7 @@ pub fn open(tables: &[u8], terms: &[u8], assignment: &[u8], tallies: &mut [u8]) 
     if let Err(refusal) = lent.open_refusal() {
         return u32::from(refusal);
     }
-    open_core(tables, terms, assignment, tallies);
+    let t = Tables { tables, terms };
+    open_core(&t, assignment, tallies);
     0
 }

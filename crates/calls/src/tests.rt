@@ -6,6 +6,7 @@ ghost use Rattle.calls.specs.Refusals.{number_of, refusal_of, lent_in};
 
 use fresh::fresh;
 use loaded::good;
+use recount::tables::Tables;
 use words::{index, word};
 
 // What a call is refused for.
@@ -35,17 +36,11 @@ impl From<Refusal> for u32 {
     }
 }
 
-// Whether the first n bytes are 0 or 1.
-fn bits(assignment: &[u8], n: usize) -> bool
-    requires { n ≤ length assignment.now }
-    ensures { result ≡ are_bits n assignment.now }
+// Whether all bytes are 0 or 1.
+fn bits(bytes: &[u8]) -> bool
+    ensures { result ≡ are_bits (length bytes.now) bytes.now }
 {
-    for b in &assignment[..n] {
-        if 1 < *b {
-            return false;
-        }
-    }
-    true
+    bytes.iter().all(|b| *b <= 1)
 }
 
 // What the host program lends, to be tested.
@@ -83,7 +78,8 @@ impl Lent<'_> {
         if !good(self.tables, self.terms) {
             return Err(Refusal::NotLoaded);
         }
-        if !bits(self.assignment, index(self.tables, 0)) {
+        let n = index(self.tables, 0);
+        if !bits(&self.assignment[..n]) {
             return Err(Refusal::NotBits);
         }
         Ok(())
@@ -93,7 +89,11 @@ impl Lent<'_> {
         ensures { refusal_of result ≡ call_refusal (lent_in self.now) x }
     {
         self.open_refusal()?;
-        if !fresh(self.tables, self.terms, self.assignment, self.tallies) {
+        let t = Tables {
+            tables: self.tables,
+            terms: self.terms,
+        };
+        if !fresh(&t, self.assignment, self.tallies) {
             return Err(Refusal::Stale);
         }
         if x == 0 {

@@ -1,22 +1,22 @@
 // Counts: how many clauses of the expansion a variable's flip would spoil, and how many it would mend.
 #![tactic(auto)]
 
-ghost use Rattle.std.specs.Prelude.{◌≡◌, ◌+◌, ◌*◌, ◌≤◌, ◌<◌};
+ghost use Rattle.std.specs.Prelude.{◌≡◌, ◌+◌, ◌*◌, ◌≤◌, ◌<◌, length};
 ghost use Rattle.plpb.specs.Count.{capped, capped_break, capped_make};
 ghost use Rattle.plpb.specs.Equations.{shares_of, clause_break, clause_make, break_sum, make_sum};
 ghost use Rattle.counting.specs.Count.{number};
 ghost use Rattle.counting.specs.Shares.{shares_in, capped_shares, start_shares, joined_shares, joined_along};
 ghost use Rattle.words.specs.Words.{word_at};
-ghost use Rattle.format.specs.Tables.{rule_of, clause_of, plan_of_tables};
 ghost use Rattle.rules.specs.Terms.{bits_in};
 ghost use Rattle.tallies.specs.Layout.{bits_of};
-ghost use Rattle.recount.specs.Core.{Ready};
+ghost use Rattle.recount.specs.Plans.{plan, rule, clause};
 ghost use Rattle.exact.specs.Counted.{CountsAre};
 
 use counting::count::Count;
 use counting::shares::Shares;
-use recount::clause::{clause_names, rules_of};
+use recount::clause::rules_of;
 use recount::lent::Lent;
+use recount::tables::Tables;
 use rules::state::read_state_from;
 use std::ops::Add;
 use words::index;
@@ -57,15 +57,14 @@ struct Asked<'a> {
 impl Asked<'_> {
     // The shares of the rules so far joined with those of one more.
     fn join_rule(&self, shares: Shares, r: usize) -> Shares
-        requires { r < word_at self.now.lent.tables.now 2 }
+        requires { r < word_at self.now.lent.plan.tables.now 2 }
         ensures { shares_in result
             ≡ capped_shares
-            (joined_shares (shares_in shares)
-            (capped_shares (shares_of (bits_in self.now.lent.bits.now) self.now.x (rule_of (word_at self.now.lent.tables.now) (word_at self.now.lent.terms.now) r)))) }
+            (joined_shares (shares_in shares) (capped_shares (shares_of (bits_in self.now.lent.bits.now) self.now.x (rule self.now.lent.plan r)))) }
     {
         let s = read_state_from(
-            self.lent.tables,
-            self.lent.terms,
+            self.lent.plan.tables,
+            self.lent.plan.terms,
             self.lent.bits,
             format::RULES + 5 * r,
             self.x,
@@ -75,13 +74,11 @@ impl Asked<'_> {
 
     // The shares of a clause.
     fn clause_shares(&self, c: usize) -> Shares
-        requires { c < word_at self.now.lent.tables.now 1 }
+        requires { c < word_at self.now.lent.plan.tables.now 1 }
         ensures { shares_in result
-            ≡ capped_shares
-            (joined_along (shares_of (bits_in self.now.lent.bits.now) self.now.x) start_shares
-            (clause_of (word_at self.now.lent.tables.now) (word_at self.now.lent.terms.now) c)) }
+            ≡ capped_shares (joined_along (shares_of (bits_in self.now.lent.bits.now) self.now.x) start_shares (clause self.now.lent.plan c)) }
     {
-        let rules = rules_of(self.lent.tables, c);
+        let rules = rules_of(self.lent.plan.tables, c);
         let mut shares = Shares::START;
         for r in rules.first..rules.end {
             shares = self.join_rule(shares, r);
@@ -91,12 +88,12 @@ impl Asked<'_> {
 
     // What a flip spoils and mends of a clause: nothing where the clause does not name the variable, so no binomial is worked out there.
     fn clause_counts(&self, c: usize) -> Counts
-        requires { c < word_at self.now.lent.tables.now 1 }
+        requires { c < word_at self.now.lent.plan.tables.now 1 }
         ensures { CountsAre
-            (capped (clause_break (bits_in self.now.lent.bits.now) self.now.x (clause_of (word_at self.now.lent.tables.now) (word_at self.now.lent.terms.now) c)))
-            (capped (clause_make (bits_in self.now.lent.bits.now) self.now.x (clause_of (word_at self.now.lent.tables.now) (word_at self.now.lent.terms.now) c))) result }
+            (capped (clause_break (bits_in self.now.lent.bits.now) self.now.x (clause self.now.lent.plan c)))
+            (capped (clause_make (bits_in self.now.lent.bits.now) self.now.x (clause self.now.lent.plan c))) result }
     {
-        if !clause_names(self.lent.tables, self.lent.terms, c, self.x) {
+        if !self.lent.plan.clause_names(c, self.x) {
             return Counts::NONE;
         }
         let s = self.clause_shares(c);
@@ -108,10 +105,10 @@ impl Asked<'_> {
 
     // The sum over the clauses.
     fn counts(&self) -> Counts
-        ensures { CountsAre (capped (break_sum (plan_of_tables self.now.lent.tables.now self.now.lent.terms.now) (bits_in self.now.lent.bits.now) self.now.x))
-            (capped (make_sum (plan_of_tables self.now.lent.tables.now self.now.lent.terms.now) (bits_in self.now.lent.bits.now) self.now.x)) result }
+        ensures { CountsAre (capped (break_sum (plan self.now.lent.plan) (bits_in self.now.lent.bits.now) self.now.x))
+            (capped (make_sum (plan self.now.lent.plan) (bits_in self.now.lent.bits.now) self.now.x)) result }
     {
-        let clauses = index(self.lent.tables, 1);
+        let clauses = index(self.lent.plan.tables, 1);
         let mut sum = Counts::NONE;
         for c in 0..clauses {
             sum = sum + self.clause_counts(c);
@@ -121,18 +118,15 @@ impl Asked<'_> {
 }
 
 // Of a variable from 1 to n.
-pub fn counts_core(tables: &[u8], terms: &[u8], assignment: &[u8], x: u32) -> Counts
-    requires { Ready tables.now terms.now assignment.now × (0 < x) × (x ≤ (plan_of_tables tables.now terms.now).variables) }
+pub fn counts_core(t: &Tables<'_>, assignment: &[u8], x: u32) -> Counts
+    requires { ((plan t.now).variables ≤ length assignment.now) × (0 < x) × (x ≤ (plan t.now).variables) }
     ensures { CountsAre
-        (capped_break (plan_of_tables tables.now terms.now)
-        (bits_of (plan_of_tables tables.now terms.now).variables assignment.now) x)
-        (capped_make (plan_of_tables tables.now terms.now)
-        (bits_of (plan_of_tables tables.now terms.now).variables assignment.now) x) result }
+        (capped_break (plan t.now) (bits_of (plan t.now).variables assignment.now) x)
+        (capped_make (plan t.now) (bits_of (plan t.now).variables assignment.now) x) result }
 {
-    let n = index(tables, 0);
+    let n = index(t.tables, 0);
     let lent = Lent {
-        tables,
-        terms,
+        plan: *t,
         bits: &assignment[..n],
     };
     let asked = Asked { lent, x };

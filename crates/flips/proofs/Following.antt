@@ -337,10 +337,10 @@ module _ {tables terms bits t₀ : List ℕ} {x : ℕ} (y : Followable tables te
       pub place_passable : tally_size ≤ length t → Passable (rule_at (plan_of_tables tables terms) (word_place w).rule) (word_place w).rule (word_place w).clause t
       place_passable room = rw place_here (midway_passable p a x q g.tells midway hr hc room clause_few l.clause_count)
 
-      pub pass_ready : tally_size ≤ length t → Ready tables terms bits × ((word_place w).rule < word_at tables 2) × Passable (rule_of (word_at tables) (word_at terms) (word_place w).rule) (word_place w).rule (word_place w).clause t
+      pub pass_ready : tally_size ≤ length t → ((word_place w).rule < word_at tables 2) × Passable (rule_of (word_at tables) (word_at terms) (word_place w).rule) (word_place w).rule (word_place w).clause t
       pass_ready room =
           rw (place_here, rule_same)
-          (y.ready, rule_there, midway_passable p a x q g.tells midway hr hc room clause_few l.clause_count)
+          (rule_there, midway_passable p a x q g.tells midway hr hc room clause_few l.clause_count)
 
       -- Once the place is passed, one more is.
       pub place_step : {u : List ℕ} → Passed (rule_at (plan_of_tables tables terms) (word_place w).rule) (bits_in bits) (word_place w).rule (word_place w).clause t u → Going tables terms bits x (i + 1) u

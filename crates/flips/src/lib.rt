@@ -10,17 +10,19 @@ ghost use Rattle.counting.specs.Bound.{bound_of};
 ghost use Rattle.words.specs.Words.{word_at};
 ghost use Rattle.order.specs.Order.{word_place};
 ghost use Rattle.order.specs.Along.{exchanged as exchangedOf};
-ghost use Rattle.format.specs.Tables.{plan_of_tables, rule_of};
 ghost use Rattle.rules.specs.Terms.{bits_in};
 ghost use Rattle.rules.specs.State.{Balanced};
 ghost use Rattle.tallies.specs.Layout.{with_tallies};
 ghost use Rattle.tallies.specs.Calls.{turned};
-ghost use Rattle.recount.specs.Core.{Ready, Flippable, recounted};
+ghost use Rattle.recount.specs.Core.{Flippable, recounted};
+ghost use Rattle.recount.specs.Plans.{plan, rule};
 ghost use Rattle.flips.specs.Passing.{Countable, ClausePassed, Passable, Passed, Inside, Followable};
 
 use format::{ENDS, HOLDING, ORDER, RULES, UNSATISFIED};
 use places::{clause_in, rule_in};
+use recount::lent::Lent;
 use recount::recount::put;
+use recount::tables::Tables;
 use rules::state::{State, read_state};
 use words::{index, narrow, word};
 
@@ -39,7 +41,7 @@ pub fn turn(assignment: &mut [u8], x: u32)
     assignment[i] = opposite(assignment[i]);
 }
 
-// One less where the first is so, one more where the second is.
+// One less where the first is so, one more where the second is: two facts that are counted, by which no step is chosen.
 fn exchanged(gone: bool, come: bool, n: u32) -> u32
     requires { (cond gone 1 0 ≤ n) × (n < 4_294_967_295) }
     ensures { result ≡ exchangedOf gone come n }
@@ -65,7 +67,8 @@ fn held_with(s: State, p: u32) -> bool
     before.holds()
 }
 
-// How many rules of a clause hold, and how many clauses hold none, once one rule of it does not hold any more, or does again.
+// How many rules of a clause hold, and how many clauses hold none, once one rule of it does not hold any more, or does again. Whether it held and whether it
+// holds are facts that are counted.
 pub fn pass_clause(tallies: &mut [u8], c: usize, held: bool, holds: bool)
     requires { Countable c held tallies.old }
     ensures { ClausePassed c held holds tallies.old tallies.new }
@@ -82,49 +85,47 @@ pub fn pass_clause(tallies: &mut [u8], c: usize, held: bool, holds: bool)
 }
 
 // One place of the run: the tallies of its rule and of its clause. The bits are those after the flip.
-fn pass(tables: &[u8], terms: &[u8], bits: &[u8], tallies: &mut [u8], w: u32)
-    requires { Ready tables.now terms.now bits.now × ((word_place w).rule < word_at tables.now 2)
-        × Passable (rule_of (word_at tables.now) (word_at terms.now) (word_place w).rule) (word_place w).rule (word_place w).clause tallies.old }
-    ensures { Passed (rule_of (word_at tables.now) (word_at terms.now) (word_place w).rule) (bits_in bits.now)
+fn pass(lent: &Lent<'_>, tallies: &mut [u8], w: u32)
+    requires { ((word_place w).rule < word_at lent.now.plan.tables.now 2)
+        × Passable (rule lent.now.plan (word_place w).rule) (word_place w).rule (word_place w).clause tallies.old }
+    ensures { Passed (rule lent.now.plan (word_place w).rule) (bits_in lent.now.bits.now)
         (word_place w).rule (word_place w).clause tallies.old tallies.new
         × Inside tallies.old tallies.new }
 {
     let r = rule_in(w);
-    let s = read_state(tables, terms, bits, RULES + 5 * r);
+    let s = read_state(lent.plan.tables, lent.plan.terms, lent.bits, RULES + 5 * r);
     let held = held_with(s, word(tallies, r));
     put(tallies, r, s.p);
     pass_clause(tallies, clause_in(w), held, s.holds());
 }
 
 // The whole run of x; it answers how many rules it passed.
-fn follow(tables: &[u8], terms: &[u8], bits: &[u8], tallies: &mut [u8], x: usize) -> u32
-    requires { Followable tables.now terms.now bits.now tallies.old x }
-    ensures { (result ≡ rules_named (plan_of_tables tables.now terms.now) x)
-        × (tallies.new
-        ≡ with_tallies (plan_of_tables tables.now terms.now) (bits_in bits.now) tallies.old) }
+fn follow(lent: &Lent<'_>, tallies: &mut [u8], x: usize) -> u32
+    requires { Followable lent.now.plan.tables.now lent.now.plan.terms.now lent.now.bits.now tallies.old x }
+    ensures { (result ≡ rules_named (plan lent.now.plan) x)
+        × (tallies.new ≡ with_tallies (plan lent.now.plan) (bits_in lent.now.bits.now) tallies.old) }
 {
+    let tables = lent.plan.tables;
     let from = index(tables, ENDS + (x - 1));
     let to = index(tables, ENDS + x);
     for k in from..to {
-        pass(tables, terms, bits, tallies, word(tables, ORDER + k));
+        pass(lent, tallies, word(tables, ORDER + k));
     }
     narrow(to - from)
 }
 
 // Turns a variable over; it answers how many rule tallies were rewritten, "which equals the number of rules naming the variable".
-pub fn flip_core(
-    tables: &[u8],
-    terms: &[u8],
-    assignment: &mut [u8],
-    tallies: &mut [u8],
-    x: u32,
-) -> u32
-    requires { Flippable tables.now terms.now assignment.old tallies.old x }
-    ensures { (result ≡ rules_named (plan_of_tables tables.now terms.now) x)
+pub fn flip_core(t: &Tables<'_>, assignment: &mut [u8], tallies: &mut [u8], x: u32) -> u32
+    requires { Flippable t.now.tables.now t.now.terms.now assignment.old tallies.old x }
+    ensures { (result ≡ rules_named (plan t.now) x)
         × (assignment.new ≡ turned assignment.old x)
-        × (tallies.new ≡ recounted tables.now terms.now (turned assignment.old x) tallies.old) }
+        × (tallies.new ≡ recounted t.now.tables.now t.now.terms.now (turned assignment.old x) tallies.old) }
 {
     turn(assignment, x);
-    let n = index(tables, 0);
-    follow(tables, terms, &assignment[..n], tallies, x as usize)
+    let n = index(t.tables, 0);
+    let lent = Lent {
+        plan: *t,
+        bits: &assignment[..n],
+    };
+    follow(&lent, tallies, x as usize)
 }

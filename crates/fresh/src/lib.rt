@@ -5,16 +5,18 @@ ghost use Rattle.std.specs.Prelude.{◌≡◌, ◌+◌, ◌*◌, ◌≤◌, ◌<
 ghost use Rattle.plpb.specs.Tallies.{fresh_count};
 ghost use Rattle.words.specs.Words.{word_at};
 ghost use Rattle.words.proofs.Words.{Below};
-ghost use Rattle.format.specs.Tables.{plan_of_tables, same_bytes};
+ghost use Rattle.format.specs.Tables.{same_bytes};
 ghost use Rattle.rules.specs.Terms.{bits_in};
 ghost use Rattle.tallies.specs.Layout.{tally_size, bits_of, tally_bytes};
 ghost use Rattle.words.specs.Tests.{Decides};
-ghost use Rattle.recount.specs.Core.{Ready, ClauseCounted, Unused};
+ghost use Rattle.recount.specs.Core.{ClauseCounted, Unused};
+ghost use Rattle.recount.specs.Plans.{plan};
 ghost use Rattle.fresh.specs.Found.{FoundAt};
 
 use recount::clause::rules_of;
 use recount::lent::Lent;
 use recount::recount::bit;
+use recount::tables::Tables;
 use rules::state::read_state;
 use words::{index, word, zeros};
 
@@ -30,12 +32,12 @@ struct Tallied<'a, 'b> {
 impl Tallied<'_, '_> {
     // Whether a rule holds, if its own P stands for it.
     fn check_rule(&self, r: usize) -> Option<bool>
-        requires { r < word_at self.now.lent.tables.now 2 }
-        ensures { FoundAt self.now.lent.tables.now self.now.lent.terms.now self.now.lent.bits.now self.now.tallies.now r result }
+        requires { r < word_at self.now.lent.plan.tables.now 2 }
+        ensures { FoundAt self.now.lent.plan.tables.now self.now.lent.plan.terms.now self.now.lent.bits.now self.now.tallies.now r result }
     {
         let s = read_state(
-            self.lent.tables,
-            self.lent.terms,
+            self.lent.plan.tables,
+            self.lent.plan.terms,
             self.lent.bits,
             format::RULES + 5 * r,
         );
@@ -48,11 +50,11 @@ impl Tallied<'_, '_> {
 
     // Whether the words of a clause are right: those of its rules and its count.
     fn clause_fresh(&self, c: usize) -> bool
-        requires { c < word_at self.now.lent.tables.now 1 }
+        requires { c < word_at self.now.lent.plan.tables.now 1 }
         ensures { Decides result
-            (ClauseCounted self.now.lent.tables.now self.now.lent.terms.now self.now.lent.bits.now c self.now.tallies.now self.now.tallies.now) }
+            (ClauseCounted self.now.lent.plan.tables.now self.now.lent.plan.terms.now self.now.lent.bits.now c self.now.tallies.now self.now.tallies.now) }
     {
-        let rules = rules_of(self.lent.tables, c);
+        let rules = rules_of(self.lent.plan.tables, c);
         let mut holding: u32 = 0;
         for r in rules.first..rules.end {
             let Some(holds) = self.check_rule(r) else {
@@ -65,12 +67,11 @@ impl Tallied<'_, '_> {
 
     // Whether those of all clauses are, and the total: then all words are, where unused entries are 0.
     fn clauses_fresh(&self) -> bool
-        requires { Unused (plan_of_tables self.now.lent.tables.now self.now.lent.terms.now) self.now.tallies.now }
+        requires { Unused (plan self.now.lent.plan) self.now.tallies.now }
         ensures { Decides result
-            (take tally_size self.now.tallies.now
-            ≡ tally_bytes (fresh_count (plan_of_tables self.now.lent.tables.now self.now.lent.terms.now) (bits_in self.now.lent.bits.now))) }
+            (take tally_size self.now.tallies.now ≡ tally_bytes (fresh_count (plan self.now.lent.plan) (bits_in self.now.lent.bits.now))) }
     {
-        let clauses = index(self.lent.tables, 1);
+        let clauses = index(self.lent.plan.tables, 1);
         let mut unsatisfied: u32 = 0;
         for c in 0..clauses {
             if !self.clause_fresh(c) {
@@ -83,17 +84,15 @@ impl Tallied<'_, '_> {
 }
 
 // Unused entries are looked at first: it costs least.
-pub fn fresh(tables: &[u8], terms: &[u8], assignment: &[u8], tallies: &[u8]) -> bool
-    requires { Ready tables.now terms.now assignment.now × (tally_size ≤ length tallies.now) }
+pub fn fresh(t: &Tables<'_>, assignment: &[u8], tallies: &[u8]) -> bool
+    requires { ((plan t.now).variables ≤ length assignment.now) × (tally_size ≤ length tallies.now) }
     ensures { result
         ≡ same_bytes (take tally_size tallies.now)
-        (tally_bytes
-        (fresh_count (plan_of_tables tables.now terms.now)
-        (bits_of (plan_of_tables tables.now terms.now).variables assignment.now))) }
+        (tally_bytes (fresh_count (plan t.now) (bits_of (plan t.now).variables assignment.now))) }
 {
-    let n = index(tables, 0);
-    let clauses = index(tables, 1);
-    let rules = index(tables, 2);
+    let n = index(t.tables, 0);
+    let clauses = index(t.tables, 1);
+    let rules = index(t.tables, 2);
     if !zeros(tallies, rules, format::HOLDING) {
         return false;
     }
@@ -101,8 +100,7 @@ pub fn fresh(tables: &[u8], terms: &[u8], assignment: &[u8], tallies: &[u8]) -> 
         return false;
     }
     let lent = Lent {
-        tables,
-        terms,
+        plan: *t,
         bits: &assignment[..n],
     };
     let tallied = Tallied { lent, tallies };

@@ -18,7 +18,7 @@ use Rattle.order.specs.Along.{moved, exchanged}
 use Rattle.format.specs.Layout.{holding_at, unsatisfied_at, tally_size}
 use Rattle.format.proofs.Bools.{true_T}
 use Rattle.columns.specs.Layout.{total_at, lower_size_at, upper_size_at, need_at, kept_size}
-use Rattle.flips.specs.Passing.{Countable, ClausePassed}
+use Rattle.flips.specs.Passing.{ClausePassed}
 use Rattle.needs.specs.declared.KeptRule.{KeptRule}
 use Rattle.needs.specs.Rules.{ReadAs, holds_in, Movable, Moved}
 use Rattle.needs.specs.Needs.{need_word, NeedsPut}
@@ -94,16 +94,6 @@ module _ {on : Bool} {w : ℕ} {q : Place} {s : List ℕ} (y : PlaceTurnable on 
 
     whole : word_at t unsatisfied_at ≡ word_at s unsatisfied_at
     whole = low unsatisfied_at (λ e. omega (arith, e, y.rule.rule.rule)) (omega arith)
-
-    pub clause_countable : Countable q.clause c.held t
-    clause_countable = record {
-      room = rw d.size y.clause.room;
-      clause = y.clause.clause;
-      some = rw (d.held, count) y.clause.some;
-      few = rw count y.clause.few;
-      total = rw (count, whole) y.clause.total;
-      most = rw whole y.clause.most;
-    }
 
     pub place_turned : {u : List ℕ} → ClausePassed q.clause c.held c.holds t u → PlaceTurned on w q s u
     place_turned {u} p = record {

@@ -2,13 +2,12 @@
 // It writes P and the two needs, and the clause's count and the total only where the rule's holding changes.
 #![tactic(auto)]
 
-ghost use Rattle.std.specs.Prelude.{◌≡◌, not, ◌%◌};
+ghost use Rattle.std.specs.Prelude.{◌≡◌, ◌≤◌, not, ◌%◌, length};
 ghost use Rattle.order.specs.Order.{word_place};
-ghost use Rattle.format.specs.Tables.{plan_of_tables};
 ghost use Rattle.rules.specs.Terms.{bits_in};
 ghost use Rattle.tallies.specs.Layout.{bits_of};
 ghost use Rattle.tallies.specs.Calls.{turned};
-ghost use Rattle.recount.specs.Core.{Ready};
+ghost use Rattle.recount.specs.Plans.{plan};
 ghost use Rattle.columns.specs.Columns.{Sized};
 ghost use Rattle.flips.specs.Passing.{Countable, ClausePassed};
 ghost use Rattle.keeping.specs.Keeping.{was_true, Turnable, RuleTurned, PlaceTurnable, PlaceTurned};
@@ -20,6 +19,7 @@ use format::{ENDS, ORDER};
 use needs::{fill_needs, put_needs, read_rule};
 use places::{clause_in, rule_in};
 use recount::open::open_core;
+use recount::tables::Tables;
 use rules::term::value_of;
 use words::{index, word, write_word};
 
@@ -31,14 +31,15 @@ fn was_true(w: u32, value: bool) -> bool
     if w % 2 == 1 { value } else { !value }
 }
 
-// Whether a rule held before, and whether it holds.
+// Whether a rule held before, and whether it holds: two facts, each of which may be so without the other.
 #[derive(Clone, Copy)]
 struct Change {
     held: bool,
     holds: bool,
 }
 
-// One literal of a rule is turned over: P and the needs follow.
+// One literal of a rule is turned over: P and the needs follow. Whether it was true before is a fact of the literal, and so it is below of a rule whether it
+// held and whether it holds: they are compared and counted.
 fn turn_rule(tallies: &mut [u8], r: usize, on: bool, w: u32) -> Change
     requires { Turnable on w r tallies.old }
     ensures { RuleTurned on w r result tallies.old tallies.new }
@@ -74,11 +75,11 @@ fn pass(tallies: &mut [u8], o: u32, value: bool, w: u32)
 }
 
 // The whole run of x. The terms are not read: with the tables they say the plan.
-fn follow(tables: &[u8], terms: &[u8], marks: &[u8], bits: &[u8], tallies: &mut [u8], x: u32)
-    requires { Followed tables.now terms.now marks.now bits.now tallies.old x }
-    ensures { Kept (plan_of_tables tables.now terms.now) (bits_in bits.now)
-        tallies.old tallies.new }
+fn follow(t: &Tables<'_>, marks: &[u8], bits: &[u8], tallies: &mut [u8], x: u32)
+    requires { Followed t.now.tables.now t.now.terms.now marks.now bits.now tallies.old x }
+    ensures { Kept (plan t.now) (bits_in bits.now) tallies.old tallies.new }
 {
+    let tables = t.tables;
     let value = value_of(bits, x);
     let to = index(tables, ENDS + x as usize);
     for k in index(tables, ENDS + (x - 1) as usize)..to {
@@ -92,32 +93,21 @@ fn follow(tables: &[u8], terms: &[u8], marks: &[u8], bits: &[u8], tallies: &mut 
 }
 
 // Turns a variable over.
-pub fn flip_kept(
-    tables: &[u8],
-    terms: &[u8],
-    marks: &[u8],
-    assignment: &mut [u8],
-    tallies: &mut [u8],
-    x: u32,
-)
-    requires { Keepable tables.now terms.now marks.now assignment.old tallies.old x }
+pub fn flip_kept(t: &Tables<'_>, marks: &[u8], assignment: &mut [u8], tallies: &mut [u8], x: u32)
+    requires { Keepable t.now.tables.now t.now.terms.now marks.now assignment.old tallies.old x }
     ensures { (assignment.new ≡ turned assignment.old x)
-        × Kept (plan_of_tables tables.now terms.now)
-        (bits_of (plan_of_tables tables.now terms.now).variables (turned assignment.old x))
-        tallies.old tallies.new }
+        × Kept (plan t.now) (bits_of (plan t.now).variables (turned assignment.old x)) tallies.old tallies.new }
 {
     turn(assignment, x);
-    let n = index(tables, 0);
-    follow(tables, terms, marks, &assignment[..n], tallies, x);
+    let n = index(t.tables, 0);
+    follow(t, marks, &assignment[..n], tallies, x);
 }
 
 // The tallies of an assignment, counted anew, and the needs behind them.
-pub fn open_kept(tables: &[u8], terms: &[u8], assignment: &[u8], tallies: &mut [u8])
-    requires { Ready tables.now terms.now assignment.now × Sized (plan_of_tables tables.now terms.now) tallies.old }
-    ensures { Kept (plan_of_tables tables.now terms.now)
-        (bits_of (plan_of_tables tables.now terms.now).variables assignment.now)
-        tallies.old tallies.new }
+pub fn open_kept(t: &Tables<'_>, assignment: &[u8], tallies: &mut [u8])
+    requires { ((plan t.now).variables ≤ length assignment.now) × Sized (plan t.now) tallies.old }
+    ensures { Kept (plan t.now) (bits_of (plan t.now).variables assignment.now) tallies.old tallies.new }
 {
-    open_core(tables, terms, assignment, tallies);
-    fill_needs(tables, terms, tallies);
+    open_core(t, assignment, tallies);
+    fill_needs(t, tallies);
 }

@@ -6,9 +6,8 @@ ghost use Rattle.std.specs.Prelude.{◌≡◌, ◌+◌, ◌*◌, ◌-◌, ◌≤
 ghost use Rattle.plpb.specs.Lists.{◌and◌};
 ghost use Rattle.plpb.specs.Plan.{is_locked};
 ghost use Rattle.words.specs.Words.{word_at};
-ghost use Rattle.format.specs.Tables.{plan_of_tables};
 ghost use Rattle.format.specs.Layout.{clause_first_at, end_at, rule_first_at};
-ghost use Rattle.recount.specs.Core.{Laid};
+ghost use Rattle.recount.specs.Plans.{plan as planOf};
 ghost use Rattle.columns.specs.Layout.{column_size, column_word_count, list_at, list_count_at};
 ghost use Rattle.columns.specs.Columns.{Listed};
 ghost use Rattle.columns.specs.Frames.{Only};
@@ -17,9 +16,10 @@ ghost use Rattle.listing.specs.Listing.{Listing};
 use columns::{LIST_COUNTS, LISTS};
 use format::{CLAUSES, ENDS, LOCKS, ORDER, RULES};
 use places::clause_in;
+use recount::tables::Tables;
 use words::{index, narrow, word, write_word};
 
-// Whether x is the last of the n variables of a list.
+// Whether x is the last of the n variables of a list. They are words in lent bytes, of which the library's ends_with would compare four and no number.
 fn ends_with(marks: &[u8], at: usize, n: usize, x: usize) -> bool
     requires { (at + n ≤ 6_512) × (column_size ≤ length marks.now) }
     ensures { result ≡ (ltb 0 n and eqb (word_at marks.now (list_at (at + n - 1))) x) }
@@ -30,70 +30,80 @@ fn ends_with(marks: &[u8], at: usize, n: usize, x: usize) -> bool
     index(marks, LISTS + (at + n - 1)) == x
 }
 
-// One entry of the run of x: its clause's list gets x, unless it has it already.
-fn list_entry(tables: &[u8], terms: &[u8], x: usize, k: usize, marks: &mut [u8])
-    requires { Laid tables.now terms.now × (1 ≤ x) × (x ≤ (plan_of_tables tables.now terms.now).variables)
-        × (is_locked (plan_of_tables tables.now terms.now) x ≡ false)
-        × (word_at tables.now (end_at (x - 1)) ≤ k) × (k < word_at tables.now (end_at x))
-        × Listing (plan_of_tables tables.now terms.now) x (k - word_at tables.now (end_at (x - 1))) marks.old }
-    ensures { Listing (plan_of_tables tables.now terms.now) x (k + 1 - word_at tables.now (end_at (x - 1)))
-        marks.new × Only (list_count_at 0) column_word_count marks.old marks.new }
-{
-    let c = clause_in(word(tables, ORDER + k));
-    let at = index(tables, RULES + 5 * index(tables, CLAUSES + 2 * c));
-    let n = index(marks, LIST_COUNTS + c);
-    if ends_with(marks, at, n, x) {
-        return;
-    }
-    write_word(marks, LISTS + (at + n), narrow(x));
-    write_word(marks, LIST_COUNTS + c, narrow(n + 1));
+// A variable of a plan.
+#[derive(Drop)]
+struct Variable<'a> {
+    plan: Tables<'a>,
+    x: usize,
+    ghost low: { 1 ≤ x },
+    ghost high: { x ≤ (planOf plan).variables },
 }
 
-// The whole run of x.
-fn list_run(tables: &[u8], terms: &[u8], x: usize, marks: &mut [u8])
-    requires { Laid tables.now terms.now × (1 ≤ x) × (x ≤ (plan_of_tables tables.now terms.now).variables)
-        × (is_locked (plan_of_tables tables.now terms.now) x ≡ false) × Listing (plan_of_tables tables.now terms.now) x 0 marks.old }
-    ensures { Listing (plan_of_tables tables.now terms.now) (x + 1) 0 marks.new
-        × Only (list_count_at 0) column_word_count marks.old marks.new }
-{
-    let end = index(tables, ENDS + x);
-    for k in index(tables, ENDS + (x - 1))..end {
-        list_entry(tables, terms, x, k, marks);
+impl Variable<'_> {
+    // One entry of its run: the clause's list gets the variable, unless it has it already.
+    fn list_entry(&self, k: usize, marks: &mut [u8])
+        requires { (is_locked (planOf self.now.plan) self.now.x ≡ false)
+            × (word_at self.now.plan.tables.now (end_at (self.now.x - 1)) ≤ k) × (k < word_at self.now.plan.tables.now (end_at self.now.x))
+            × Listing (planOf self.now.plan) self.now.x (k - word_at self.now.plan.tables.now (end_at (self.now.x - 1))) marks.old }
+        ensures { Listing (planOf self.now.plan) self.now.x (k + 1 - word_at self.now.plan.tables.now (end_at (self.now.x - 1))) marks.new
+            × Only (list_count_at 0) column_word_count marks.old marks.new }
+    {
+        let tables = self.plan.tables;
+        let c = clause_in(word(tables, ORDER + k));
+        let at = index(tables, RULES + 5 * index(tables, CLAUSES + 2 * c));
+        let n = index(marks, LIST_COUNTS + c);
+        if ends_with(marks, at, n, self.x) {
+            return;
+        }
+        write_word(marks, LISTS + (at + n), narrow(self.x));
+        write_word(marks, LIST_COUNTS + c, narrow(n + 1));
     }
-}
 
-// .. where x is not locked.
-fn list_variable(tables: &[u8], terms: &[u8], x: usize, marks: &mut [u8])
-    requires { Laid tables.now terms.now × (1 ≤ x) × (x ≤ (plan_of_tables tables.now terms.now).variables)
-        × Listing (plan_of_tables tables.now terms.now) x 0 marks.old }
-    ensures { Listing (plan_of_tables tables.now terms.now) (x + 1) 0 marks.new
-        × Only (list_count_at 0) column_word_count marks.old marks.new }
-{
-    if 0 < index(tables, LOCKS + x) {
-        return;
+    // Its whole run.
+    fn list_run(&self, marks: &mut [u8])
+        requires { (is_locked (planOf self.now.plan) self.now.x ≡ false) × Listing (planOf self.now.plan) self.now.x 0 marks.old }
+        ensures { Listing (planOf self.now.plan) (self.now.x + 1) 0 marks.new
+            × Only (list_count_at 0) column_word_count marks.old marks.new }
+    {
+        let end = index(self.plan.tables, ENDS + self.x);
+        for k in index(self.plan.tables, ENDS + (self.x - 1))..end {
+            self.list_entry(k, marks);
+        }
     }
-    list_run(tables, terms, x, marks);
+
+    // .. where it is not locked.
+    fn list(&self, marks: &mut [u8])
+        requires { Listing (planOf self.now.plan) self.now.x 0 marks.old }
+        ensures { Listing (planOf self.now.plan) (self.now.x + 1) 0 marks.new
+            × Only (list_count_at 0) column_word_count marks.old marks.new }
+    {
+        if 0 < index(self.plan.tables, LOCKS + self.x) {
+            return;
+        }
+        self.list_run(marks);
+    }
 }
 
 // No list has a variable yet.
-fn clear_counts(tables: &[u8], terms: &[u8], marks: &mut [u8])
-    requires { Laid tables.now terms.now × (column_size ≤ length marks.old) }
-    ensures { Listing (plan_of_tables tables.now terms.now) 1 0 marks.new
+fn clear_counts(t: &Tables<'_>, marks: &mut [u8])
+    requires { column_size ≤ length marks.old }
+    ensures { Listing (planOf t.now) 1 0 marks.new
         × Only (list_count_at 0) column_word_count marks.old marks.new }
 {
-    let clauses = index(tables, 1);
+    let clauses = index(t.tables, 1);
     marks[4 * LIST_COUNTS..4 * (LIST_COUNTS + clauses)].fill(0);
 }
 
 // All variables.
-pub fn list_clauses(tables: &[u8], terms: &[u8], marks: &mut [u8])
-    requires { Laid tables.now terms.now × (column_size ≤ length marks.old) }
-    ensures { Listed (plan_of_tables tables.now terms.now) marks.new
+pub fn list_clauses(t: &Tables<'_>, marks: &mut [u8])
+    requires { column_size ≤ length marks.old }
+    ensures { Listed (planOf t.now) marks.new
         × Only (list_count_at 0) column_word_count marks.old marks.new }
 {
-    clear_counts(tables, terms, marks);
-    let n = index(tables, 0);
+    clear_counts(t, marks);
+    let n = index(t.tables, 0);
     for x in 1..=n {
-        list_variable(tables, terms, x, marks);
+        let variable = Variable { plan: *t, x };
+        variable.list(marks);
     }
 }

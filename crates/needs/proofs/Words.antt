@@ -78,12 +78,6 @@ pub false_moved : {on : Bool} {w : ℕ} {k m : KeptRule} → on ≡ false → m.
 unfolding moved
 false_moved e f g a b = record { falses = rw e f; trues = rw e g; lower = a; upper = b }
 
-pub true_part : {on : Bool} {w : ℕ} {k : KeptRule} → on ≡ true → Movable on w k → w ≤ k.p
-true_part e m = rw e at m.part
-
-pub false_part : {on : Bool} {w : ℕ} {k : KeptRule} → on ≡ false → Movable on w k → w ≤ k.n
-false_part e m = rw e at m.part
-
 -- A literal that is part of it.
 pub kept_movable : {q : Rule} {n w : ℕ} {on : Bool} {k : KeptRule} → KeptOf q n k → w ≤ cond on n (K q.terms - n) → Movable on w k
 kept_movable {q} {n} {w} {on} {k} h l = record { part = rw (h.trues, h.falses) l; small = rw (h.trues, h.falses) (omega (arith, h.within, h.small)) }

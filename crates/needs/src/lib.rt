@@ -5,8 +5,7 @@
 ghost use Rattle.std.specs.Prelude.{◌≡◌, ◌+◌, ◌≤◌, ◌<◌, length};
 ghost use Rattle.words.specs.Words.{word_at};
 ghost use Rattle.format.specs.Layout.{rule_room};
-ghost use Rattle.format.specs.Tables.{plan_of_tables};
-ghost use Rattle.recount.specs.Core.{Laid};
+ghost use Rattle.recount.specs.Plans.{plan};
 ghost use Rattle.columns.specs.Layout.{kept_size, kept_word_count, need_at};
 ghost use Rattle.columns.specs.Columns.{Sized, Needed};
 ghost use Rattle.columns.specs.Frames.{Only};
@@ -14,6 +13,7 @@ ghost use Rattle.needs.specs.Rules.{Readable, ReadAs, holds_in, Movable, Moved};
 ghost use Rattle.needs.specs.Needs.{need_word, NeedsPut, Weighable};
 
 use columns::{LOWER_SIZES, NEEDS, NEVER, TOTALS, UPPER_SIZES};
+use recount::tables::Tables;
 use words::{index, word, write_word};
 
 // A rule by what is kept of it: N and P, and the words of A and B. It is no State: a size in a word is compared without asking whether it is there.
@@ -46,7 +46,8 @@ impl KeptRule {
         (self.n < self.a) & (self.p < self.b)
     }
 
-    // Once a literal of weight w is turned over: a true one's weight goes from P to N, a false one's from N to P.
+    // Once a literal of weight w is turned over: a true one's weight goes from P to N, a false one's from N to P. Whether it was true is a fact of the
+    // literal: an enum of the two ways would be made of that fact, and matched here alone.
     pub fn moved(self, on: bool, w: u32) -> KeptRule
         requires { Movable on w self }
         ensures { Moved on w self result }
@@ -89,15 +90,13 @@ pub fn put_needs(tallies: &mut [u8], r: usize, k: KeptRule)
     write_word(tallies, NEEDS + (2 * r + 1), need(k.a, k.n));
 }
 
-// Those of all rules, from the P that stands in the tallies. The terms are not read: with the tables they say the plan.
-pub fn fill_needs(tables: &[u8], terms: &[u8], tallies: &mut [u8])
-    requires { Laid tables.now terms.now × Sized (plan_of_tables tables.now terms.now) tallies.old
-        × Weighable (plan_of_tables tables.now terms.now) tallies.old }
-    ensures { Needed (plan_of_tables tables.now terms.now) tallies.new
-        × Sized (plan_of_tables tables.now terms.now) tallies.new
+// Those of all rules, from the P that stands in the tallies.
+pub fn fill_needs(t: &Tables<'_>, tallies: &mut [u8])
+    requires { Sized (plan t.now) tallies.old × Weighable (plan t.now) tallies.old }
+    ensures { Needed (plan t.now) tallies.new × Sized (plan t.now) tallies.new
         × Only (need_at 0) kept_word_count tallies.old tallies.new }
 {
-    let rules = index(tables, 2);
+    let rules = index(t.tables, 2);
     for r in 0..rules {
         put_needs(tallies, r, read_rule(tallies, r));
     }

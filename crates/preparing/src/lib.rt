@@ -3,14 +3,14 @@
 #![tactic(auto)]
 
 ghost use Rattle.std.specs.Prelude.{◌≤◌, length};
-ghost use Rattle.format.specs.Tables.{plan_of_tables};
-ghost use Rattle.recount.specs.Core.{Laid};
+ghost use Rattle.recount.specs.Plans.{plan};
 ghost use Rattle.columns.specs.Layout.{column_size, column_word_count, hint_at, kept_size, need_at, picks_at, total_at};
 ghost use Rattle.columns.specs.Columns.{Listed, Sized, Weighed};
 ghost use Rattle.columns.specs.Frames.{Only};
 
 use columns::{HINTS, PICKS};
 use listing::list_clauses;
+use recount::tables::Tables;
 use sizing::size_rules;
 use weighing::weigh;
 
@@ -22,16 +22,14 @@ fn clear_hints(marks: &mut [u8])
     marks[4 * (HINTS + 1)..4 * PICKS].fill(0);
 }
 
-pub fn prepare(tables: &[u8], terms: &[u8], tallies: &mut [u8], marks: &mut [u8])
-    requires { Laid tables.now terms.now × (kept_size ≤ length tallies.old) × (column_size ≤ length marks.old) }
-    ensures { Sized (plan_of_tables tables.now terms.now) tallies.new
-        × Weighed (plan_of_tables tables.now terms.now) marks.new
-        × Listed (plan_of_tables tables.now terms.now) marks.new
+pub fn prepare(t: &Tables<'_>, tallies: &mut [u8], marks: &mut [u8])
+    requires { (kept_size ≤ length tallies.old) × (column_size ≤ length marks.old) }
+    ensures { Sized (plan t.now) tallies.new × Weighed (plan t.now) marks.new × Listed (plan t.now) marks.new
         × Only (total_at 0) (need_at 0) tallies.old tallies.new
         × Only (hint_at 1) column_word_count marks.old marks.new }
 {
     clear_hints(marks);
-    size_rules(tables, terms, tallies);
-    weigh(tables, terms, marks);
-    list_clauses(tables, terms, marks);
+    size_rules(t, tallies);
+    weigh(t, marks);
+    list_clauses(t, marks);
 }

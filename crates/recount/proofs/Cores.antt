@@ -13,7 +13,7 @@ use Rattle.words.proofs.Writes.{zero_word}
 use Rattle.format.specs.Tables.{plan_of_tables}
 use Rattle.rules.specs.Terms.{bits_in}
 use Rattle.tallies.specs.Layout.{tally_size, bits_of, tally_bytes}
-use Rattle.recount.specs.Core.{Ready, Countable, Unused, recounted}
+use Rattle.recount.specs.Core.{Ready, Unused, recounted}
 use Rattle.recount.proofs.Laid.{variables_word}
 use Rattle.format.specs.Layout.{holding_at}
 
@@ -60,8 +60,3 @@ module _ (s ys : List ℕ) (room : tally_size ≤ length s) (e : ys ≡ replicat
         rules = λ i h k. zero_word (length (take tally_size s)) ys (drop tally_size s) i e (omega (arith, full));
         clauses = λ c h k. zero_word (length (take tally_size s)) ys (drop tally_size s) (holding_at c) e (omega (arith, full));
       }
-
-module _ (tables terms assignment s ys : List ℕ) (y : Ready tables terms assignment) (n : ℕ) (e : n ≡ word_at tables 0) (room : tally_size ≤ length s) (z : ys ≡ replicate (length (take tally_size s)) 0) where
-  pub cleared_countable : Countable tables terms (take n assignment) (ys ++ drop tally_size s)
-  cleared_countable =
-      record { ready = first_ready tables terms assignment y n e; room = cleared_room s ys room z }

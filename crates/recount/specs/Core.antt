@@ -17,9 +17,9 @@ pub record Laid (tables terms : List ℕ) : Type 0 where
   pub holds : Holds (plan_of_tables tables terms) tables terms
 
 -- There is one proof at most that they hold it, so a struct may keep it.
-pub Holds-prop : (p : Plan) (tables terms : List ℕ) → IsProp (Holds p tables terms)
+pub holds_prop : (p : Plan) (tables terms : List ℕ) → IsProp (Holds p tables terms)
 unfolding Holds
-Holds-prop p tables terms = ×_prop (Coded-set (coded_list coded_ℕ) _ _) (Coded-set (coded_list coded_ℕ) _ _)
+holds_prop p tables terms = ×_prop (Coded-set (coded_list coded_ℕ) _ _) (Coded-set (coded_list coded_ℕ) _ _)
 
 -- .. and the assignment has a byte for each of its variables.
 pub record Ready (tables terms assignment : List ℕ) : Type 0 where
@@ -65,11 +65,6 @@ pub record ClauseCounted (tables terms bits : List ℕ) (c : ℕ) (s t : List �
       (word_at tables (clause_first_at c) + word_at tables (clause_count_at c))
   pub holding : word_at t (holding_at c) ≡ tally_word (plan_of_tables tables terms) (bits_in bits) (holding_at c)
   pub kept : Kept (tally_word (plan_of_tables tables terms) (bits_in bits)) s t
-
--- What a recount needs.
-pub record Countable (tables terms bits tallies : List ℕ) : Type 0 where
-  pub ready : Ready tables terms bits
-  pub room : tally_size ≤ length tallies
 
 -- Unused entries are 0.
 pub record Unused (p : Plan) (s : List ℕ) : Type 0 where

@@ -2,10 +2,11 @@
 ghost use Rattle.std.specs.Prelude.{◌≡◌, ◌+◌, ◌*◌, ◌<◌};
 ghost use Rattle.plpb.specs.Plan.{named_in, names as clauseNames};
 ghost use Rattle.words.specs.Words.{word_at};
-ghost use Rattle.format.specs.Tables.{rule_of, clause_of};
-ghost use Rattle.recount.specs.Core.{Laid, RunReadable};
+ghost use Rattle.recount.specs.Core.{RunReadable};
+ghost use Rattle.recount.specs.Plans.{rule, clause};
 ghost use Rattle.format.specs.Layout.{clause_count_at, clause_first_at};
 
+use crate::tables::Tables;
 use rules::state::names;
 use words::index;
 
@@ -29,24 +30,27 @@ pub fn rules_of(tables: &[u8], c: usize) -> Run
     }
 }
 
-pub fn rule_names(tables: &[u8], terms: &[u8], r: usize, x: u32) -> bool
-    requires { Laid tables.now terms.now × (r < word_at tables.now 2) }
-    ensures { result ≡ named_in x (rule_of (word_at tables.now) (word_at terms.now) r).terms }
-{
-    names(tables, terms, format::RULES + 5 * r, x)
-}
-
-// Whether one of a clause's rules names the variable.
-pub fn clause_names(tables: &[u8], terms: &[u8], c: usize, x: u32) -> bool
-    requires { Laid tables.now terms.now × (c < word_at tables.now 1) }
-    ensures { result ≡ clauseNames (clause_of (word_at tables.now) (word_at terms.now) c) x }
-{
-    let rules = rules_of(tables, c);
-    let end = rules.end;
-    for r in rules.first..end {
-        if rule_names(tables, terms, r, x) {
-            return true;
-        }
+impl Tables<'_> {
+    // Whether a rule names the variable.
+    pub fn rule_names(&self, r: usize, x: u32) -> bool
+        requires { r < word_at self.now.tables.now 2 }
+        ensures { result ≡ named_in x (rule self.now r).terms }
+    {
+        names(self.tables, self.terms, format::RULES + 5 * r, x)
     }
-    false
+
+    // Whether one of a clause's rules does.
+    pub fn clause_names(&self, c: usize, x: u32) -> bool
+        requires { c < word_at self.now.tables.now 1 }
+        ensures { result ≡ clauseNames (clause self.now c) x }
+    {
+        let rules = rules_of(self.tables, c);
+        let end = rules.end;
+        for r in rules.first..end {
+            if self.rule_names(r, x) {
+                return true;
+            }
+        }
+        false
+    }
 }

@@ -5,3 +5,4 @@ pub mod clause;
 pub mod lent;
 pub mod open;
 pub mod recount;
+pub mod tables;

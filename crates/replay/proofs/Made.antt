@@ -15,18 +15,19 @@ use Rattle.counting.proofs.Marks.{words_uncut}
 use Rattle.words.specs.Words.{num_at, bytes_of, word_bytes}
 use Rattle.words.specs.Writes.{front, put}
 use Rattle.words.proofs.Words.{length_word_bytes}
-use Rattle.words.proofs.Writes.{put_put, front_none, word_bytes_append}
+use borrow.Rule.Slice.PartMut.{put_mid}
+use Rattle.words.proofs.Writes.{put_put, lent_part, front_whole, front_none, word_bytes_append}
 use Rattle.tallies.specs.Calls.{Lent, lent, call_refusal, flip_refusal, flip_assignment, flip_tallies, flip_rules, counts_break, counts_make, answer, left_by}
 use Rattle.tallies.specs.Demand.{answers, after}
 use Rattle.replay.specs.Replay.{call_of, calls_from, calls_of, answer_size, answer_words, answer_bytes}
 
 -- ---- one call
 
-is_flip : (kind x : ℕ) → kind ≡ 0 → call_of kind x ≡ flip_call x
+pub is_flip : (kind x : ℕ) → kind ≡ 0 → call_of kind x ≡ flip_call x
 unfolding call_of
 is_flip kind x e = ap (λ (b : Bool). cond b (flip_call x) (counts_call x)) (eq-eqb kind 0 e)
 
-is_counts : (kind x : ℕ) → (kind ≡ 0 → ⊥) → call_of kind x ≡ counts_call x
+pub is_counts : (kind x : ℕ) → (kind ≡ 0 → ⊥) → call_of kind x ≡ counts_call x
 unfolding call_of
 is_counts kind x n = ap (λ (b : Bool). cond b (flip_call x) (counts_call x)) (ne_eqb kind 0 n)
 
@@ -44,20 +45,20 @@ unfolding answer answer_words counts_break counts_make
 counts_words l x zero e = rw (sym e)
 counts_words l x (suc k) e = rw (sym e, eqb-suc-zero k)
 
-module _ (l : Lent) (kind x k : ℕ) where
-  pub flip_made : (n : ℕ) → k ≡ flip_refusal l x → n ≡ flip_rules l x → kind ≡ 0
-      → (k ∷ n ∷ 0 ∷ 0 ∷ 0 ∷ 0 ∷ [] ≡ answer_words (answer l (call_of kind x)))
-      × (flip_assignment l x ≡ (left_by l (call_of kind x)).assignment)
-      × (flip_tallies l x ≡ (left_by l (call_of kind x)).tallies)
+module _ (l : Lent) (x k : ℕ) where
+  pub flip_made : (n : ℕ) → k ≡ flip_refusal l x → n ≡ flip_rules l x
+      → (k ∷ n ∷ 0 ∷ 0 ∷ 0 ∷ 0 ∷ [] ≡ answer_words (answer l (flip_call x)))
+      × (flip_assignment l x ≡ (left_by l (flip_call x)).assignment)
+      × (flip_tallies l x ≡ (left_by l (flip_call x)).tallies)
   unfolding left_by
-  flip_made n e f z = rw (is_flip kind x z) (flip_words l x k n e f, refl, refl)
+  flip_made n e f = (flip_words l x k n e f, refl, refl)
 
-  pub counts_made : k ≡ call_refusal l x → (bs ms : List ℕ) → (kind ≡ 0 → ⊥) → bs ≡ count_words (counts_break l x) → ms ≡ count_words (counts_make l x)
-      → (k ∷ 0 ∷ (bs ++ ms) ≡ answer_words (answer l (call_of kind x)))
-      × (l.assignment ≡ (left_by l (call_of kind x)).assignment)
-      × (l.tallies ≡ (left_by l (call_of kind x)).tallies)
+  pub counts_made : k ≡ call_refusal l x → (bs ms : List ℕ) → bs ≡ count_words (counts_break l x) → ms ≡ count_words (counts_make l x)
+      → (k ∷ 0 ∷ (bs ++ ms) ≡ answer_words (answer l (counts_call x)))
+      × (l.assignment ≡ (left_by l (counts_call x)).assignment)
+      × (l.tallies ≡ (left_by l (counts_call x)).tallies)
   unfolding left_by
-  counts_made e bs ms n p q = rw (is_counts kind x n, p, q) (counts_words l x k e, refl, refl)
+  counts_made e bs ms p q = rw (p, q) (counts_words l x k e, refl, refl)
 
 -- ---- an answer written
 
@@ -68,6 +69,16 @@ next_words to ws vs s h =
     let one : length (word_bytes ws) ≡ 4 * length ws = length_word_bytes ws in
     let two : length (word_bytes vs) ≡ 4 * length vs = length_word_bytes vs in
     rw one at (put_put to (word_bytes ws) (word_bytes vs) s (rw one (omega arith))) ∙ ap (λ bs. put to bs s) (sym (word_bytes_append ws vs))
+
+-- Words written over all of a list.
+pub words_whole : (ws s : List ℕ) → length s ≡ 4 * length ws → put 0 (word_bytes ws) s ≡ word_bytes ws
+unfolding put
+words_whole ws s e = front_whole (word_bytes ws) s (length_word_bytes ws ∙ sym e)
+
+-- A part lent to be written.
+pub part_written : (at end : ℕ) (ws : List ℕ) (s : List ℕ) {ys : List ℕ} → ys ≡ word_bytes ws → at + 4 * length ws ≡ end → put_mid at (end - at) s ys ≡ put at (word_bytes ws) s
+part_written at end ws s {ys} e n =
+    lent_part at end s ys (omega (arith, n)) (ap length e ∙ length_word_bytes ws ∙ omega (arith, n)) ∙ ap (λ bs. put at bs s) e
 
 -- One word is its four bytes.
 pub one_word : (w : ℕ) → bytes_of 4 w ≡ word_bytes (w ∷ [])
@@ -111,26 +122,23 @@ write_more l c cs to out h =
     ap (λ k. put (to + k) rest (put to bs out)) (sym n) ∙ put_put to bs rest out (rw n h)
 
 -- One turn: call k, and its answer written.
-module _ (l : Lent) (n : ℕ) (s : List ℕ) (k x : ℕ) (a t : List ℕ) (some : k < n) (named : x ≡ num_at 4 s (5 * k + 1))
-    (p : a ≡ (left_by l (call_of (get_or s (5 * k) 0) x)).assignment) (q : t ≡ (left_by l (call_of (get_or s (5 * k) 0) x)).tallies) where
+module _ (l : Lent) (n : ℕ) (s : List ℕ) (k : ℕ) (c : Call) (a t : List ℕ) (some : k < n) (named : c ≡ call_of (get_or s (5 * k) 0) (num_at 4 s (5 * k + 1)))
+    (p : a ≡ (left_by l c).assignment) (q : t ≡ (left_by l c).tallies) where
   pub after_turn : after (lent l.tables l.terms a t) (calls_left n s (k + 1)) ≡ after l (calls_left n s k)
   unfolding after
-  after_turn =
-      rw (calls_more n s k some, sym named)
-      (ap (λ m. after m (calls_left n s (k + 1))) (left_by_lem l (call_of (get_or s (5 * k) 0) x) a t p q))
+  after_turn = rw (calls_more n s k some, sym named) (ap (λ m. after m (calls_left n s (k + 1))) (left_by_lem l c a t p q))
 
-  pub answers_turn : (ws out now : List ℕ) → answer_size * n ≤ length out → ws ≡ answer_words (answer l (call_of (get_or s (5 * k) 0) x)) → now ≡ put (answer_size * k) (word_bytes ws) out
+  pub answers_turn : (ws out now : List ℕ) → answer_size * n ≤ length out → ws ≡ answer_words (answer l c) → now ≡ put (answer_size * k) (word_bytes ws) out
       → put (answer_size * (k + 1)) (answer_bytes (answers (lent l.tables l.terms a t) (calls_left n s (k + 1)))) now
       ≡ put (answer_size * k) (answer_bytes (answers l (calls_left n s k))) out
   answers_turn ws out now h w e =
       let to = answer_size * k in
       let next : answer_size * (k + 1) ≡ to + answer_size = omega arith in
-      let c = call_of (get_or s (5 * k) 0) x in
       let cs = calls_left n s (k + 1) in
       ap (λ o. put o (answer_bytes (answers (lent l.tables l.terms a t) cs)) now) next
       ∙ ap₂ (λ (m : Lent) (o : List ℕ). put (to + answer_size) (answer_bytes (answers m cs)) o) (left_by_lem l c a t p q) (e ∙ ap (λ ws'. put to (word_bytes ws') out) w)
       ∙ write_more l c cs to out (omega arith)
-      ∙ ap (λ y. put to (answer_bytes (answers l (call_of (get_or s (5 * k) 0) y ∷ cs))) out) named
+      ∙ ap (λ d. put to (answer_bytes (answers l (d ∷ cs))) out) named
       ∙ ap (λ ds. put to (answer_bytes (answers l ds)) out) (sym (calls_more n s k some))
 
 -- Before the first call and after the last.

@@ -1,7 +1,8 @@
 -- A list of calls lent as bytes, the bytes of its answers, and the book's account of the list after opening, as what is lent is to be left.
 -- Assumes nothing.
 use Rattle.std.specs.Prelude.{ℕ, zero, suc, ◌+◌, ◌*◌, ◌/◌, cond, List, [], ◌∷◌, ◌++◌, ltb, eqb, length, get_or}
-use Rattle.plpb.specs.Book.{Call, flip_call, counts_call, Answer, refused, accepted, counted}
+use Rattle.plpb.specs.Book.{flip_call, counts_call, Answer, refused, accepted, counted}
+use Rattle.plpb.specs.Book.{Call as CallOf}
 use Rattle.plpb.specs.Count.{given}
 use Rattle.counting.specs.Count.{count_words, marked_words}
 use Rattle.words.specs.Words.{num_at, word_bytes}
@@ -10,18 +11,25 @@ use Rattle.format.specs.File.{refuse}
 use Rattle.tallies.specs.Calls.{Lent, plan, told, open_refusal}
 use Rattle.tallies.specs.Demand.{account}
 use Rattle.replay.specs.declared.Answered.{Answered}
+use Rattle.replay.specs.declared.Call.{Call}
+use Rattle.replay.specs.declared.Call.TheVariants.{Flip, Counts}
 
 -- A call in 5 bytes: its kind, 0 for flip and any other for counts, and its variable.
-unfoldable pub call_of : ℕ → ℕ → Call
+unfoldable pub call_of : ℕ → ℕ → CallOf
 call_of kind x = cond (eqb kind 0) (flip_call x) (counts_call x)
 
+-- A call of the code says this one.
+abbrev pub called : Call → CallOf
+called (Flip x) = flip_call x
+called (Counts x) = counts_call x
+
 -- k calls from a place on.
-unfoldable pub calls_from : ℕ → List ℕ → ℕ → List Call
+unfoldable pub calls_from : ℕ → List ℕ → ℕ → List CallOf
 calls_from zero s at = []
 calls_from (suc k) s at = call_of (get_or s at 0) (num_at 4 s (at + 1)) ∷ calls_from k s (at + 5)
 
 -- The whole calls of a list. What stands behind the last of them is no call.
-unfoldable pub calls_of : List ℕ → List Call
+unfoldable pub calls_of : List ℕ → List CallOf
 calls_of s = calls_from (length s / 5) s 0
 
 -- An answer in six words: the refusal, 0 for none; how many rule tallies a flip rewrote; the break count and its mark; the make count and its mark.

@@ -1,12 +1,12 @@
 // Opening, and then a list of calls one after another on the lent buffers: demand 3 as a claim about running code.
 #![tactic(auto)]
 
-ghost use Rattle.std.specs.Prelude.{◌≡◌, ◌+◌, ◌*◌, ◌/◌, ◌≤◌, length};
+ghost use Rattle.std.specs.Prelude.{◌≡◌, ◌+◌, ◌*◌, ◌/◌, ◌≤◌, get_or, length};
 ghost use Rattle.counting.specs.Count.{marked_words};
-ghost use Rattle.words.specs.Words.{word_bytes};
-ghost use Rattle.words.specs.Writes.{put, front};
+ghost use Rattle.words.specs.Words.{num_at, word_bytes};
+ghost use Rattle.words.specs.Writes.{front};
 ghost use Rattle.tallies.specs.Demand.{answers, after};
-ghost use Rattle.replay.specs.Replay.{call_of, calls_of, answer_size, answered_words, answer_words, answer_bytes};
+ghost use Rattle.replay.specs.Replay.{called, call_of, calls_of, answer_size, answered_words, answer_words, answer_bytes};
 ghost use Rattle.replay.specs.Replay.{replay_refusal, replay_out, replay_assignment, replay_tallies};
 ghost use Rattle.tallies.specs.Calls.{lent, answer, left_by};
 
@@ -16,8 +16,18 @@ use calls::open::open;
 use counting::count::Marked;
 use words::{read_u32, write_u32};
 
+// How many bytes a call has.
+const CALL: usize = 5;
+
 // How many bytes an answer has.
 const ANSWER: usize = 24;
+
+// A flip of a variable, or counts of one.
+#[derive(Clone, Copy)]
+enum Call {
+    Flip(u32),
+    Counts(u32),
+}
 
 // What a call answers; what calls of its kind do not give is 0. It stands for six words of the C interface, so it has each of them.
 #[derive(Clone, Copy)]
@@ -28,58 +38,74 @@ struct Answered {
     makes: Marked,
 }
 
-// Makes one call: a flip where its kind is 0, else counts. The kind is a byte of the caller's list, as the C interface has it.
+// The call that stands at a place of the caller's list: its kind, 0 for a flip and any other for counts, and its variable.
+fn call_at(list: &[u8], at: usize) -> Call
+    requires { at + 5 ≤ length list.now }
+    ensures { called result ≡ call_of (get_or list.now at 0) (num_at 4 list.now (at + 1)) }
+{
+    let x = read_u32(list, at + 1);
+    if list[at] == 0 {
+        Call::Flip(x)
+    } else {
+        Call::Counts(x)
+    }
+}
+
+// Makes one call. The tables stay two, for nothing is known of them before the call has tested them.
 fn make_call(
     tables: &[u8],
     terms: &[u8],
     assignment: &mut [u8],
     tallies: &mut [u8],
-    kind: u8,
-    x: u32,
+    call: Call,
 ) -> Answered
     ensures result_value { answered_words result
-        ≡ answer_words (answer (lent tables.now terms.now assignment.old tallies.old) (call_of kind x)) }
+        ≡ answer_words (answer (lent tables.now terms.now assignment.old tallies.old) (called call)) }
     ensures assignment_after { assignment.new
-        ≡ (left_by (lent tables.now terms.now assignment.old tallies.old) (call_of kind x)).assignment }
+        ≡ (left_by (lent tables.now terms.now assignment.old tallies.old) (called call)).assignment }
     ensures tallies_after { tallies.new
-        ≡ (left_by (lent tables.now terms.now assignment.old tallies.old) (call_of kind x)).tallies }
+        ≡ (left_by (lent tables.now terms.now assignment.old tallies.old) (called call)).tallies }
 {
-    if kind == 0 {
-        let f = flip(tables, terms, assignment, tallies, x);
-        return Answered {
-            refusal: f.refusal,
-            rules: f.rules,
-            breaks: Marked::ZERO,
-            makes: Marked::ZERO,
-        };
-    }
-    let c = counts(tables, terms, assignment, tallies, x);
-    Answered {
-        refusal: c.refusal,
-        rules: 0,
-        breaks: c.breaks,
-        makes: c.makes,
+    match call {
+        Call::Flip(x) => {
+            let f = flip(tables, terms, assignment, tallies, x);
+            Answered {
+                refusal: f.refusal,
+                rules: f.rules,
+                breaks: Marked::ZERO,
+                makes: Marked::ZERO,
+            }
+        }
+        Call::Counts(x) => {
+            let c = counts(tables, terms, assignment, tallies, x);
+            Answered {
+                refusal: c.refusal,
+                rules: 0,
+                breaks: c.breaks,
+                makes: c.makes,
+            }
+        }
     }
 }
 
-// Writes a count's two words at a place.
-fn write_count(out: &mut [u8], to: usize, count: Marked)
-    requires { to + 8 ≤ length out.old }
-    ensures { out.new ≡ put to (word_bytes (marked_words count)) out.old }
+// Writes a count's two words.
+fn write_count(out: &mut [u8], count: Marked)
+    requires { length out.old ≡ 8 }
+    ensures { out.new ≡ word_bytes (marked_words count) }
 {
-    write_u32(out, to, count.value);
-    write_u32(out, to + 4, count.cut);
+    write_u32(out, 0, count.value);
+    write_u32(out, 4, count.cut);
 }
 
-// Writes an answer's six words at a place.
-fn write_answer(out: &mut [u8], to: usize, answer: Answered)
-    requires { to + answer_size ≤ length out.old }
-    ensures { out.new ≡ put to (word_bytes (answered_words answer)) out.old }
+// Writes an answer's six words.
+fn write_answer(out: &mut [u8], answer: Answered)
+    requires { length out.old ≡ answer_size }
+    ensures { out.new ≡ word_bytes (answered_words answer) }
 {
-    write_u32(out, to, answer.refusal);
-    write_u32(out, to + 4, answer.rules);
-    write_count(out, to + 8, answer.breaks);
-    write_count(out, to + 16, answer.makes);
+    write_u32(out, 0, answer.refusal);
+    write_u32(out, 4, answer.rules);
+    write_count(&mut out[8..16], answer.breaks);
+    write_count(&mut out[16..24], answer.makes);
 }
 
 // Makes the calls of a list, each on what the one before it left. The buffers come one by one, as the C interface lends them.
@@ -104,16 +130,15 @@ fn make_calls(
         ≡ (after (lent tables.now terms.now assignment.old tallies.old) (calls_of list.now)
         ).tallies }
 {
-    let count = list.len() / 5;
+    let count = list.len() / CALL;
     for k in 0..count {
-        let kind = list[5 * k];
-        let x = read_u32(list, 5 * k + 1);
-        let a = make_call(tables, terms, assignment, tallies, kind, x);
-        write_answer(out, ANSWER * k, a);
+        let call = call_at(list, CALL * k);
+        let a = make_call(tables, terms, assignment, tallies, call);
+        write_answer(&mut out[ANSWER * k..ANSWER * (k + 1)], a);
     }
 }
 
-// Opens, and then makes the calls of `list`, 5 bytes each; `out` has room for the bytes of an answer to each. The refusals are the C interface's numbers.
+// Opens, and then makes the calls of `list`; `out` has room for the bytes of an answer to each. The refusals are the C interface's numbers.
 pub fn replay(
     tables: &[u8],
     terms: &[u8],
@@ -135,7 +160,7 @@ pub fn replay(
         ≡ replay_tallies (lent tables.now terms.now assignment.old tallies.old) list.now
         out.old }
 {
-    if out.len() / ANSWER < list.len() / 5 {
+    if out.len() / ANSWER < list.len() / CALL {
         return 21;
     }
     let refusal = open(tables, terms, assignment, tallies);

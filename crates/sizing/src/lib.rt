@@ -6,8 +6,7 @@ ghost use Rattle.std.specs.Prelude.{◌≡◌, ◌≤◌, ◌<◌, length};
 ghost use Rattle.counting.specs.Bound.{bound_of};
 ghost use Rattle.words.specs.Words.{word_at};
 ghost use Rattle.format.specs.Layout.{rule_room};
-ghost use Rattle.format.specs.Tables.{plan_of_tables};
-ghost use Rattle.recount.specs.Core.{Laid, Ready};
+ghost use Rattle.recount.specs.Plans.{plan};
 ghost use Rattle.columns.specs.Layout.{kept_size, need_at, total_at};
 ghost use Rattle.columns.specs.Columns.{Sized, size_word};
 ghost use Rattle.columns.specs.Frames.{Only};
@@ -15,10 +14,12 @@ ghost use Rattle.sizing.specs.Sizing.{Small, SizesPut, RuleSized};
 
 use columns::{LOWER_SIZES, NEVER, TOTALS, UPPER_SIZES};
 use format::RULES;
+use recount::lent::Lent;
+use recount::tables::Tables;
 use rules::state::read_state;
 use words::{index, write_word};
 
-// A or B in a word.
+// A or B in a word. By cases, since map_or would have to be told of each size that it is small.
 fn size_word(size: Option<u64>) -> u32
     requires { Small (bound_of size) }
     ensures { result ≡ size_word (bound_of size) }
@@ -39,23 +40,26 @@ fn put_sizes(tallies: &mut [u8], r: usize, k: u32, a: u32, b: u32)
     write_word(tallies, UPPER_SIZES + 3 * r, b);
 }
 
-// The words of rule r. N and P together are K whatever the assignment.
-fn size_rule(tables: &[u8], terms: &[u8], assignment: &[u8], tallies: &mut [u8], r: usize)
-    requires { Ready tables.now terms.now assignment.now × (r < word_at tables.now 2) × (kept_size ≤ length tallies.old) }
-    ensures { RuleSized tables.now terms.now r tallies.old tallies.new }
+// The words of rule r. N and P together are K whatever the assignment, so any bytes that are long enough do for one.
+fn size_rule(lent: &Lent<'_>, tallies: &mut [u8], r: usize)
+    requires { (r < word_at lent.now.plan.tables.now 2) × (kept_size ≤ length tallies.old) }
+    ensures { RuleSized lent.now.plan.tables.now lent.now.plan.terms.now r tallies.old tallies.new }
 {
-    let s = read_state(tables, terms, assignment, RULES + 5 * r);
+    let s = read_state(lent.plan.tables, lent.plan.terms, lent.bits, RULES + 5 * r);
     put_sizes(tallies, r, s.n + s.p, size_word(s.a), size_word(s.b));
 }
 
 // Those of all rules.
-pub fn size_rules(tables: &[u8], terms: &[u8], tallies: &mut [u8])
-    requires { Laid tables.now terms.now × (kept_size ≤ length tallies.old) }
-    ensures { Sized (plan_of_tables tables.now terms.now) tallies.new
-        × Only (total_at 0) (need_at 0) tallies.old tallies.new }
+pub fn size_rules(t: &Tables<'_>, tallies: &mut [u8])
+    requires { kept_size ≤ length tallies.old }
+    ensures { Sized (plan t.now) tallies.new × Only (total_at 0) (need_at 0) tallies.old tallies.new }
 {
-    let rules = index(tables, 2);
+    let lent = Lent {
+        plan: *t,
+        bits: t.terms,
+    };
+    let rules = index(t.tables, 2);
     for r in 0..rules {
-        size_rule(tables, terms, terms, tallies, r);
+        size_rule(&lent, tallies, r);
     }
 }

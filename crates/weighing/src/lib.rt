@@ -5,8 +5,7 @@ ghost use Rattle.std.specs.Prelude.{◌≡◌, ◌≤◌, ◌<◌, nat_abs, leng
 ghost use Rattle.plpb.specs.Normal.{size};
 ghost use Rattle.words.specs.Words.{signed};
 ghost use Rattle.order.specs.Order.{order, term_at, term_count};
-ghost use Rattle.format.specs.Tables.{plan_of_tables};
-ghost use Rattle.recount.specs.Core.{Laid};
+ghost use Rattle.recount.specs.Plans.{plan};
 ghost use Rattle.columns.specs.Layout.{column_size, weight_at, list_count_at};
 ghost use Rattle.columns.specs.Columns.{no_place, Weighed};
 ghost use Rattle.columns.specs.Frames.{Only};
@@ -14,6 +13,7 @@ ghost use Rattle.columns.specs.Frames.{Only};
 use columns::WEIGHTS;
 use format::{ORDER, RULES};
 use places::{rule_in, term_in};
+use recount::tables::Tables;
 use words::{index, word, write_word};
 
 // The size of the coefficient that a word stands for.
@@ -24,25 +24,22 @@ fn size_in(weight: u32) -> u32
 }
 
 // The weight of entry k.
-fn entry_weight(tables: &[u8], terms: &[u8], k: usize) -> u32
-    requires { Laid tables.now terms.now × (k < term_count (plan_of_tables tables.now terms.now)) }
-    ensures { result
-        ≡ size (term_at (plan_of_tables tables.now terms.now)
-        (get_or (order (plan_of_tables tables.now terms.now)) k no_place)) }
+fn entry_weight(t: &Tables<'_>, k: usize) -> u32
+    requires { k < term_count (plan t.now) }
+    ensures { result ≡ size (term_at (plan t.now) (get_or (order (plan t.now)) k no_place)) }
 {
-    let w = word(tables, ORDER + k);
-    let i = index(tables, RULES + 5 * rule_in(w)) + term_in(w);
-    size_in(word(terms, 2 * i + 1))
+    let w = word(t.tables, ORDER + k);
+    let i = index(t.tables, RULES + 5 * rule_in(w)) + term_in(w);
+    size_in(word(t.terms, 2 * i + 1))
 }
 
 // All of them.
-pub fn weigh(tables: &[u8], terms: &[u8], marks: &mut [u8])
-    requires { Laid tables.now terms.now × (column_size ≤ length marks.old) }
-    ensures { Weighed (plan_of_tables tables.now terms.now) marks.new
-        × Only (weight_at 0) (list_count_at 0) marks.old marks.new }
+pub fn weigh(t: &Tables<'_>, marks: &mut [u8])
+    requires { column_size ≤ length marks.old }
+    ensures { Weighed (plan t.now) marks.new × Only (weight_at 0) (list_count_at 0) marks.old marks.new }
 {
-    let count = index(tables, 3);
+    let count = index(t.tables, 3);
     for k in 0..count {
-        write_word(marks, WEIGHTS + k, entry_weight(tables, terms, k));
+        write_word(marks, WEIGHTS + k, entry_weight(t, k));
     }
 }

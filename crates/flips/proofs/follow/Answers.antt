@@ -29,7 +29,7 @@ loop-k-init c =
 pub pass-requires : goal.pass-requires
 pass-requires c =
     let i = c.loop-k.invariant in
-    pass_ready c.requires (inside c.requires i.0 c.loop-k-test.true c.index-from.ensures c.index-to.ensures) (here c.args.tables.now c.args.x i.0 c.index-from.ensures c.word.ensures) i.2 (rw i.3.size (follow_room c.requires))
+    pass_ready c.requires (inside c.requires i.0 c.loop-k-test.true c.index-from.ensures c.index-to.ensures) (here c.args.lent.now.plan.tables.now c.args.x i.0 c.index-from.ensures c.word.ensures) i.2 (rw i.3.size (follow_room c.requires))
 
 pub loop-k-preserved : goal.loop-k-preserved
 loop-k-preserved c =
@@ -38,34 +38,22 @@ loop-k-preserved c =
       omega (arith, i.0),
       omega (arith, c.loop-k-test.true),
       going_at next
-          (pass_step c.requires (inside c.requires i.0 c.loop-k-test.true c.index-from.ensures c.index-to.ensures) (here c.args.tables.now c.args.x i.0 c.index-from.ensures c.word.ensures) i.2 c.pass.ensures.0),
+          (pass_step c.requires (inside c.requires i.0 c.loop-k-test.true c.index-from.ensures c.index-to.ensures) (here c.args.lent.now.plan.tables.now c.args.x i.0 c.index-from.ensures c.word.ensures) i.2 c.pass.ensures.0),
       inside_more i.3 c.pass.ensures.1,
       λ j. omega (arith, c.slice_known-in-loop-k-1.given j),
     )
 
-pub shape_of-tallies : goal.shape_of-tallies
-shape_of-tallies c = c.loop-k.invariant.3.size
-
 pub returns : goal.returns
 returns c =
     let i = c.loop-k.invariant in
-    let all : c.loop-k.k - c.index-from.result ≡ length (occurrences (plan_of_tables c.args.tables.now c.args.terms.now) c.args.x) =
+    let all : c.loop-k.k - c.index-from.result ≡ length (occurrences (plan_of_tables c.args.lent.now.plan.tables.now c.args.lent.now.plan.terms.now) c.args.x) =
     omega (arith, i.0, i.1, c.loop-k-test.false, c.index-from.ensures, c.index-to.ensures, run_size c.requires) in
-    let size : c.index-to.result - c.index-from.result ≡ length (occurrences (plan_of_tables c.args.tables.now c.args.terms.now) c.args.x) =
+    let size : c.index-to.result - c.index-from.result ≡ length (occurrences (plan_of_tables c.args.lent.now.plan.tables.now c.args.lent.now.plan.terms.now) c.args.x) =
     omega (arith, c.index-from.ensures, c.index-to.ensures, run_size c.requires) in
     (c.narrow.ensures ∙ size ∙ run_named c.requires, going_whole c.requires i.2 i.3 all i.4)
 
-pub overflow_sub-x : goal.overflow_sub-x
-overflow_sub-x c = omega (arith, c.requires.low)
-
-pub overflow_add-x : goal.overflow_add-x
-overflow_add-x c = omega (arith, places_few c.requires)
-
 pub index-from-requires : goal.index-from-requires
 index-from-requires c = omega (arith, places_few c.requires, tables_long _ _ c.requires.ready.laid)
-
-pub overflow_add-x-2 : goal.overflow_add-x-2
-overflow_add-x-2 c = omega (arith, places_few c.requires)
 
 pub index-to-requires : goal.index-to-requires
 index-to-requires c = omega (arith, places_few c.requires, tables_long _ _ c.requires.ready.laid)
@@ -75,9 +63,6 @@ overflow_add-k c = omega (arith, c.loop-k-test.true, c.index-to.ensures, run_few
 
 pub word-requires : goal.word-requires
 word-requires c = omega (arith, c.loop-k-test.true, c.index-to.ensures, run_few c.requires, tables_long _ _ c.requires.ready.laid)
-
-pub overflow_sub-to : goal.overflow_sub-to
-overflow_sub-to c = omega (arith, c.index-from.ensures, c.index-to.ensures, run_size c.requires)
 
 pub narrow-requires : goal.narrow-requires
 narrow-requires c = omega (arith, c.index-to.ensures, run_few c.requires)

@@ -7,42 +7,42 @@ use Rattle.fresh.proofs.Testing.{tested, rule_used, clause_used, both_unused}
 use Rattle.fresh.proofs.fresh.Goals as goal
 
 pub index-n-requires : goal.index-n-requires
-index-n-requires c = omega (arith, tables_long _ _ c.requires.0.laid)
+index-n-requires c = omega (arith, tables_long _ _ c.args.t.now.laid)
 
 pub index-clauses-requires : goal.index-clauses-requires
-index-clauses-requires c = omega (arith, tables_long _ _ c.requires.0.laid)
+index-clauses-requires c = omega (arith, tables_long _ _ c.args.t.now.laid)
 
 pub index-rules-requires : goal.index-rules-requires
-index-rules-requires c = omega (arith, tables_long _ _ c.requires.0.laid)
+index-rules-requires c = omega (arith, tables_long _ _ c.args.t.now.laid)
 
 pub returns-then-not-zeros : goal.returns-then-not-zeros
 returns-then-not-zeros c =
-    rule_used _ _ _ _ c.requires.0 _ c.index-n.ensures _ c.index-rules.ensures (c.zeros.ensures.not_so c.if-not-zeros.true)
+    rule_used _ _ _ _ (record { laid = c.args.t.now.laid; bytes = c.requires.0 }) _ c.index-n.ensures _ c.index-rules.ensures (c.zeros.ensures.not_so c.if-not-zeros.true)
 
 pub overflow_add-clauses : goal.overflow_add-clauses
 overflow_add-clauses c =
-    omega (arith, c.index-clauses.ensures, clauses_few _ _ c.requires.0.laid)
+    omega (arith, c.index-clauses.ensures, clauses_few _ _ c.args.t.now.laid)
 
 pub returns-then-not-zeros-2 : goal.returns-then-not-zeros-2
 returns-then-not-zeros-2 c =
-    clause_used _ _ _ _ c.requires.0 _ c.index-n.ensures _ c.index-clauses.ensures (c.zeros-2.ensures.not_so c.if-not-zeros-2.true)
+    clause_used _ _ _ _ (record { laid = c.args.t.now.laid; bytes = c.requires.0 }) _ c.index-n.ensures _ c.index-clauses.ensures (c.zeros-2.ensures.not_so c.if-not-zeros-2.true)
 
 pub slice_bounds-lent-end : goal.slice_bounds-lent-end
 slice_bounds-lent-end c =
-    first_length _ _ _ c.requires.0 _ c.index-n.ensures
+    first_length _ _ _ (record { laid = c.args.t.now.laid; bytes = c.requires.0 }) _ c.index-n.ensures
 
 pub invariant_of-lent : goal.invariant_of-lent
-invariant_of-lent c = record { ready = first_ready _ _ _ c.requires.0 _ c.index-n.ensures }
+invariant_of-lent c = record { bytes = (first_ready _ _ _ (record { laid = c.args.t.now.laid; bytes = c.requires.0 }) _ c.index-n.ensures).bytes }
 
 pub invariant_of-tallied : goal.invariant_of-tallied
 invariant_of-tallied c = record { room = c.requires.1; bytes = λ i. (c.type_inv.tallies i).fits }
 
 pub clauses_fresh-requires : goal.clauses_fresh-requires
 clauses_fresh-requires c =
-    both_unused _ _ _ _ c.requires.0 _ c.index-n.ensures _ _ c.index-rules.ensures c.index-clauses.ensures
+    both_unused _ _ _ _ (record { laid = c.args.t.now.laid; bytes = c.requires.0 }) _ c.index-n.ensures _ _ c.index-rules.ensures c.index-clauses.ensures
     (c.zeros.ensures.so c.if-not-zeros.false)
     (c.zeros-2.ensures.so c.if-not-zeros-2.false)
 
 pub returns : goal.returns
 returns c =
-    tested _ _ _ c.args.tallies.now c.requires.0 _ c.index-n.ensures c.clauses_fresh.ensures
+    tested _ _ _ c.args.tallies.now (record { laid = c.args.t.now.laid; bytes = c.requires.0 }) _ c.index-n.ensures c.clauses_fresh.ensures

@@ -8,7 +8,7 @@ use Rattle.keeping.proofs.Keeping.{kept_at}
 use Rattle.keeping.proofs.flip_kept.Goals as goal
 
 pub index-n-requires : goal.index-n-requires
-index-n-requires c = omega (arith, tables_long _ _ c.requires.flip.ready.laid)
+index-n-requires c = omega (arith, tables_long _ _ c.args.t.now.laid)
 
 pub slice_bounds-follow-end : goal.slice_bounds-follow-end
 slice_bounds-follow-end c = turned_long _ _ _ _ _ c.requires.flip c.turn.ensures c.index-n.ensures

@@ -24,27 +24,27 @@ here s at from k l h = let z : k ≡ from + (k - from) = omega arith in h ∙ ap
 
 pub loop-k-init : goal.loop-k-init
 loop-k-init c =
-    let z : 0 ≡ c.index-k.result - word_at c.args.tables.now (end_at (c.args.x - 1)) = omega (arith, c.index-k.ensures) in
+    let z : 0 ≡ c.index-k.result - word_at c.args.t.now.tables.now (end_at (c.args.x - 1)) = omega (arith, c.index-k.ensures) in
     (omega (arith, c.index-k.ensures), omega (arith, c.index-k.ensures, c.index-to.ensures, run_size c.requires.follow), keeping_at z (keeping_start c.requires), λ j. omega (arith, c.slice_known-1.given j))
 
 pub pass-requires : goal.pass-requires
 pass-requires c =
     let i = c.loop-k.invariant in
     place_ready c.requires (inside c.requires.follow i.0 c.loop-k-test.true c.index-to.ensures)
-    (here c.args.tables.now (λ n. entry_at n) (word_at c.args.tables.now (end_at (c.args.x - 1))) _ i.0 c.word.ensures)
-    (here c.args.marks.now (λ n. weight_at n) (word_at c.args.tables.now (end_at (c.args.x - 1))) _ i.0 c.word-in-loop-k.ensures)
+    (here c.args.t.now.tables.now (λ n. entry_at n) (word_at c.args.t.now.tables.now (end_at (c.args.x - 1))) _ i.0 c.word.ensures)
+    (here c.args.marks.now (λ n. weight_at n) (word_at c.args.t.now.tables.now (end_at (c.args.x - 1))) _ i.0 c.word-in-loop-k.ensures)
     c.value_of-value.ensures i.2
 
 pub loop-k-preserved : goal.loop-k-preserved
 loop-k-preserved c =
     let i = c.loop-k.invariant in
-    let from = word_at c.args.tables.now (end_at (c.args.x - 1)) in
-    let next : c.loop-k.k - word_at c.args.tables.now (end_at (c.args.x - 1)) + 1 ≡ c.loop-k.k + 1 - word_at c.args.tables.now (end_at (c.args.x - 1)) = omega (arith, i.0) in (
+    let from = word_at c.args.t.now.tables.now (end_at (c.args.x - 1)) in
+    let next : c.loop-k.k - word_at c.args.t.now.tables.now (end_at (c.args.x - 1)) + 1 ≡ c.loop-k.k + 1 - word_at c.args.t.now.tables.now (end_at (c.args.x - 1)) = omega (arith, i.0) in (
       omega (arith, i.0),
       omega (arith, c.loop-k-test.true),
       keeping_at next
           (place_kept c.requires (inside c.requires.follow i.0 c.loop-k-test.true c.index-to.ensures)
-          (here c.args.tables.now (λ n. entry_at n) from _ i.0 c.word.ensures)
+          (here c.args.t.now.tables.now (λ n. entry_at n) from _ i.0 c.word.ensures)
           (here c.args.marks.now (λ n. weight_at n) from _ i.0 c.word-in-loop-k.ensures)
           c.value_of-value.ensures i.2 c.pass.ensures),
       λ j. omega (arith, c.slice_known-in-loop-k-1.given j),
@@ -53,41 +53,23 @@ loop-k-preserved c =
 pub returns : goal.returns
 returns c =
     let i = c.loop-k.invariant in
-    let all : c.loop-k.k - word_at c.args.tables.now (end_at (c.args.x - 1)) ≡ length (occurrences (plan_of_tables c.args.tables.now c.args.terms.now) c.args.x) = omega (arith, i.0, i.1, c.loop-k-test.false, c.index-to.ensures, run_size c.requires.follow) in
+    let all : c.loop-k.k - word_at c.args.t.now.tables.now (end_at (c.args.x - 1)) ≡ length (occurrences (plan_of_tables c.args.t.now.tables.now c.args.t.now.terms.now) c.args.x) = omega (arith, i.0, i.1, c.loop-k-test.false, c.index-to.ensures, run_size c.requires.follow) in
     keeping_end c.requires i.2 all i.3
 
-pub value_of-value-requires : goal.value_of-value-requires
-value_of-value-requires c = let y = c.requires.follow in (y.low, omega (arith, y.high, y.ready.bytes))
-
-pub overflow_add-x : goal.overflow_add-x
-overflow_add-x c = omega (arith, places_few c.requires.follow)
-
 pub index-to-requires : goal.index-to-requires
-index-to-requires c = omega (arith, places_few c.requires.follow, tables_long _ _ c.requires.follow.ready.laid)
-
-pub overflow_sub-x : goal.overflow_sub-x
-overflow_sub-x c = omega (arith, c.requires.follow.low)
-
-pub overflow_cast-x-2 : goal.overflow_cast-x-2
-overflow_cast-x-2 c = omega (arith, places_few c.requires.follow)
-
-pub overflow_add-x-2 : goal.overflow_add-x-2
-overflow_add-x-2 c = omega (arith, places_few c.requires.follow)
+index-to-requires c = omega (arith, places_few c.requires.follow, tables_long _ _ c.args.t.now.laid)
 
 pub index-k-requires : goal.index-k-requires
-index-k-requires c = omega (arith, places_few c.requires.follow, tables_long _ _ c.requires.follow.ready.laid)
+index-k-requires c = omega (arith, places_few c.requires.follow, tables_long _ _ c.args.t.now.laid)
 
 pub overflow_add-k : goal.overflow_add-k
 overflow_add-k c = omega (arith, c.loop-k-test.true, c.index-to.ensures, run_few c.requires.follow)
 
 pub word-requires : goal.word-requires
-word-requires c = omega (arith, c.loop-k-test.true, c.index-to.ensures, run_few c.requires.follow, tables_long _ _ c.requires.follow.ready.laid)
+word-requires c = omega (arith, c.loop-k-test.true, c.index-to.ensures, run_few c.requires.follow, tables_long _ _ c.args.t.now.laid)
 
 pub overflow_add-k-in-loop-k : goal.overflow_add-k-in-loop-k
 overflow_add-k-in-loop-k c = omega (arith, c.loop-k-test.true, c.index-to.ensures, run_few c.requires.follow)
 
 pub word-requires-in-loop-k : goal.word-requires-in-loop-k
 word-requires-in-loop-k c = omega (arith, c.loop-k-test.true, c.index-to.ensures, run_few c.requires.follow, c.requires.weighed.room)
-
-pub shape_of-tallies : goal.shape_of-tallies
-shape_of-tallies c = c.loop-k.invariant.2.size_same

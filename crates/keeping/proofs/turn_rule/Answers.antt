@@ -15,9 +15,3 @@ pub returns : goal.returns
 returns c =
     let p = word_wrote c.args.r c.moved-after.result.p _ _ (search rules) (search rules) c.write_word.ensures in
     rule_turned c.requires c.read_rule-before.ensures c.moved-after.ensures p c.put_needs.ensures c.holds.ensures c.holds-2.ensures
-
-pub read_rule-before-requires : goal.read_rule-before-requires
-read_rule-before-requires c = c.requires.rule
-
-pub write_word-requires : goal.write_word-requires
-write_word-requires c = omega (arith, c.requires.rule.rule, c.requires.rule.room)

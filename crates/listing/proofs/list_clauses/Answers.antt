@@ -10,23 +10,26 @@ pub clear_counts-requires : goal.clear_counts-requires
 clear_counts-requires c = c.requires
 
 pub index-n-requires : goal.index-n-requires
-index-n-requires c = omega (arith, tables_long _ _ c.requires.0)
+index-n-requires c = omega (arith, tables_long _ _ c.args.t.now.laid)
 
 pub loop-x-init : goal.loop-x-init
 loop-x-init c = (omega arith, omega arith, c.clear_counts.ensures.0, only_none _ _ _)
 
-pub list_variable-requires : goal.list_variable-requires
-list_variable-requires c = (c.requires.0, c.loop-x.invariant.0, omega (arith, c.loop-x-test.true, c.index-n.ensures, variables_word _ _ c.requires.0), c.loop-x.invariant.2)
+pub invariant_of-variable : goal.invariant_of-variable
+invariant_of-variable c = record { low = c.loop-x.invariant.0; high = omega (arith, c.loop-x-test.true, c.index-n.ensures, variables_word _ _ c.args.t.now.laid) }
+
+pub list-requires : goal.list-requires
+list-requires c = c.loop-x.invariant.2
 
 pub loop-x-preserved : goal.loop-x-preserved
-loop-x-preserved c = (omega arith, omega (arith, c.loop-x-test.true), c.list_variable.ensures.0, only_next c.loop-x.invariant.3 c.list_variable.ensures.1)
+loop-x-preserved c = (omega arith, omega (arith, c.loop-x-test.true), c.list.ensures.0, only_next c.loop-x.invariant.3 c.list.ensures.1)
 
 pub shape_of-marks : goal.shape_of-marks
 shape_of-marks c = c.loop-x.invariant.3.size ∙ c.clear_counts.ensures.1.size
 
 pub returns : goal.returns
-returns c = (all_listed c.requires.0 c.index-n.ensures c.loop-x.invariant.1 c.loop-x-test.false c.loop-x.invariant.2, only_next c.clear_counts.ensures.1 c.loop-x.invariant.3)
+returns c = (all_listed c.args.t.now.laid c.index-n.ensures c.loop-x.invariant.1 c.loop-x-test.false c.loop-x.invariant.2, only_next c.clear_counts.ensures.1 c.loop-x.invariant.3)
 
 -- The last variable is listed.
 pub returns-2 : goal.returns-2
-returns-2 c = (all_listed c.requires.0 c.index-n.ensures (omega arith) (omega arith) c.list_variable.ensures.0, only_next c.clear_counts.ensures.1 (only_next c.loop-x.invariant.3 c.list_variable.ensures.1))
+returns-2 c = (all_listed c.args.t.now.laid c.index-n.ensures (omega arith) (omega arith) c.list.ensures.0, only_next c.clear_counts.ensures.1 (only_next c.loop-x.invariant.3 c.list.ensures.1))

@@ -1,16 +1,16 @@
--- `replay::make_call` meets its contract: a flip or a counts call as its kind says. Assumes nothing.
+-- `replay::make_call` meets its contract: a flip or a counts call. Assumes nothing.
 use mathlib.Core.Path.{◌∙◌}
 use Rattle.replay.proofs.Made.{flip_made, counts_made}
 use Rattle.replay.proofs.make_call.Goals as goal
 
-pub returns-then-kind-eq0 : goal.returns-then-kind-eq0
-returns-then-kind-eq0 c =
+pub returns-in-Flip : goal.returns-in-Flip
+returns-in-Flip c =
     let f = c.flip-f.ensures in
-    let m = flip_made _ _ _ _ _ f.refusal_value f.rules_value c.if-kind-eq0.true in
-    record { result_value = m.0; assignment_after = f.assignment_after ∙ m.1; tallies_after = f.tallies_after ∙ m.2 }
+    let m = flip_made _ _ _ _ f.refusal_value f.rules_value in
+    rw c.in-Flip.is (record { result_value = m.0; assignment_after = f.assignment_after ∙ m.1; tallies_after = f.tallies_after ∙ m.2 })
 
-pub returns : goal.returns
-returns c =
+pub returns-in-Counts : goal.returns-in-Counts
+returns-in-Counts c =
     let e = c.counts-c.ensures in
-    let m = counts_made _ _ _ _ e.refusal_value _ _ c.if-kind-eq0.false e.breaks_value e.makes_value in
-    record { result_value = m.0; assignment_after = m.1; tallies_after = m.2 }
+    let m = counts_made _ _ _ e.refusal_value _ _ e.breaks_value e.makes_value in
+    rw c.in-Counts.is (record { result_value = m.0; assignment_after = m.1; tallies_after = m.2 })

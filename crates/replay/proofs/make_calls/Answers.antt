@@ -1,8 +1,9 @@
 -- The goals that the search leaves.
 use native.Mathlib.Omega.{arith}
+use borrow.Rule.Slice.PartMut.{same_len_mid}
 use mathlib.Core.Path.{refl, sym, ap, ◌∙◌}
 use Rattle.tallies.specs.Calls.{Lent}
-use Rattle.replay.proofs.Made.{after_turn, answers_turn, answers_first, after_first, answers_last, after_last}
+use Rattle.replay.proofs.Made.{part_written, after_turn, answers_turn, answers_first, after_first, answers_last, after_last}
 use Rattle.replay.proofs.make_calls.Goals as goal
 
 pub loop-k-init : goal.loop-k-init
@@ -12,11 +13,12 @@ pub loop-k-preserved : goal.loop-k-preserved
 loop-k-preserved c =
     let e = c.make_call-a.ensures in
     let l = c.loop-k in (
-      answers_turn _ _ _ l.k _ _ _ c.loop-k-test.true c.read_u32-x.ensures e.assignment_after e.tallies_after _ l.out _ (omega (arith, c.requires, l.invariant.4)) e.result_value c.write_answer.ensures ∙ l.invariant.0,
-      after_turn _ _ _ l.k _ _ _ c.loop-k-test.true c.read_u32-x.ensures e.assignment_after e.tallies_after ∙ l.invariant.1,
+      answers_turn _ _ _ l.k _ _ _ c.loop-k-test.true c.call_at-call.ensures e.assignment_after e.tallies_after _ l.out _ (omega (arith, c.requires, l.invariant.4)) e.result_value
+          (part_written _ _ _ l.out c.write_answer.ensures (omega arith)) ∙ l.invariant.0,
+      after_turn _ _ _ l.k _ _ _ c.loop-k-test.true c.call_at-call.ensures e.assignment_after e.tallies_after ∙ l.invariant.1,
       c.make_call-a.auto.assignment ∙ l.invariant.2,
       c.make_call-a.auto.tallies ∙ l.invariant.3,
-      c.write_answer.auto.out ∙ l.invariant.4,
+      same_len_mid _ _ l.out _ c.write_answer.auto.out ∙ l.invariant.4,
     )
 
 pub shape_of-assignment : goal.shape_of-assignment

@@ -7,28 +7,25 @@ use Rattle.sizing.proofs.size_rule.Goals as goal
 
 pub size_word-requires : goal.size_word-requires
 size_word-requires c =
-    lower_fits c.args.tables.now c.args.terms.now c.args.r c.read_state-s.ensures c.requires.0.laid c.requires.1
+    lower_fits c.args.lent.now.plan.tables.now c.args.lent.now.plan.terms.now c.args.r c.read_state-s.ensures c.args.lent.now.plan.laid c.requires.0
 
 pub size_word-requires-2 : goal.size_word-requires-2
 size_word-requires-2 c =
-    upper_fits c.args.tables.now c.args.terms.now c.args.r c.read_state-s.ensures c.requires.0.laid c.requires.1
+    upper_fits c.args.lent.now.plan.tables.now c.args.lent.now.plan.terms.now c.args.r c.read_state-s.ensures c.args.lent.now.plan.laid c.requires.0
 
 pub put_sizes-requires : goal.put_sizes-requires
 put_sizes-requires c =
-    (omega (arith, c.requires.1, rules_few _ _ c.requires.0.laid), c.requires.2)
+    (omega (arith, c.requires.0, rules_few _ _ c.args.lent.now.plan.laid), c.requires.1)
 
 pub returns : goal.returns
 returns c =
-    rule_sized c.args.tables.now c.args.terms.now c.args.r c.read_state-s.ensures c.size_word.ensures c.size_word-2.ensures c.put_sizes.ensures
+    rule_sized c.args.lent.now.plan.tables.now c.args.lent.now.plan.terms.now c.args.r c.read_state-s.ensures c.size_word.ensures c.size_word-2.ensures c.put_sizes.ensures
 
 pub overflow_mul-r : goal.overflow_mul-r
-overflow_mul-r c = omega (arith, c.requires.1, rules_few _ _ c.requires.0.laid)
+overflow_mul-r c = omega (arith, c.requires.0, rules_few _ _ c.args.lent.now.plan.laid)
 
 pub overflow_add-r : goal.overflow_add-r
-overflow_add-r c = omega (arith, c.requires.1, rules_few _ _ c.requires.0.laid)
+overflow_add-r c = omega (arith, c.requires.0, rules_few _ _ c.args.lent.now.plan.laid)
 
 pub read_state-s-requires : goal.read_state-s-requires
-read_state-s-requires c = rule_ready _ _ _ c.requires.0 _ c.requires.1
-
-pub shape_of-tallies : goal.shape_of-tallies
-shape_of-tallies c = c.put_sizes.ensures.only.size
+read_state-s-requires c = rule_ready _ _ _ (record { laid = c.args.lent.now.plan.laid; bytes = c.args.lent.now.bytes }) _ c.requires.0

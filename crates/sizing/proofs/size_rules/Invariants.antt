@@ -5,4 +5,4 @@ use Rattle.sizing.proofs.Sizing.{Before}
 use Rattle.sizing.proofs.size_rules.Given as goal
 
 abbrev pub invariant-loop-r : goal.invariant-loop-r
-invariant-loop-r l = (l.r ≤ l.rules) × Before l.tables l.terms l.initial.tallies l.r l.tallies
+invariant-loop-r l = (l.r ≤ l.rules) × Before l.t.tables.now l.t.terms.now l.initial.tallies l.r l.tallies

@@ -1,27 +1,20 @@
 -- `entry_weight` meets its contract: the entry's word tells a place of the plan, and the term stands there.
 -- Assumes nothing.
-use Prim.Native.Nat.{◌+◌, ◌*◌, ◌≤◌, ◌<◌}
+use Prim.Native.Nat.{◌<◌}
 use native.Mathlib.Omega.{arith}
-use lib.ListN.{length}
 use Rattle.recount.proofs.Laid.{tables_long, rules_few}
 use Rattle.weighing.proofs.Weighing.{entries_few, rule_there, term_few, term_inside, weight_here}
-use Rattle.weighing.proofs.entry_weight.Goals.{After-rule_in, After-term_in}
+use Rattle.weighing.proofs.entry_weight.Goals.{After-rule_in}
 use Rattle.weighing.proofs.entry_weight.Goals as goal
 
 rule_few : (c : After-rule_in) → c.rule_in.result < 1_025
-rule_few c = omega (arith, rule_there c.requires.0 c.requires.1 c.word-w.ensures c.rule_in.ensures, rules_few _ _ c.requires.0)
-
-inside : (c : After-term_in) → 8 * (c.index.result + c.term_in.result + 1) ≤ length c.args.terms.now
-inside c = term_inside c.requires.0 c.requires.1 c.word-w.ensures c.rule_in.ensures c.index.ensures c.term_in.ensures
-
-few : (c : After-term_in) → c.index.result + c.term_in.result < 6_512
-few c = term_few c.requires.0 c.requires.1 c.word-w.ensures c.rule_in.ensures c.index.ensures c.term_in.ensures
+rule_few c = omega (arith, rule_there c.args.t.now.laid c.requires c.word-w.ensures c.rule_in.ensures, rules_few _ _ c.args.t.now.laid)
 
 pub overflow_add-k : goal.overflow_add-k
-overflow_add-k c = omega (arith, entries_few c.requires.0 c.requires.1)
+overflow_add-k c = omega (arith, entries_few c.args.t.now.laid c.requires)
 
 pub word-w-requires : goal.word-w-requires
-word-w-requires c = omega (arith, entries_few c.requires.0 c.requires.1, tables_long _ _ c.requires.0)
+word-w-requires c = omega (arith, entries_few c.args.t.now.laid c.requires, tables_long _ _ c.args.t.now.laid)
 
 pub overflow_mul-rule_in : goal.overflow_mul-rule_in
 overflow_mul-rule_in c = omega (arith, rule_few c)
@@ -30,19 +23,19 @@ pub overflow_add-rule_in : goal.overflow_add-rule_in
 overflow_add-rule_in c = omega (arith, rule_few c)
 
 pub index-requires : goal.index-requires
-index-requires c = omega (arith, rule_few c, tables_long _ _ c.requires.0)
+index-requires c = omega (arith, rule_few c, tables_long _ _ c.args.t.now.laid)
 
 pub overflow_add-i : goal.overflow_add-i
-overflow_add-i c = omega (arith, few c)
+overflow_add-i c = omega (arith, term_few c.args.t.now.laid c.requires c.word-w.ensures c.rule_in.ensures c.index.ensures c.term_in.ensures)
 
 pub overflow_mul-i : goal.overflow_mul-i
-overflow_mul-i c = omega (arith, few c)
+overflow_mul-i c = omega (arith, term_few c.args.t.now.laid c.requires c.word-w.ensures c.rule_in.ensures c.index.ensures c.term_in.ensures)
 
 pub overflow_add-i-2 : goal.overflow_add-i-2
-overflow_add-i-2 c = omega (arith, few c)
+overflow_add-i-2 c = omega (arith, term_few c.args.t.now.laid c.requires c.word-w.ensures c.rule_in.ensures c.index.ensures c.term_in.ensures)
 
 pub word-requires : goal.word-requires
-word-requires c = omega (arith, inside c)
+word-requires c = omega (arith, term_inside c.args.t.now.laid c.requires c.word-w.ensures c.rule_in.ensures c.index.ensures c.term_in.ensures)
 
 pub returns : goal.returns
-returns c = weight_here c.requires.0 c.requires.1 c.word-w.ensures c.rule_in.ensures c.index.ensures c.term_in.ensures c.word.ensures c.size_in.ensures
+returns c = weight_here c.args.t.now.laid c.requires c.word-w.ensures c.rule_in.ensures c.index.ensures c.term_in.ensures c.word.ensures c.size_in.ensures

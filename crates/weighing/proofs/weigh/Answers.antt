@@ -17,25 +17,25 @@ next : {tables terms : List ℕ} {k n : ℕ} → Laid tables terms → k < n →
 next y h e = omega (arith, h, e, (sections _ _ y).terms)
 
 pub index-count-requires : goal.index-count-requires
-index-count-requires c = omega (arith, tables_long _ _ c.requires.0)
+index-count-requires c = omega (arith, tables_long _ _ c.args.t.now.laid)
 
 pub loop-k-init : goal.loop-k-init
 loop-k-init c = (omega arith, weighed_none _ _)
 
 pub overflow_add-k : goal.overflow_add-k
-overflow_add-k c = omega (arith, entries_few c.requires.0 (next c.requires.0 c.loop-k-test.true c.index-count.ensures))
+overflow_add-k c = omega (arith, entries_few c.args.t.now.laid (next c.args.t.now.laid c.loop-k-test.true c.index-count.ensures))
 
 pub entry_weight-requires : goal.entry_weight-requires
-entry_weight-requires c = (c.requires.0, next c.requires.0 c.loop-k-test.true c.index-count.ensures)
+entry_weight-requires c = next c.args.t.now.laid c.loop-k-test.true c.index-count.ensures
 
 pub write_word-requires : goal.write_word-requires
-write_word-requires c = omega (arith, entries_few c.requires.0 (next c.requires.0 c.loop-k-test.true c.index-count.ensures), c.loop-k.invariant.1.only.size, c.requires.1)
+write_word-requires c = omega (arith, entries_few c.args.t.now.laid (next c.args.t.now.laid c.loop-k-test.true c.index-count.ensures), c.loop-k.invariant.1.only.size, c.requires)
 
 pub loop-k-preserved : goal.loop-k-preserved
-loop-k-preserved c = (omega (arith, c.loop-k-test.true), weighed_next c.requires.1 (entries_few c.requires.0 (next c.requires.0 c.loop-k-test.true c.index-count.ensures)) (search rules) c.entry_weight.ensures c.loop-k.invariant.1 c.write_word.ensures)
+loop-k-preserved c = (omega (arith, c.loop-k-test.true), weighed_next c.requires (entries_few c.args.t.now.laid (next c.args.t.now.laid c.loop-k-test.true c.index-count.ensures)) (search rules) c.entry_weight.ensures c.loop-k.invariant.1 c.write_word.ensures)
 
 pub shape_of-marks : goal.shape_of-marks
 shape_of-marks c = c.loop-k.invariant.1.only.size
 
 pub returns : goal.returns
-returns c = weighed_all c.requires.0 c.requires.1 c.index-count.ensures c.loop-k-test.false c.loop-k.invariant.1
+returns c = weighed_all c.args.t.now.laid c.requires c.index-count.ensures c.loop-k-test.false c.loop-k.invariant.1

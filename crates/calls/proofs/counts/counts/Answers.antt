@@ -13,8 +13,11 @@ returns-in-Err c =
     let k = counts_refused _ _ _ e (some_number c.in-Err.refusal) in
     record { refusal_value = c.from.ensures ∙ e; breaks_value = k.0; makes_value = k.1 }
 
+pub invariant_of-t : goal.invariant_of-t
+invariant_of-t c = record { laid = (flippable _ _ (sym c.in_default.ensures)).ready.laid }
+
 pub counts_core-c-requires : goal.counts_core-c-requires
-counts_core-c-requires c = let f = flippable _ _ (sym c.in_default.ensures) in (f.ready, f.low, f.high)
+counts_core-c-requires c = let f = flippable _ _ (sym c.in_default.ensures) in (f.ready.bytes, f.low, f.high)
 
 pub returns : goal.returns
 unfolding plan

@@ -10,6 +10,9 @@ returns-in-Err c =
     let k = flip_refused _ _ _ e (some_number c.in-Err.refusal) in
     record { refusal_value = c.from.ensures ∙ e; rules_value = k.0; assignment_after = k.1; tallies_after = k.2 }
 
+pub invariant_of-t : goal.invariant_of-t
+invariant_of-t c = record { laid = (flip_tested _ _ (sym c.in_default.ensures)).ready.laid }
+
 pub flip_core-rules-requires : goal.flip_core-rules-requires
 flip_core-rules-requires c = flip_tested _ _ (sym c.in_default.ensures)
 

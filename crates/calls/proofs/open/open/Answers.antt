@@ -6,10 +6,13 @@ use Rattle.calls.proofs.Opening.{some_number}
 use Rattle.calls.proofs.Accepting.{open_refused, open_accepted}
 use Rattle.calls.proofs.open.open.Goals as goal
 
+pub invariant_of-t : goal.invariant_of-t
+invariant_of-t c = record { laid = (opens_ready _ (opens _ (sym c.in_default.ensures))).laid }
+
 pub open_core-requires : goal.open_core-requires
 open_core-requires c =
     let o = opens _ (sym c.in_default.ensures) in
-    (opens_ready _ o, tallies_room _ o)
+    ((opens_ready _ o).bytes, tallies_room _ o)
 
 pub returns-in-Err-clause-tallies_after : goal.returns-in-Err-clause-tallies_after
 returns-in-Err-clause-tallies_after c = open_refused _ _ c.in-Err.ensures (some_number c.in-Err.refusal)

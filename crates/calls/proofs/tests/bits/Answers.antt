@@ -1,16 +1,14 @@
--- The goals that the search leaves.
-use mathlib.Core.Path.{sym, ◌∙◌}
-use Rattle.calls.proofs.BitsLeft.{bits_start, bits_step, bits_fail, bits_end}
+-- `bits` meets its contract: each byte is asked.
+use mathlib.Core.Path.{◌∙◌}
+use lib.Dec.{leb}
+use borrow.Author.Rules.{rules}
+use borrow.Author.Tests.{tests}
+use Rattle.std.proofs.lemmas.Iterator.{YieldsList-from_slice}
+use Rattle.std.proofs.lemmas.Iterator.Search.{all_from_yields_List}
+use Rattle.calls.proofs.Bits.{bits_each}
 use Rattle.calls.proofs.tests.bits.Goals as goal
 
-pub loop-b-init : goal.loop-b-init
-loop-b-init c = bits_start _ _
-
-pub returns-then-b-gt1 : goal.returns-then-b-gt1
-returns-then-b-gt1 c = sym (bits_fail _ _ c.loop-b-test.true c.if-b-gt1.true) ∙ c.loop-b.invariant
-
-pub loop-b-preserved : goal.loop-b-preserved
-loop-b-preserved c = sym (bits_step _ _ c.loop-b-test.true c.if-b-gt1.false) ∙ c.loop-b.invariant
-
 pub returns : goal.returns
-returns c = sym (bits_end _ _ c.loop-b-test.false) ∙ c.loop-b.invariant
+returns c =
+    all_from_yields_List (λ b. leb b 1) _ _ c.all.result c.all.ensures.ran (YieldsList-from_slice c.args.bytes.now c.iter.ensures.rest) (λ i b q e. search (rules, tests))
+    ∙ bits_each c.args.bytes.now

@@ -7,7 +7,7 @@ use Rattle.exact.proofs.Summing.{shares_start, shares_step, shares_end}
 use Rattle.exact.proofs.Asked.clause_shares.Goals as goal
 
 pub rules_of-rules-requires : goal.rules_of-rules-requires
-rules_of-rules-requires c = run_readable _ _ c.args.self.now.lent.ready.laid _ c.requires
+rules_of-rules-requires c = run_readable _ _ c.args.self.now.lent.plan.laid _ c.requires
 
 pub loop-r-init : goal.loop-r-init
 unfolding start_shares
@@ -15,7 +15,7 @@ loop-r-init c = shares_start _ _ _ _ _ _ _ _ c.rules_of-rules.ensures.0 c.rules_
 
 pub join_rule-shares-requires : goal.join_rule-shares-requires
 join_rule-shares-requires c =
-    omega (arith, c.loop-r-test.true, c.loop-r.invariant.ends, rules_inside _ _ c.args.self.now.lent.ready.laid _ c.requires)
+    omega (arith, c.loop-r-test.true, c.loop-r.invariant.ends, rules_inside _ _ c.args.self.now.lent.plan.laid _ c.requires)
 
 pub loop-r-preserved : goal.loop-r-preserved
 loop-r-preserved c = shares_step _ _ _ _ _ _ _ _ c.loop-r.invariant _ c.loop-r-test.true c.join_rule-shares.ensures

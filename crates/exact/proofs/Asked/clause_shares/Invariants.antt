@@ -7,4 +7,4 @@ use Rattle.exact.proofs.Summing.{SharesDone}
 use Rattle.exact.proofs.Asked.clause_shares.Given as goal
 
 abbrev pub invariant-loop-r : goal.invariant-loop-r
-invariant-loop-r l = SharesDone (word_at l.self.lent.tables.now) (word_at l.self.lent.terms.now) (bits_in l.self.lent.bits.now) l.c l.self.x l.r-end l.r (shares_in l.shares)
+invariant-loop-r l = SharesDone (word_at l.self.lent.plan.tables.now) (word_at l.self.lent.plan.terms.now) (bits_in l.self.lent.bits.now) l.c l.self.x l.r-end l.r (shares_in l.shares)

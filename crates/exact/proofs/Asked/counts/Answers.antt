@@ -5,7 +5,7 @@ use Rattle.exact.proofs.Summing.{sum_start, sum_more, sum_end_lem, sum_breaks, s
 use Rattle.exact.proofs.Asked.counts.Goals as goal
 
 pub index-clauses-requires : goal.index-clauses-requires
-index-clauses-requires c = omega (arith, tables_long _ _ c.args.self.now.lent.ready.laid)
+index-clauses-requires c = omega (arith, tables_long _ _ c.args.self.now.lent.plan.laid)
 
 pub loop-c-init : goal.loop-c-init
 loop-c-init c = (sum_start _ _ _, sum_start _ _ _)

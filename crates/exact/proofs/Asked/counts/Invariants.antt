@@ -9,5 +9,5 @@ use Rattle.exact.proofs.Asked.counts.Given as goal
 
 abbrev pub invariant-loop-c : goal.invariant-loop-c
 invariant-loop-c l =
-    SumDone (clause_break (bits_in l.self.lent.bits.now) l.self.x) (word_at l.self.lent.tables.now) (word_at l.self.lent.terms.now) l.c (number l.sum.breaks)
-    × SumDone (clause_make (bits_in l.self.lent.bits.now) l.self.x) (word_at l.self.lent.tables.now) (word_at l.self.lent.terms.now) l.c (number l.sum.makes)
+    SumDone (clause_break (bits_in l.self.lent.bits.now) l.self.x) (word_at l.self.lent.plan.tables.now) (word_at l.self.lent.plan.terms.now) l.c (number l.sum.breaks)
+    × SumDone (clause_make (bits_in l.self.lent.bits.now) l.self.x) (word_at l.self.lent.plan.tables.now) (word_at l.self.lent.plan.terms.now) l.c (number l.sum.makes)

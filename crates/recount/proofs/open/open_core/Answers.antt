@@ -5,26 +5,26 @@ use mathlib.Core.Path.{sym}
 use lib.Seq.{length-take-le}
 use Rattle.tallies.specs.Layout.{tally_size}
 use Rattle.recount.proofs.Laid.{tables_long}
-use Rattle.recount.proofs.Cores.{first_length, first_counted, cleared_countable, cleared_unused, cleared_beyond}
+use Rattle.recount.proofs.Cores.{first_length, first_ready, first_counted, cleared_room, cleared_unused, cleared_beyond}
 use Rattle.recount.proofs.open.open_core.Goals as goal
 
 pub index-n-requires : goal.index-n-requires
-index-n-requires c =
-    omega (arith, tables_long _ _ c.requires.0.laid)
+index-n-requires c = omega (arith, tables_long _ _ c.args.t.now.laid)
 
 pub slice_bounds-clear-end-2 : goal.slice_bounds-clear-end-2
 slice_bounds-clear-end-2 c = sym (length-take-le tally_size c.args.tallies.now c.requires.1)
 
 pub slice_bounds-recount-end : goal.slice_bounds-recount-end
 slice_bounds-recount-end c =
-    first_length _ _ _ c.requires.0 _ c.index-n.ensures
+    first_length _ _ _ (record { laid = c.args.t.now.laid; bytes = c.requires.0 }) _ c.index-n.ensures
 
 pub recount-requires : goal.recount-requires
 recount-requires c = (
-  cleared_countable _ _ _ c.args.tallies.now _ c.requires.0 _ c.index-n.ensures c.requires.1 c.clear.ensures,
+  (first_ready _ _ _ (record { laid = c.args.t.now.laid; bytes = c.requires.0 }) _ c.index-n.ensures).bytes,
+  cleared_room c.args.tallies.now _ c.requires.1 c.clear.ensures,
   cleared_unused c.args.tallies.now _ c.requires.1 c.clear.ensures _,
 )
 
 pub returns : goal.returns
 returns c =
-    first_counted _ _ _ c.requires.0 _ c.index-n.ensures c.args.tallies.now _ _ (cleared_beyond c.args.tallies.now _ c.requires.1 c.clear.ensures) c.recount.ensures
+    first_counted _ _ _ (record { laid = c.args.t.now.laid; bytes = c.requires.0 }) _ c.index-n.ensures c.args.tallies.now _ _ (cleared_beyond c.args.tallies.now _ c.requires.1 c.clear.ensures) c.recount.ensures

@@ -14,8 +14,11 @@ returns-in_err-open_refusal c =
     let q = c.in_err-open_refusal.field-0.0 in
     passed_on _ q c.from_residual.ensures.1 (call_first _ _ _ c.in_err-open_refusal.ensures (some_number q))
 
+pub invariant_of-t : goal.invariant_of-t
+invariant_of-t c = record { laid = (opens_ready _ (opens _ (sym c.in_ok-open_refusal.ensures))).laid }
+
 pub fresh-requires : goal.fresh-requires
-fresh-requires c = let o = opens _ (sym c.in_ok-open_refusal.ensures) in (opens_ready _ o, tallies_room _ o)
+fresh-requires c = let o = opens _ (sym c.in_ok-open_refusal.ensures) in ((opens_ready _ o).bytes, tallies_room _ o)
 
 pub returns-then-not-fresh : goal.returns-then-not-fresh
 unfolding fresh_bytes plan

@@ -7,10 +7,10 @@ use Rattle.recount.proofs.lent.Lent.recount.Goals as goal
 
 pub index-clauses-requires : goal.index-clauses-requires
 index-clauses-requires c =
-    omega (arith, tables_long _ _ c.args.self.now.ready.laid)
+    omega (arith, tables_long _ _ c.args.self.now.plan.laid)
 
 pub loop-c-init : goal.loop-c-init
-loop-c-init c = clauses_start _ _ _ c.args.self.now.ready.laid _
+loop-c-init c = clauses_start _ _ _ c.args.self.now.plan.laid _
 
 pub recount_clause-requires : goal.recount_clause-requires
 recount_clause-requires c =
@@ -18,20 +18,20 @@ recount_clause-requires c =
 
 pub overflow_add-c : goal.overflow_add-c
 overflow_add-c c =
-    omega (arith, c.loop-c.invariant.high, clauses_few _ _ c.args.self.now.ready.laid)
+    omega (arith, c.loop-c.invariant.high, clauses_few _ _ c.args.self.now.plan.laid)
 
 pub word-requires : goal.word-requires
 word-requires c =
     omega
-    (arith, c.loop-c.invariant.high, clauses_few _ _ c.args.self.now.ready.laid, c.requires.0, c.loop-c.invariant.kept.size, c.recount_clause.ensures.kept.size)
+    (arith, c.loop-c.invariant.high, clauses_few _ _ c.args.self.now.plan.laid, c.requires.0, c.loop-c.invariant.kept.size, c.recount_clause.ensures.kept.size)
 
 pub overflow_add-unsatisfied : goal.overflow_add-unsatisfied
 overflow_add-unsatisfied c =
-    omega (arith, c.loop-c.invariant.few, c.loop-c.invariant.high, clauses_few _ _ c.args.self.now.ready.laid, c.bit-unsatisfied.ensures.1)
+    omega (arith, c.loop-c.invariant.few, c.loop-c.invariant.high, clauses_few _ _ c.args.self.now.plan.laid, c.bit-unsatisfied.ensures.1)
 
 pub loop-c-preserved : goal.loop-c-preserved
 loop-c-preserved c =
-    clauses_step _ _ _ c.args.self.now.ready.laid _ _ _ _ c.loop-c.invariant _ _ _
+    clauses_step _ _ _ c.args.self.now.plan.laid _ _ _ _ c.loop-c.invariant _ _ _
     (omega (arith, c.loop-c-test.true, c.index-clauses.ensures))
     c.recount_clause.ensures c.word.ensures c.bit-unsatisfied.ensures.0
 
@@ -44,6 +44,6 @@ shape_of-tallies c = c.put.ensures.size ∙ c.loop-c.invariant.kept.size
 
 pub returns : goal.returns
 returns c =
-    clauses_end _ _ _ c.args.self.now.ready.laid _ _ _ _ c.loop-c.invariant _ (λ i. omega (arith, c.slice_known-2-1.given i)) c.requires.0 c.requires.1
+    clauses_end _ _ _ c.args.self.now.plan.laid _ _ _ _ c.loop-c.invariant _ (λ i. omega (arith, c.slice_known-2-1.given i)) c.requires.0 c.requires.1
     (omega (arith, c.loop-c-test.false, c.index-clauses.ensures))
     c.put.ensures

@@ -6,7 +6,7 @@ use Rattle.recount.proofs.Recounting.{rules_start, rules_step, rules_end}
 use Rattle.recount.proofs.lent.Lent.recount_clause.Goals as goal
 
 pub rules_of-rules-requires : goal.rules_of-rules-requires
-rules_of-rules-requires c = run_readable _ _ c.args.self.now.ready.laid _ c.requires.1
+rules_of-rules-requires c = run_readable _ _ c.args.self.now.plan.laid _ c.requires.1
 
 pub loop-r-init : goal.loop-r-init
 loop-r-init c = rules_start _ _ _ _ _ _ _ c.rules_of-rules.ensures.0 c.rules_of-rules.ensures.1
@@ -15,13 +15,13 @@ pub recount_rule-requires : goal.recount_rule-requires
 recount_rule-requires c =
     let d = c.loop-r.invariant in (
       omega (arith, c.requires.0, d.kept.size),
-      omega (arith, c.loop-r-test.true, d.ends, rules_inside _ _ c.args.self.now.ready.laid _ c.requires.1),
+      omega (arith, c.loop-r-test.true, d.ends, rules_inside _ _ c.args.self.now.plan.laid _ c.requires.1),
     )
 
 pub overflow_add-holding : goal.overflow_add-holding
 overflow_add-holding c =
     let d = c.loop-r.invariant in
-    let l = c.args.self.now.ready.laid in
+    let l = c.args.self.now.plan.laid in
     omega (arith, d.few, d.high, d.ends, c.bit-holding.ensures.1, rules_inside _ _ l _ c.requires.1, rules_few _ _ l)
 
 pub loop-r-preserved : goal.loop-r-preserved
@@ -30,16 +30,16 @@ loop-r-preserved c =
 
 pub overflow_add-c : goal.overflow_add-c
 overflow_add-c c =
-    omega (arith, clauses_few _ _ c.args.self.now.ready.laid)
+    omega (arith, clauses_few _ _ c.args.self.now.plan.laid)
 
 pub put-requires : goal.put-requires
 put-requires c =
     let d = c.loop-r.invariant in
-    (omega (arith, clauses_few _ _ c.args.self.now.ready.laid), omega (arith, c.requires.0, d.kept.size))
+    (omega (arith, clauses_few _ _ c.args.self.now.plan.laid), omega (arith, c.requires.0, d.kept.size))
 
 pub shape_of-tallies : goal.shape_of-tallies
 shape_of-tallies c = c.put.ensures.size ∙ c.loop-r.invariant.kept.size
 
 pub returns : goal.returns
 returns c =
-    rules_end _ _ _ _ _ _ _ _ _ c.loop-r.invariant c.args.self.now.ready.laid c.requires.1 _ c.loop-r-test.false c.put.ensures
+    rules_end _ _ _ _ _ _ _ _ _ c.loop-r.invariant c.args.self.now.plan.laid c.requires.1 _ c.loop-r-test.false c.put.ensures

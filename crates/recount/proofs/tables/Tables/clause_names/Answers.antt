@@ -6,10 +6,10 @@ use Rattle.plpb.specs.Plan.{names}
 use Rattle.format.specs.Tables.{clause_of}
 use Rattle.recount.proofs.Along.{along_start, any_go, any_stop, any_end}
 use Rattle.recount.proofs.Laid.{run_readable, rules_inside}
-use Rattle.recount.proofs.clause.clause_names.Goals as goal
+use Rattle.recount.proofs.tables.Tables.clause_names.Goals as goal
 
 pub rules_of-rules-requires : goal.rules_of-rules-requires
-rules_of-rules-requires c = run_readable _ _ c.requires.0 _ c.requires.1
+rules_of-rules-requires c = run_readable _ _ c.args.self.now.laid _ c.requires
 
 pub loop-r-init : goal.loop-r-init
 unfolding names clause_of
@@ -20,7 +20,7 @@ loop-r-init c =
 pub rule_names-requires : goal.rule_names-requires
 rule_names-requires c =
     let k = c.rules_of-rules.ensures in
-    (c.requires.0, omega (arith, k.1, rules_inside _ _ c.requires.0 _ c.requires.1))
+    omega (arith, k.1, rules_inside _ _ c.args.self.now.laid _ c.requires)
 
 pub returns-then-rule_names : goal.returns-then-rule_names
 returns-then-rule_names c =

@@ -1,0 +1,46 @@
+-- The goals that the search leaves.
+use Prim.Native.Nat.{◌-◌}
+use native.Mathlib.Omega.{arith}
+use mathlib.Core.Path.{◌≡◌}
+use Rattle.words.specs.Words.{word_at}
+use Rattle.format.specs.Layout.{end_at}
+use Rattle.recount.proofs.Laid.{tables_long}
+use Rattle.columns.proofs.Frames.{only_none, only_next}
+use Rattle.listing.proofs.Listing.{variables_few, run_begins, run_listed, list_at_end}
+use Rattle.listing.proofs.Variable.list_run.Goals as goal
+
+pub loop-k-init : goal.loop-k-init
+loop-k-init c =
+    let v = c.args.self.now in
+    let z : 0 ≡ c.index-k.result - word_at c.args.self.now.plan.tables.now (end_at (c.args.self.now.x - 1)) = omega (arith, c.index-k.ensures) in
+    (omega (arith, c.index-k.ensures), omega (arith, c.index-k.ensures, c.index-end.ensures, run_begins v.plan.laid v.low v.high), list_at_end z c.requires.1, only_none _ _ _)
+
+pub returns : goal.returns
+returns c =
+    let v = c.args.self.now in
+    let i = c.loop-k.invariant in
+    (run_listed v.plan.laid v.low v.high c.requires.0 c.index-k.ensures c.index-end.ensures i.1 c.loop-k-test.false i.2, i.3)
+
+pub overflow_add-self : goal.overflow_add-self
+overflow_add-self c = omega (arith, c.args.self.now.high, variables_few c.args.self.now.plan.laid)
+
+pub index-end-requires : goal.index-end-requires
+index-end-requires c = omega (arith, c.args.self.now.high, variables_few c.args.self.now.plan.laid, tables_long _ _ c.args.self.now.plan.laid)
+
+pub overflow_sub-self : goal.overflow_sub-self
+overflow_sub-self c = omega (arith, c.args.self.now.low)
+
+pub overflow_add-self-2 : goal.overflow_add-self-2
+overflow_add-self-2 c = omega (arith, c.args.self.now.high, variables_few c.args.self.now.plan.laid)
+
+pub index-k-requires : goal.index-k-requires
+index-k-requires c = omega (arith, c.args.self.now.high, variables_few c.args.self.now.plan.laid, tables_long _ _ c.args.self.now.plan.laid)
+
+pub list_entry-requires : goal.list_entry-requires
+list_entry-requires c = let i = c.loop-k.invariant in (c.requires.0, i.0, omega (arith, c.loop-k-test.true, c.index-end.ensures), i.2)
+
+pub loop-k-preserved : goal.loop-k-preserved
+loop-k-preserved c = let i = c.loop-k.invariant in (omega (arith, i.0), omega (arith, c.loop-k-test.true), c.list_entry.ensures.0, only_next i.3 c.list_entry.ensures.1)
+
+pub shape_of-marks : goal.shape_of-marks
+shape_of-marks c = c.loop-k.invariant.3.size
