@@ -5,8 +5,9 @@ use Rattle.plpb.specs.Plan.{Clause, Assignment}
 use Rattle.plpb.specs.Count.{capped}
 use Rattle.plpb.specs.Equations.{clause_break, clause_make}
 use Rattle.counting.specs.Count.{number}
-use Rattle.groups.specs.declared.run.Run.{Run}
-use Rattle.groups.specs.Run.{bits, clause, end_of_group}
+use Rattle.effects.specs.declared.run.Run.{Run}
+use Rattle.effects.specs.Run.{bits, clause}
+use Rattle.groups.specs.Run.{end_of_group}
 use Rattle.counts.specs.declared.Turn.{Turn}
 
 -- The flip neither spoils nor mends anything of the clause.

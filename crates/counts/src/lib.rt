@@ -1,18 +1,19 @@
 // How many clauses of the expansion a flip spoils and how many it mends, along the variable's run.
 #![tactic(auto)]
 
-ghost use Rattle.std.specs.Prelude.{◌≡◌, true, [], get_or};
+ghost use Rattle.std.specs.Prelude.{◌≡◌, true};
 ghost use Rattle.plpb.specs.Count.{capped_break, capped_make};
-ghost use Rattle.order.specs.Blocks.{Group};
 ghost use Rattle.exact.specs.Counted.{CountsAre};
-ghost use Rattle.groups.specs.Run.{plan, bits};
+ghost use Rattle.effects.specs.Run.{plan, bits};
+ghost use Rattle.groups.specs.Group.{bits as bits_of, clause as clause_of};
 ghost use Rattle.spoiling.specs.Along.{Starts};
 ghost use Rattle.counts.specs.Turns.{Idle, IdleAt, TurnAt};
 
 use counting::count::Count;
+use effects::Run;
 use exact::Counts;
 use format::HOLDING;
-use groups::Run;
+use groups::Group;
 use joining::shares_along;
 use mending::{group_mends, mended};
 use spoiling::spoiled;
@@ -26,31 +27,18 @@ pub struct Turn {
     pub next: usize,
 }
 
-// Whether the flip changes nothing of clause c, of which these places are the group, for sure: then no share of its rules is worked out.
-fn group_idle(run: &Run<'_>, c: usize, k: usize, j: usize) -> bool
-    requires { Group (plan run.now) run.now.x c k j }
-    ensures { result ≡ true → Idle (bits run.now) run.now.x (get_or (plan run.now).clauses c []) }
+// Whether the flip changes nothing of the group's clause for sure: then no share of its rules is worked out.
+fn group_idle(group: &Group<'_>) -> bool
+    ensures { result ≡ true → Idle (bits_of group.now) group.now.run.now.x (clause_of group.now) }
 {
-    if run.group_breaks(c, k, j) {
+    if group.breaks() {
         return false;
     }
-    let Run {
-        tables,
-        terms,
-        assignment,
-        tallies,
-        marks,
-        x,
-        ..
-    } = *run;
-    if group_mends(tables, terms, assignment, tallies, marks, x, c, k, j) {
-        return false;
-    }
-    true
+    !group_mends(group)
 }
 
 // Whether the place is that of a clause of one rule, of which the flip changes nothing for sure: the rule is not spoiled, and holds. Most places are such.
-fn idle_at(run: &Run<'_>, k: usize) -> bool
+fn idle_at(run: &Run<'_, '_>, k: usize) -> bool
     requires { Starts run.now k }
     ensures { result ≡ true → IdleAt run.now k }
 {
@@ -60,13 +48,13 @@ fn idle_at(run: &Run<'_>, k: usize) -> bool
     if run.spoils_at(k) {
         return false;
     }
-    if word(run.tallies, HOLDING + run.clause_at(k)) == 0 {
+    if word(run.footing.tallies, HOLDING + run.clause_at(k)) == 0 {
         return false;
     }
     true
 }
 
-fn turn_at(run: &Run<'_>, k: usize) -> Turn
+fn turn_at(run: &Run<'_, '_>, k: usize) -> Turn
     requires { Starts run.now k }
     ensures { TurnAt run.now k result }
 {
@@ -78,27 +66,25 @@ fn turn_at(run: &Run<'_>, k: usize) -> Turn
             next: k + 1,
         };
     }
-    let c = run.clause_at(k);
-    let j = run.group_end(k);
-    if group_idle(run, c, k, j) {
+    let group = Group::at(run, k);
+    let next = group.end;
+    if group_idle(&group) {
         return Turn {
             breaks: Count::ZERO,
             makes: Count::ZERO,
-            next: j,
+            next,
         };
     }
-    let t = shares_along(run, c, k, j);
-    let breaks = t.e;
-    let makes = t.f;
+    let t = shares_along(&group);
     Turn {
-        breaks,
-        makes,
-        next: j,
+        breaks: t.e,
+        makes: t.f,
+        next,
     }
 }
 
 // Both counts of the variable.
-pub fn counts_along(run: &Run<'_>) -> Counts
+pub fn counts_along(run: &Run<'_, '_>) -> Counts
     ensures { CountsAre (capped_break (plan run.now) (bits run.now) run.now.x)
         (capped_make (plan run.now) (bits run.now) run.now.x) result }
 {
@@ -112,8 +98,8 @@ pub fn counts_along(run: &Run<'_>) -> Counts
             let t = turn_at(run, k);
             let spoils = t.breaks;
             let mends = t.makes;
-            breaks = breaks.plus(spoils);
-            makes = makes.plus(mends);
+            breaks = breaks + spoils;
+            makes = makes + mends;
             k = t.next;
         }
     }

@@ -4,3 +4,4 @@ pub mod Kept
 pub mod Runs
 pub mod Places
 pub mod After
+pub mod Visits

@@ -2,33 +2,41 @@
 // be spoken of alone.
 #![tactic(auto)]
 
-ghost use Rattle.std.specs.Prelude.{◌≡◌, cond, ◌+◌, ◌*◌, ◌≤◌, ◌<◌, length};
+mod footing;
+mod run;
+
+ghost use Rattle.std.specs.Prelude.{◌≡◌, cond, ◌+◌, ◌*◌, ◌≤◌, length};
 ghost use Rattle.plpb.specs.Plan.{rule_holds};
 ghost use Rattle.plpb.specs.Normal.{literal, literal_true};
 ghost use Rattle.counting.specs.Bound.{bound_of};
 ghost use Rattle.words.specs.Words.{word_at};
-ghost use Rattle.order.specs.Order.{term_at};
+ghost use Rattle.order.specs.Order.{term_at, has_several};
 ghost use Rattle.order.specs.Breaks.{spoils_part, false_after};
-ghost use Rattle.format.specs.Tables.{plan_of_tables};
-ghost use Rattle.rules.specs.Places.{standing_in, standing_of};
+ghost use Rattle.rules.specs.Places.{standing_in};
 ghost use Rattle.rules.specs.State.{StateOf};
 ghost use Rattle.columns.specs.Layout.{kept_size};
-ghost use Rattle.effects.specs.Kept.{lent_bits, place_at, place_rule, Visited, size_in, Countable, Told, stands_on};
+ghost use Rattle.effects.specs.Kept.{size_in, Countable, Told, stands_on};
+ghost use Rattle.effects.specs.Run.{plan, bits, Inside, place, rule, clause};
 
 use columns::{LOWER_SIZES, NEEDS, NEVER, TOTALS, UPPER_SIZES, WEIGHTS};
+pub use footing::Footing;
 use format::ORDER;
+use places::clause_in;
 use rules::place::Stands;
 use rules::state::State;
+pub use run::Run;
 use words::{index, word};
 
-// The size that a word tells: NEVER, 2^32 - 1, is none.
+const SEVERAL: u32 = 2147483648; // the words of places in clauses of more than one rule begin here
+
+// The size that a word tells: NEVER, 2^32 - 1, is none. It is an `if`, since no law of the library tells what `then_some` gives.
 fn size_in(w: u32) -> Option<u64>
     ensures { bound_of result ≡ size_in w }
 {
     if w == NEVER {
         return None;
     }
-    Some(w as u64)
+    Some(u64::from(w))
 }
 
 // The state of rule r by its words: K, A, B and P.
@@ -43,47 +51,6 @@ pub fn told(tallies: &[u8], r: usize, stands: Stands) -> State
     State { n, p, stands, a, b }
 }
 
-// The side of a rule that place k of x's run is on: 2r + 1 for a true literal of rule r, 2r for a false one. The word's lowest bit is the sign.
-fn side_at(
-    tables: &[u8],
-    terms: &[u8],
-    assignment: &[u8],
-    tallies: &[u8],
-    marks: &[u8],
-    x: usize,
-    k: usize,
-) -> usize
-    requires { Visited tables.now terms.now assignment.now tallies.now marks.now x k }
-    ensures { result
-        ≡ 2 * (place_at tables.now terms.now k).rule
-        + cond
-        (literal_true (lent_bits tables.now terms.now assignment.now)
-        (literal (term_at (plan_of_tables tables.now terms.now) (place_at tables.now terms.now k)))) 1 0 }
-{
-    let o = index(tables, ORDER + k);
-    let v = usize::from(assignment[x - 1]);
-    2 * (o % 4096 / 2) + (o % 2 + v) % 2
-}
-
-// Whether the flip spoils a part of the rule: its side needs no more than the term weighs.
-pub fn spoils_at(
-    tables: &[u8],
-    terms: &[u8],
-    assignment: &[u8],
-    tallies: &[u8],
-    marks: &[u8],
-    x: usize,
-    k: usize,
-) -> bool
-    requires { Visited tables.now terms.now assignment.now tallies.now marks.now x k }
-    ensures { result
-        ≡ spoils_part (lent_bits tables.now terms.now assignment.now) x
-        (place_rule tables.now terms.now k) }
-{
-    let side = side_at(tables, terms, assignment, tallies, marks, x, k);
-    word(tallies, NEEDS + side) <= word(marks, WEIGHTS + k)
-}
-
 // How a variable stands on a side of a rule, with its weight.
 fn stands_on(side: usize, weight: u32) -> Stands
     ensures { standing_in result ≡ stands_on side weight }
@@ -95,57 +62,69 @@ fn stands_on(side: usize, weight: u32) -> Stands
     }
 }
 
-// The state of the rule at place k, seen from x.
-pub fn state_at(
-    tables: &[u8],
-    terms: &[u8],
-    assignment: &[u8],
-    tallies: &[u8],
-    marks: &[u8],
-    x: usize,
-    k: usize,
-) -> State
-    requires { Visited tables.now terms.now assignment.now tallies.now marks.now x k }
-    ensures { StateOf (lent_bits tables.now terms.now assignment.now) x
-        (place_rule tables.now terms.now k) result }
-{
-    let side = side_at(tables, terms, assignment, tallies, marks, x, k);
-    told(tallies, side / 2, stands_on(side, word(marks, WEIGHTS + k)))
-}
+impl Run<'_, '_> {
+    // The side of a rule that place k is on: 2r + 1 for a true literal of rule r, 2r for a false one. The word's lowest bit is the sign.
+    fn side_at(&self, k: usize) -> usize
+        requires { Inside self.now k }
+        ensures { result
+            ≡ 2 * (place self.now k).rule + cond (literal_true (bits self.now) (literal (term_at (plan self.now) (place self.now k)))) 1 0 }
+    {
+        let o = index(self.footing.tables, ORDER + k);
+        let v = usize::from(self.footing.assignment[self.x - 1]);
+        2 * (o % 4096 / 2) + (o % 2 + v) % 2
+    }
 
-// Whether the rule at place k holds,
-pub fn holds_at(
-    tables: &[u8],
-    terms: &[u8],
-    assignment: &[u8],
-    tallies: &[u8],
-    marks: &[u8],
-    x: usize,
-    k: usize,
-) -> bool
-    requires { Visited tables.now terms.now assignment.now tallies.now marks.now x k }
-    ensures { result
-        ≡ rule_holds (lent_bits tables.now terms.now assignment.now)
-        (place_rule tables.now terms.now k) }
-{
-    state_at(tables, terms, assignment, tallies, marks, x, k).holds()
-}
+    // Whether the flip spoils a part of the rule at place k: its side needs no more than the term weighs.
+    pub fn spoils_at(&self, k: usize) -> bool
+        requires { Inside self.now k }
+        ensures { result ≡ spoils_part (bits self.now) self.now.x (rule self.now k) }
+    {
+        word(self.footing.tallies, NEEDS + self.side_at(k)) <= word(self.marks, WEIGHTS + k)
+    }
 
-// .. and whether some part of it is false after the flip, so that it does not hold then.
-pub fn fails_at(
-    tables: &[u8],
-    terms: &[u8],
-    assignment: &[u8],
-    tallies: &[u8],
-    marks: &[u8],
-    x: usize,
-    k: usize,
-) -> bool
-    requires { Visited tables.now terms.now assignment.now tallies.now marks.now x k }
-    ensures { result
-        ≡ false_after (lent_bits tables.now terms.now assignment.now) x
-        (place_rule tables.now terms.now k) }
-{
-    let after = state_at(tables, terms, assignment, tallies, marks, x, k).flipped();
-    !after.holds()
+    // The state of that rule, seen from the variable,
+    pub fn state_at(&self, k: usize) -> State
+        requires { Inside self.now k }
+        ensures { StateOf (bits self.now) self.now.x (rule self.now k) result }
+    {
+        let side = self.side_at(k);
+        told(
+            self.footing.tallies,
+            side / 2,
+            stands_on(side, word(self.marks, WEIGHTS + k)),
+        )
+    }
+
+    // whether it holds,
+    pub fn holds_at(&self, k: usize) -> bool
+        requires { Inside self.now k }
+        ensures { result ≡ rule_holds (bits self.now) (rule self.now k) }
+    {
+        self.state_at(k).holds()
+    }
+
+    // and whether some part of it is false after the flip, so that it does not hold then.
+    pub fn fails_at(&self, k: usize) -> bool
+        requires { Inside self.now k }
+        ensures { result ≡ false_after (bits self.now) self.now.x (rule self.now k) }
+    {
+        let after = self.state_at(k).flipped();
+        !after.holds()
+    }
+
+    // The clause of place k,
+    pub fn clause_at(&self, k: usize) -> usize
+        requires { Inside self.now k }
+        ensures { result ≡ (place self.now k).clause }
+    {
+        clause_in(word(self.footing.tables, ORDER + k))
+    }
+
+    // and whether it has several rules.
+    pub fn has_several(&self, k: usize) -> bool
+        requires { Inside self.now k }
+        ensures { result ≡ has_several (clause self.now k) }
+    {
+        SEVERAL <= word(self.footing.tables, ORDER + k)
+    }
 }

@@ -7,17 +7,18 @@ ghost use Rattle.plpb.specs.Equations.{clause_break};
 ghost use Rattle.plpb.specs.Count.{capped_break};
 ghost use Rattle.words.specs.Words.{word_at};
 ghost use Rattle.words.specs.Writes.{Wrote};
-ghost use Rattle.format.specs.Tables.{plan_of_tables};
 ghost use Rattle.columns.specs.Layout.{hint_at};
-ghost use Rattle.effects.specs.Kept.{lent_bits, Going};
-ghost use Rattle.groups.specs.Run.{plan, bits, clause, end_of_group, Begins};
+ghost use Rattle.effects.specs.Footing.{plan_on, bits_on, HasRun};
+ghost use Rattle.effects.specs.Run.{plan, bits, clause};
+ghost use Rattle.groups.specs.Run.{end_of_group, Begins};
 
 use columns::HINTS;
-use groups::Run;
+use effects::{Footing, Run};
+use groups::Group;
 use words::{index, narrow, write_word};
 
 // Where the group that begins at place k ends, unless its clause breaks. A clause of one rule has one place, and one compare tells of it.
-fn passed(run: &Run<'_>, k: usize) -> Option<usize>
+fn passed(run: &Run<'_, '_>, k: usize) -> Option<usize>
     requires { Begins run.now k }
     ensures { result
         ≡ cond (ltb 0 (clause_break (bits run.now) run.now.x (clause run.now k))) None (Some (end_of_group run.now k)) }
@@ -28,15 +29,15 @@ fn passed(run: &Run<'_>, k: usize) -> Option<usize>
         }
         return Some(k + 1);
     }
-    let j = run.group_end(k);
-    if run.group_breaks(run.clause_at(k), k, j) {
+    let group = Group::at(run, k);
+    if group.breaks() {
         return None;
     }
-    Some(j)
+    Some(group.end)
 }
 
 // The first place of the run whose group breaks its clause.
-fn next_break(run: &Run<'_>) -> Option<usize>
+fn next_break(run: &Run<'_, '_>) -> Option<usize>
     ensures inside { IfSome result (λ k. k < run.now.end) }
     ensures found { is_some result ≡ not (eqb (capped_break (plan run.now) (bits run.now) run.now.x) 0) }
 {
@@ -51,7 +52,7 @@ fn next_break(run: &Run<'_>) -> Option<usize>
 }
 
 // Whether the place that the hint names is one of the run, of a clause of one rule, which the flip breaks.
-fn hint_breaks(run: &Run<'_>) -> bool
+fn hint_breaks(run: &Run<'_, '_>) -> bool
     ensures { result ≡ true → eqb (capped_break (plan run.now) (bits run.now) run.now.x) 0 ≡ false }
 {
     let k = index(run.marks, HINTS + run.x);
@@ -68,22 +69,12 @@ fn hint_breaks(run: &Run<'_>) -> bool
 }
 
 // Whether the flip of x breaks nothing. Of the marks only the variable's hint may change.
-pub fn is_free(
-    tables: &[u8],
-    terms: &[u8],
-    assignment: &[u8],
-    tallies: &[u8],
-    marks: &mut [u8],
-    x: usize,
-) -> bool
-    requires { Going tables.now terms.now assignment.now tallies.now marks.old x }
-    ensures { (result
-        ≡ eqb
-        (capped_break (plan_of_tables tables.now terms.now)
-        (lent_bits tables.now terms.now assignment.now) x) 0)
+pub fn is_free(footing: &Footing<'_>, marks: &mut [u8], x: usize) -> bool
+    requires { HasRun footing.now marks.old x }
+    ensures { (result ≡ eqb (capped_break (plan_on footing.now) (bits_on footing.now) x) 0)
         × Wrote (hint_at x) (word_at marks.new (hint_at x)) marks.old marks.new }
 {
-    let run = Run::of(tables, terms, assignment, tallies, marks, x);
+    let run = Run::of(footing, marks, x);
     if hint_breaks(&run) {
         return false;
     }

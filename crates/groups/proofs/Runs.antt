@@ -2,26 +2,25 @@
 -- Assumes nothing.
 use Prim.Native.Nat.{ℕ, ◌≤◌, ◌<◌}
 use native.Mathlib.Omega.{arith}
-use Rattle.order.specs.Blocks.{Group}
 use Rattle.effects.specs.Kept.{Visited}
-use Rattle.groups.specs.declared.run.Run.{Run}
-use Rattle.groups.specs.Run.{plan, Begins}
-use Rattle.groups.specs.Stretch.{Stretch}
+use Rattle.effects.specs.declared.run.Run.{Run}
+use Rattle.effects.specs.Run.{Inside}
+use Rattle.groups.specs.declared.group.Group.{Group}
+use Rattle.groups.specs.Run.{IsGroup, Begins}
+use Rattle.groups.proofs.Stretch.{Stretch}
 
 module _ (r : Run) where
-  pub visited : {k : ℕ} → r.first ≤ k → k < r.end → Visited r.tables.now r.terms.now r.assignment.now r.tallies.now r.marks.now r.x k
-  visited l h = record { going = r.going; first = omega (arith, r.begins); last = omega (arith, r.ends) }
-
-  pub stretch : {k j : ℕ} → r.first ≤ k → j ≤ r.end → Stretch r.tables.now r.terms.now r.assignment.now r.tallies.now r.marks.now r.x k j
-  stretch l h = record { going = r.going; first = omega (arith, r.begins); last = omega (arith, r.ends) }
-
   -- The places of a group are a stretch.
-  pub group_stretch : {c k j : ℕ} → Group (plan r) r.x c k j → Stretch r.tables.now r.terms.now r.assignment.now r.tallies.now r.marks.now r.x k j
+  pub group_stretch : {c k j : ℕ} → IsGroup r c k j → Stretch r.footing.tables.now r.footing.terms.now r.footing.assignment.now r.footing.tallies.now r.marks.now r.x k j
   group_stretch g = record { going = r.going; first = g.first; last = g.last }
 
   -- A group begins at a place of the run.
-  pub opening : {k : ℕ} → Begins r k → (r.first ≤ k) × (k < r.end)
+  pub opening : {k : ℕ} → Begins r k → Inside r k
   opening g = (omega (arith, g.first, r.begins), omega (arith, g.some, g.last, r.ends))
 
-  pub opened : {k : ℕ} → Begins r k → Visited r.tables.now r.terms.now r.assignment.now r.tallies.now r.marks.now r.x k
+  pub opened : {k : ℕ} → Begins r k → Visited r.footing.tables.now r.footing.terms.now r.footing.assignment.now r.footing.tallies.now r.marks.now r.x k
   opened g = record { going = r.going; first = g.first; last = omega (arith, g.some, g.last) }
+
+-- Each place of a group is one of the run.
+pub of_run : (g : Group) {i : ℕ} → g.first ≤ i → i < g.end → Inside g.run.now i
+of_run g l h = (omega (arith, g.whole.first, g.run.now.begins), omega (arith, g.whole.last, g.run.now.ends))

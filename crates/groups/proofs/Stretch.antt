@@ -13,24 +13,28 @@ use Rattle.std.specs.List.{filter, list_any, list_all, range_with_len}
 use Rattle.plpb.specs.Lists.{◌and◌, ◌or◌, keep, any, all, count}
 use Rattle.plpb.specs.Plan.{Rule, Clause, Plan, Assignment, rule_holds, rising, numbers_rise}
 use Rattle.plpb.specs.Equations.{clause_break}
-use Rattle.plpb.proofs.Lists.{count_le, all_at, true_and, and_true, and_false, false_and, true_or, false_or}
+use Rattle.plpb.proofs.Lists.{count_le, all_at, true_and, and_true, and_false, false_and}
 use Rattle.words.specs.Words.{word_at}
-use Rattle.order.specs.Order.{Place, order, run_end, cut, rule_at, word_place}
+use Rattle.order.specs.Order.{Place, order, run_end, cut, rule_at}
 use Rattle.order.specs.Breaks.{spoils_part, false_after}
 use Rattle.order.specs.Blocks.{rules_along, same_clause, Group}
 use Rattle.order.proofs.Tested.{cut_length}
 use Rattle.order.proofs.Blocks.{cut_cons, cut_past}
 use Rattle.order.proofs.Groups.{clause_by_naming}
 use Rattle.format.specs.Tables.{plan_of_tables}
-use Rattle.format.specs.Layout.{entry_at, holding_at}
+use Rattle.format.specs.Layout.{holding_at}
 use Rattle.tallies.proofs.Tallied.{clause_word, fresh_words}
 use Rattle.tallies.proofs.TallyBytes.{roomy_fits}
 use Rattle.recount.proofs.Laid.{parts}
 use Rattle.columns.specs.Columns.{no_place}
 use Rattle.effects.specs.Kept.{lent_bits, Going, place_at, place_rule, Visited}
 use Rattle.effects.proofs.Runs.{going_rises, going_bits, run_inside, run_few}
-use Rattle.effects.proofs.Places.{place_here}
-use Rattle.groups.specs.Stretch.{Stretch}
+
+-- The places from k on, below j, are some of x's run.
+pub record Stretch (tables terms assignment tallies marks : List ℕ) (x k j : ℕ) : Type 0 where
+  pub going : Going tables terms assignment tallies marks x
+  pub first : run_end (plan_of_tables tables terms) (x - 1) ≤ k
+  pub last : j ≤ run_end (plan_of_tables tables terms) x
 
 -- ---- place by place
 
@@ -96,26 +100,6 @@ module _ {tables terms assignment tallies marks : List ℕ} {x k j : ℕ} (s : S
 
   pub stretch_few : j ≤ 6_512
   stretch_few = omega (arith, s.last, run_few s.going)
-
-  pub stretch_visited : {i : ℕ} → k ≤ i → i < j → Visited tables terms assignment tallies marks x i
-  stretch_visited h l = record { going = s.going; first = omega (arith, s.first); last = omega (arith, s.last) }
-
-  -- One of the rules meets a test: this one, or one behind.
-  module _ {i : ℕ} (h : i < j) where
-    next : rules_along p i j ≡ place_rule tables terms i ∷ rules_along p (i + 1) j
-    next = along_cons p i j h stretch_inside
-
-    pub any_here : (f : Rule → Bool) {b : Bool} → b ≡ f (place_rule tables terms i) → b ≡ true → any f (rules_along (plan_of_tables tables terms) i j) ≡ true
-    unfolding any
-    any_here f e t = ap (any f) next ∙ ap (λ u. u or any f (rules_along p (i + 1) j)) (sym e ∙ t) ∙ true_or _
-
-    pub any_behind : (f : Rule → Bool) {b : Bool} → b ≡ f (place_rule tables terms i) → b ≡ false → any f (rules_along (plan_of_tables tables terms) (i + 1) j) ≡ any f (rules_along (plan_of_tables tables terms) i j)
-    unfolding any
-    any_behind f e t = sym (ap (any f) next ∙ ap (λ u. u or any f (rules_along p (i + 1) j)) (sym e ∙ t) ∙ false_or _)
-
-  pub any_end : {i : ℕ} → j ≤ i → (f : Rule → Bool) → any f (rules_along (plan_of_tables tables terms) i j) ≡ false
-  unfolding any
-  any_end h f = ap (any f) (along_none p _ j h)
 
   -- What a test says of the places' numbers it says of their rules.
   abbrev rule : ℕ → Rule
@@ -187,7 +171,3 @@ module _ {tables terms assignment tallies marks : List ℕ} {x : ℕ} (g : Going
   pub same_ends : run_end (plan_of_tables tables terms) x ≤ i → i ≡ i + same_clause c (cut i (run_end (plan_of_tables tables terms) x) (order (plan_of_tables tables terms)))
   unfolding same_clause
   same_ends h = rw (cut_past i end ps h) (omega arith)
-
--- The clause that a place's word tells.
-pub clause_here : {tables terms assignment tallies marks : List ℕ} {x k w c : ℕ} → Visited tables terms assignment tallies marks x k → w ≡ word_at tables (entry_at k) → c ≡ (word_place w).clause → c ≡ (place_at tables terms k).clause
-clause_here v e f = f ∙ ap (λ u. (word_place u).clause) e ∙ ap (λ q. q.clause) (place_here v)

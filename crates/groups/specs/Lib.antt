@@ -1,6 +1,8 @@
+-- How far the places of one clause go in a variable's run.
+pub mod Stretch
+-- The groups of a run.
+pub mod Run
 -- Facts have one proof at most.
 pub mod Facts
--- What a variable's run says of its plan.
-pub mod Run
--- A stretch of a variable's run.
-pub mod Stretch
+-- What a group says of its plan.
+pub mod Group

@@ -39,9 +39,10 @@ use Rattle.columns.specs.Columns.{no_place}
 use Rattle.effects.specs.Kept.{lent_bits, place_at, Visited}
 use Rattle.effects.proofs.Kept.{rule_rising}
 use Rattle.effects.proofs.Places.{place_here}
-use Rattle.groups.specs.declared.run.Run.{Run}
+use Rattle.effects.proofs.Visits.{visited}
+use Rattle.groups.specs.declared.group.Group.{Group}
 use Rattle.groups.proofs.Stretch.{stretch_inside}
-use Rattle.groups.proofs.Runs.{stretch, visited}
+use Rattle.groups.proofs.Runs.{group_stretch, of_run}
 use Rattle.joining.specs.Merging.{Ahead, Merging, Placed}
 
 -- ---- the first place of some rules
@@ -75,111 +76,111 @@ standing_out a x (t ∷ ts) e = at (eqb t.variable x) e (standing_out a x ts)
 
 -- ---- one rule
 
-module _ {run : Run} {c r i j : ℕ} (m : Merging run c r i j) where
+module _ {g : Group} {r i : ℕ} (m : Merging g r i) where
   abbrev p : Plan
-  p = plan_of_tables run.tables.now run.terms.now
+  p = plan_of_tables g.run.now.footing.tables.now g.run.now.footing.terms.now
 
   abbrev clause : Clause
-  clause = get_or (plan_of_tables run.tables.now run.terms.now).clauses c []
+  clause = get_or (plan_of_tables g.run.now.footing.tables.now g.run.now.footing.terms.now).clauses g.clause []
 
   abbrev f : ℕ
-  f = first_rule (plan_of_tables run.tables.now run.terms.now).clauses c
+  f = first_rule (plan_of_tables g.run.now.footing.tables.now g.run.now.footing.terms.now).clauses g.clause
 
   inside : r - f < length clause
-  inside = omega (arith, m.last, m.ahead.first, first_next p.clauses c m.ahead.there)
+  inside = omega (arith, m.last, m.ahead.first, first_next p.clauses g.clause m.ahead.there)
 
-  pub merging_below : r < length (rules_of (plan_of_tables run.tables.now run.terms.now))
+  pub merging_below : r < length (rules_of (plan_of_tables g.run.now.footing.tables.now g.run.now.footing.terms.now))
   unfolding rules_of
-  merging_below = omega (arith, m.last, first_within p.clauses (suc c))
+  merging_below = omega (arith, m.last, first_within p.clauses (suc g.clause))
 
   rule_is : get_or clause (r - f) no_rule ≡ rule_at p r
   unfolding rule_at rules_of
   rule_is =
       let back : f + (r - f) ≡ r = omega (arith, m.ahead.first) in
-      sym (rule_in_clause p.clauses c (r - f) m.ahead.there inside) ∙ ap (λ n. get_or (concat p.clauses) n no_rule) back
+      sym (rule_in_clause p.clauses g.clause (r - f) m.ahead.there inside) ∙ ap (λ n. get_or (concat p.clauses) n no_rule) back
 
   rest : List Rule
   rest = drop (suc (r - f)) clause
 
-  pub rules_next : drop (r - first_rule (plan_of_tables run.tables.now run.terms.now).clauses c) (get_or (plan_of_tables run.tables.now run.terms.now).clauses c []) ≡ rule_at (plan_of_tables run.tables.now run.terms.now) r ∷ drop (r + 1 - first_rule (plan_of_tables run.tables.now run.terms.now).clauses c) (get_or (plan_of_tables run.tables.now run.terms.now).clauses c [])
+  pub rules_next : drop (r - first_rule (plan_of_tables g.run.now.footing.tables.now g.run.now.footing.terms.now).clauses g.clause) (get_or (plan_of_tables g.run.now.footing.tables.now g.run.now.footing.terms.now).clauses g.clause []) ≡ rule_at (plan_of_tables g.run.now.footing.tables.now g.run.now.footing.terms.now) r ∷ drop (r + 1 - first_rule (plan_of_tables g.run.now.footing.tables.now g.run.now.footing.terms.now).clauses g.clause) (get_or (plan_of_tables g.run.now.footing.tables.now g.run.now.footing.terms.now).clauses g.clause [])
   rules_next =
       let next : suc (r - f) ≡ r + 1 - f = omega (arith, m.ahead.first) in
       drop-cons clause (r - f) no_rule inside ∙ ap₂ (λ q n. q ∷ drop n clause) rule_is next
 
   abbrev R : List Place
-  R = in_rules run.x c (suc r) (drop (r + 1 - f) clause)
+  R = in_rules g.run.now.x g.clause (suc r) (drop (r + 1 - f) clause)
 
-  same_rest : R ≡ in_rules run.x c (r + 1) (drop (r + 1 - f) clause)
-  same_rest = ap (λ n. in_rules run.x c n (drop (r + 1 - f) clause)) (sym (add-one r))
+  same_rest : R ≡ in_rules g.run.now.x g.clause (r + 1) (drop (r + 1 - f) clause)
+  same_rest = ap (λ n. in_rules g.run.now.x g.clause n (drop (r + 1 - f) clause)) (sym (add-one r))
 
   u : Place
-  u = record { clause = c; rule = r; term = place_in run.x (rule_at p r).terms }
+  u = record { clause = g.clause; rule = r; term = place_in g.run.now.x (rule_at p r).terms }
 
-  split : cut i j (order p) ≡ cond (named_in run.x (rule_at p r).terms) (u ∷ R) R
+  split : cut i g.end (order p) ≡ cond (named_in g.run.now.x (rule_at p r).terms) (u ∷ R) R
   unfolding u
   split =
-      m.ahead.places ∙ ap (in_rules run.x c r) rules_next ∙ sym (append-nil _)
-      ∙ rule_first run.x c r (rule_at p r) (drop (r + 1 - f) clause) [] (rule_rising run.going.kept merging_below)
-      ∙ ap (λ us. cond (named_in run.x (rule_at p r).terms) (u ∷ us) us) (append-nil R)
+      m.ahead.places ∙ ap (in_rules g.run.now.x g.clause r) rules_next ∙ sym (append-nil _)
+      ∙ rule_first g.run.now.x g.clause r (rule_at p r) (drop (r + 1 - f) clause) [] (rule_rising g.run.now.going.kept merging_below)
+      ∙ ap (λ us. cond (named_in g.run.now.x (rule_at p r).terms) (u ∷ us) us) (append-nil R)
 
-  first_of : i < j → cut i j (order p) ≡ get_or (order p) i no_place ∷ cut (i + 1) j (order p)
-  first_of h = cut_cons i j (order p) no_place h (stretch_inside (stretch run m.low m.high))
+  first_of : i < g.end → cut i g.end (order p) ≡ get_or (order p) i no_place ∷ cut (i + 1) g.end (order p)
+  first_of h = cut_cons i g.end (order p) no_place h (stretch_inside (group_stretch g.run.now g.whole))
 
-  pub merging_visited : i < j → Visited run.tables.now run.terms.now run.assignment.now run.tallies.now run.marks.now run.x i
-  merging_visited h = visited run m.low (omega (arith, m.high))
+  pub merging_visited : i < g.end → Visited g.run.now.footing.tables.now g.run.now.footing.terms.now g.run.now.footing.assignment.now g.run.now.footing.tallies.now g.run.now.marks.now g.run.now.x i
+  merging_visited h = visited g.run.now (of_run g m.low h)
 
   -- A rule that names x has the next place, and one that does not has not.
-  module _ (e : named_in run.x (rule_at (plan_of_tables run.tables.now run.terms.now) r).terms ≡ true) where
-    both : cut i j (order p) ≡ u ∷ R
+  module _ (e : named_in g.run.now.x (rule_at (plan_of_tables g.run.now.footing.tables.now g.run.now.footing.terms.now) r).terms ≡ true) where
+    both : cut i g.end (order p) ≡ u ∷ R
     both = split ∙ ap (λ b. cond b (u ∷ R) R) e
 
-    pub named_low : i < j
-    named_low = at (dec_lt i j)
+    pub named_low : i < g.end
+    named_low = at (dec_lt i g.end)
       where
-        at : Dec (i < j) → i < j
+        at : Dec (i < g.end) → i < g.end
         at (yes h) = h
         at (no h) =
-            let none : cut i j (order p) ≡ [] = cut_past i j (order p) (omega (arith, h)) in
-            let b : cut i j (order p) ≡ u ∷ R = both in
+            let none : cut i g.end (order p) ≡ [] = cut_past i g.end (order p) (omega (arith, h)) in
+            let b : cut i g.end (order p) ≡ u ∷ R = both in
             let z : ◌≡◌ {A = ℕ} 0 1 = cc in
             absurd (omega arith)
 
-    pub named_here : (place_at run.tables.now run.terms.now i).rule ≡ r
+    pub named_here : (place_at g.run.now.footing.tables.now g.run.now.footing.terms.now i).rule ≡ r
     unfolding u
     named_here =
-        let b : get_or (order p) i no_place ∷ cut (i + 1) j (order p) ≡ u ∷ R = sym (first_of named_low) ∙ both in
+        let b : get_or (order p) i no_place ∷ cut (i + 1) g.end (order p) ≡ u ∷ R = sym (first_of named_low) ∙ both in
         let same : get_or (order p) i no_place ≡ u = cc in
         ap (λ q. q.rule) same
 
-    named_rest : cut (i + 1) j (order p) ≡ R
+    named_rest : cut (i + 1) g.end (order p) ≡ R
     named_rest =
-        let b : get_or (order p) i no_place ∷ cut (i + 1) j (order p) ≡ u ∷ R = sym (first_of named_low) ∙ both in
+        let b : get_or (order p) i no_place ∷ cut (i + 1) g.end (order p) ≡ u ∷ R = sym (first_of named_low) ∙ both in
         cc
 
-  module _ (e : named_in run.x (rule_at (plan_of_tables run.tables.now run.terms.now) r).terms ≡ false) where
-    pub unnamed_here : i < j → (place_at run.tables.now run.terms.now i).rule ≡ r → ⊥
-    unnamed_here h s = omega (arith, s, head_rule run.x c (suc r) (drop (r + 1 - f) clause) (get_or (order p) i no_place) (cut (i + 1) j (order p)) (sym (split ∙ ap (λ b. cond b (u ∷ R) R) e) ∙ first_of h))
+  module _ (e : named_in g.run.now.x (rule_at (plan_of_tables g.run.now.footing.tables.now g.run.now.footing.terms.now) r).terms ≡ false) where
+    pub unnamed_here : i < g.end → (place_at g.run.now.footing.tables.now g.run.now.footing.terms.now i).rule ≡ r → ⊥
+    unnamed_here h s = omega (arith, s, head_rule g.run.now.x g.clause (suc r) (drop (r + 1 - f) clause) (get_or (order p) i no_place) (cut (i + 1) g.end (order p)) (sym (split ∙ ap (λ b. cond b (u ∷ R) R) e) ∙ first_of h))
 
   -- Whether the rule names x, by the place.
-  pub at_named : {w : ℕ} → i < j → w ≡ word_at run.tables.now (entry_at i) → eqb (word_place w).rule r ≡ named_in run.x (rule_at (plan_of_tables run.tables.now run.terms.now) r).terms
-  at_named {w} h k = ap (λ n. eqb n r) (ap (λ v. (word_place v).rule) k ∙ ap (λ q. q.rule) (place_here (merging_visited h))) ∙ at (named_in run.x (rule_at p r).terms) refl
+  pub at_named : {w : ℕ} → i < g.end → w ≡ word_at g.run.now.footing.tables.now (entry_at i) → eqb (word_place w).rule r ≡ named_in g.run.now.x (rule_at (plan_of_tables g.run.now.footing.tables.now g.run.now.footing.terms.now) r).terms
+  at_named {w} h k = ap (λ n. eqb n r) (ap (λ v. (word_place v).rule) k ∙ ap (λ q. q.rule) (place_here (merging_visited h))) ∙ at (named_in g.run.now.x (rule_at p r).terms) refl
     where
-      at : (b : Bool) → named_in run.x (rule_at p r).terms ≡ b → eqb (place_at run.tables.now run.terms.now i).rule r ≡ b
+      at : (b : Bool) → named_in g.run.now.x (rule_at p r).terms ≡ b → eqb (place_at g.run.now.footing.tables.now g.run.now.footing.terms.now i).rule r ≡ b
       at true e = eq-eqb _ r (named_here e)
       at false e = ne_eqb _ r (unnamed_here e h)
 
-  pub past_unnamed : j ≤ i → false ≡ named_in run.x (rule_at (plan_of_tables run.tables.now run.terms.now) r).terms
-  past_unnamed h = at (named_in run.x (rule_at p r).terms) refl
+  pub past_unnamed : g.end ≤ i → false ≡ named_in g.run.now.x (rule_at (plan_of_tables g.run.now.footing.tables.now g.run.now.footing.terms.now) r).terms
+  past_unnamed h = at (named_in g.run.now.x (rule_at p r).terms) refl
     where
-      at : (b : Bool) → named_in run.x (rule_at p r).terms ≡ b → false ≡ b
+      at : (b : Bool) → named_in g.run.now.x (rule_at p r).terms ≡ b → false ≡ b
       at true e = absurd (omega (arith, named_low e))
       at false e = refl
 
   -- The next rule, and the places behind.
-  pub ahead_next : {k : ℕ} → k ≡ cond (named_in run.x (rule_at (plan_of_tables run.tables.now run.terms.now) r).terms) (i + 1) i → Ahead (plan_of_tables run.tables.now run.terms.now) run.x c (r + 1) k j × (i ≤ k)
-  ahead_next {k} h = at (named_in run.x (rule_at p r).terms) refl h
+  pub ahead_next : {k : ℕ} → k ≡ cond (named_in g.run.now.x (rule_at (plan_of_tables g.run.now.footing.tables.now g.run.now.footing.terms.now) r).terms) (i + 1) i → Ahead (plan_of_tables g.run.now.footing.tables.now g.run.now.footing.terms.now) g.run.now.x g.clause (r + 1) k g.end × (i ≤ k)
+  ahead_next {k} h = at (named_in g.run.now.x (rule_at p r).terms) refl h
     where
-      at : (b : Bool) → named_in run.x (rule_at p r).terms ≡ b → k ≡ cond b (i + 1) i → Ahead p run.x c (r + 1) k j × (i ≤ k)
+      at : (b : Bool) → named_in g.run.now.x (rule_at p r).terms ≡ b → k ≡ cond b (i + 1) i → Ahead p g.run.now.x g.clause (r + 1) k g.end × (i ≤ k)
       at true e l =
           (record { there = m.ahead.there; first = omega (arith, m.ahead.first); low = omega (arith, l, named_low e); places = rw l (named_rest e ∙ same_rest) }, omega (arith, l))
       at false e l =
@@ -195,69 +196,68 @@ pub record Joined (p : Plan) (a : Assignment) (x c k j r i : ℕ) (s : SharesOf)
   pub stays : capped_shares s ≡ s
   pub along : capped_shares (joined_along (shares_of a x) s (drop (r - first_rule p.clauses c) (get_or p.clauses c []))) ≡ capped_shares (joined_along (shares_of a x) start_shares (get_or p.clauses c []))
 
-module _ {run : Run} {c k j : ℕ} (d : Placed run c k j) where
+module _ {g : Group} (d : Placed g) where
   abbrev plan : Plan
-  plan = plan_of_tables run.tables.now run.terms.now
+  plan = plan_of_tables g.run.now.footing.tables.now g.run.now.footing.terms.now
 
   abbrev bits : Assignment
-  bits = lent_bits run.tables.now run.terms.now run.assignment.now
+  bits = lent_bits g.run.now.footing.tables.now g.run.now.footing.terms.now g.run.now.footing.assignment.now
 
-  there : c < length plan.clauses
-  there = d.group.clause_there
+  there : g.clause < length plan.clauses
+  there = g.whole.clause_there
 
-  laid : Laid run.tables.now run.terms.now
-  laid = run.going.kept.ready.laid
+  laid : Laid g.run.now.footing.tables.now g.run.now.footing.terms.now
+  laid = g.run.now.going.kept.ready.laid
 
-  in_words : c < word_at run.tables.now 1
-  in_words = omega (arith, there, clauses_word run.tables.now run.terms.now laid)
+  in_words : g.clause < word_at g.run.now.footing.tables.now 1
+  in_words = omega (arith, there, clauses_word g.run.now.footing.tables.now g.run.now.footing.terms.now laid)
 
-  pub placed_readable : RunReadable run.tables.now c
-  placed_readable = run_readable run.tables.now run.terms.now laid c in_words
+  pub placed_readable : RunReadable g.run.now.footing.tables.now g.clause
+  placed_readable = run_readable g.run.now.footing.tables.now g.run.now.footing.terms.now laid g.clause in_words
 
-  pub placed_end : {end : ℕ} → end ≡ word_at run.tables.now (clause_first_at c) + word_at run.tables.now (clause_count_at c) → end ≡ first_rule (plan_of_tables run.tables.now run.terms.now).clauses (suc c)
-  placed_end e = e ∙ sym (next_rule_lem run.tables.now run.terms.now laid c in_words)
+  pub placed_end : {end : ℕ} → end ≡ word_at g.run.now.footing.tables.now (clause_first_at g.clause) + word_at g.run.now.footing.tables.now (clause_count_at g.clause) → end ≡ first_rule (plan_of_tables g.run.now.footing.tables.now g.run.now.footing.terms.now).clauses (suc g.clause)
+  placed_end e = e ∙ sym (next_rule_lem g.run.now.footing.tables.now g.run.now.footing.terms.now laid g.clause in_words)
 
-  pub end_few : first_rule (plan_of_tables run.tables.now run.terms.now).clauses (suc c) ≤ 1_025
+  pub end_few : first_rule (plan_of_tables g.run.now.footing.tables.now g.run.now.footing.terms.now).clauses (suc g.clause) ≤ 1_025
   unfolding rules_of
-  end_few = omega (arith, first_within plan.clauses (suc c), (parts run.tables.now run.terms.now laid).rule_count)
+  end_few = omega (arith, first_within plan.clauses (suc g.clause), (parts g.run.now.footing.tables.now g.run.now.footing.terms.now laid).rule_count)
 
-  pub joined_start : {first : ℕ} {s : SharesOf} → first ≡ word_at run.tables.now (clause_first_at c) → s ≡ start_shares → Joined (plan_of_tables run.tables.now run.terms.now) (lent_bits run.tables.now run.terms.now run.assignment.now) run.x c k j first k s
+  pub joined_start : {first : ℕ} {s : SharesOf} → first ≡ word_at g.run.now.footing.tables.now (clause_first_at g.clause) → s ≡ start_shares → Joined (plan_of_tables g.run.now.footing.tables.now g.run.now.footing.terms.now) (lent_bits g.run.now.footing.tables.now g.run.now.footing.terms.now g.run.now.footing.assignment.now) g.run.now.x g.clause g.first g.end first g.first s
   joined_start {first} {s} e h =
-      let same : first ≡ first_rule plan.clauses c = e ∙ first_rule_lem run.tables.now run.terms.now laid c in_words in
-      let none : first - first_rule plan.clauses c ≡ 0 = omega (arith, same) in
+      let same : first ≡ first_rule plan.clauses g.clause = e ∙ first_rule_lem g.run.now.footing.tables.now g.run.now.footing.terms.now laid g.clause in_words in
+      let none : first - first_rule plan.clauses g.clause ≡ 0 = omega (arith, same) in
       record {
-        ahead = record { there = there; first = omega (arith, same); low = omega (arith, d.group.some); places = rw (none, same) d.places };
-        last = omega (arith, same, first_next plan.clauses c there);
-        low = le_refl k;
+        ahead = record { there = there; first = omega (arith, same); low = omega (arith, g.whole.some); places = rw (none, same) d.places };
+        last = omega (arith, same, first_next plan.clauses g.clause there);
+        low = le_refl g.first;
         stays = rw h capped_start;
         along = rw (none, h) refl;
       }
 
-  module _ {r i : ℕ} {s : SharesOf} (o : Joined (plan_of_tables run.tables.now run.terms.now) (lent_bits run.tables.now run.terms.now run.assignment.now) run.x c k j r i s) where
-    pub joined_merging : r < first_rule (plan_of_tables run.tables.now run.terms.now).clauses (suc c) → Merging run c r i j
+  module _ {r i : ℕ} {s : SharesOf} (o : Joined (plan_of_tables g.run.now.footing.tables.now g.run.now.footing.terms.now) (lent_bits g.run.now.footing.tables.now g.run.now.footing.terms.now g.run.now.footing.assignment.now) g.run.now.x g.clause g.first g.end r i s) where
+    pub joined_merging : r < first_rule (plan_of_tables g.run.now.footing.tables.now g.run.now.footing.terms.now).clauses (suc g.clause) → Merging g r i
     joined_merging h = record {
-      low = omega (arith, d.group.first, o.low, run.begins);
-      high = omega (arith, d.group.last, run.ends);
+      low = o.low;
       ahead = o.ahead;
       last = h;
     }
 
-    pub joined_next : (h : r < first_rule (plan_of_tables run.tables.now run.terms.now).clauses (suc c)) {z : State} {rule t : SharesOf} {n : ℕ} → StateOf (lent_bits run.tables.now run.terms.now run.assignment.now) run.x (rule_at (plan_of_tables run.tables.now run.terms.now) r) z → rule ≡ capped_shares (shares_from z) → t ≡ capped_shares (joined_shares s rule) → n ≡ cond (named_in run.x (rule_at (plan_of_tables run.tables.now run.terms.now) r).terms) (i + 1) i → Joined (plan_of_tables run.tables.now run.terms.now) (lent_bits run.tables.now run.terms.now run.assignment.now) run.x c k j (r + 1) n t
-    joined_next h {z} {rule} {t} {n} q e f g =
-        let next = ahead_next (joined_merging h) g in
+    pub joined_next : (h : r < first_rule (plan_of_tables g.run.now.footing.tables.now g.run.now.footing.terms.now).clauses (suc g.clause)) {z : State} {rule t : SharesOf} {n : ℕ} → StateOf (lent_bits g.run.now.footing.tables.now g.run.now.footing.terms.now g.run.now.footing.assignment.now) g.run.now.x (rule_at (plan_of_tables g.run.now.footing.tables.now g.run.now.footing.terms.now) r) z → rule ≡ capped_shares (shares_from z) → t ≡ capped_shares (joined_shares s rule) → n ≡ cond (named_in g.run.now.x (rule_at (plan_of_tables g.run.now.footing.tables.now g.run.now.footing.terms.now) r).terms) (i + 1) i → Joined (plan_of_tables g.run.now.footing.tables.now g.run.now.footing.terms.now) (lent_bits g.run.now.footing.tables.now g.run.now.footing.terms.now g.run.now.footing.assignment.now) g.run.now.x g.clause g.first g.end (r + 1) n t
+    joined_next h {z} {rule} {t} {n} q e f l =
+        let next = ahead_next (joined_merging h) l in
         record {
           ahead = next.0;
           last = omega arith;
           low = omega (arith, o.low, next.1);
           stays = capped_stays t (joined_shares s rule) f;
           along =
-              joined_step (shares_of bits run.x) s t rule (rule_at plan r) (drop (r + 1 - first_rule plan.clauses c) (get_or plan.clauses c [])) (e ∙ ap capped_shares (shares_rule q)) f
-              ∙ ap (λ rs. capped_shares (joined_along (shares_of bits run.x) s rs)) (sym (rules_next (joined_merging h)))
+              joined_step (shares_of bits g.run.now.x) s t rule (rule_at plan r) (drop (r + 1 - first_rule plan.clauses g.clause) (get_or plan.clauses g.clause [])) (e ∙ ap capped_shares (shares_rule q)) f
+              ∙ ap (λ rs. capped_shares (joined_along (shares_of bits g.run.now.x) s rs)) (sym (rules_next (joined_merging h)))
               ∙ o.along;
         }
 
-    pub joined_end : first_rule (plan_of_tables run.tables.now run.terms.now).clauses (suc c) ≤ r → s ≡ capped_shares (joined_along (shares_of (lent_bits run.tables.now run.terms.now run.assignment.now) run.x) start_shares (get_or (plan_of_tables run.tables.now run.terms.now).clauses c []))
+    pub joined_end : first_rule (plan_of_tables g.run.now.footing.tables.now g.run.now.footing.terms.now).clauses (suc g.clause) ≤ r → s ≡ capped_shares (joined_along (shares_of (lent_bits g.run.now.footing.tables.now g.run.now.footing.terms.now g.run.now.footing.assignment.now) g.run.now.x) start_shares (get_or (plan_of_tables g.run.now.footing.tables.now g.run.now.footing.terms.now).clauses g.clause []))
     unfolding joined_along
     joined_end h =
-        let none : drop (r - first_rule plan.clauses c) (get_or plan.clauses c []) ≡ [] = drop_of_length-le (get_or plan.clauses c []) {i = r - first_rule plan.clauses c} (omega (arith, first_next plan.clauses c there)) in
+        let none : drop (r - first_rule plan.clauses g.clause) (get_or plan.clauses g.clause []) ≡ [] = drop_of_length-le (get_or plan.clauses g.clause []) {i = r - first_rule plan.clauses g.clause} (omega (arith, first_next plan.clauses g.clause there)) in
         sym o.stays ∙ rw none at o.along

@@ -2,74 +2,74 @@
 // which rules name the variable.
 #![tactic(auto)]
 
-ghost use Rattle.std.specs.Prelude.{◌≡◌, cond, [], ◌+◌, get_or};
+ghost use Rattle.std.specs.Prelude.{◌≡◌, cond, ◌+◌};
 ghost use Rattle.plpb.specs.Plan.{named_in};
 ghost use Rattle.plpb.specs.Equations.{shares_of};
 ghost use Rattle.counting.specs.Shares.{shares_in, capped_shares, start_shares, joined_along};
 ghost use Rattle.order.specs.Order.{rule_at};
 ghost use Rattle.rules.specs.State.{StateOf};
-ghost use Rattle.groups.specs.Run.{plan, bits};
+ghost use Rattle.groups.specs.Group.{plan, bits, clause};
 ghost use Rattle.joining.specs.Merging.{Merging, Placed};
 
 use counting::shares::Shares;
 use effects::told;
 use format::ORDER;
-use groups::Run;
+use groups::Group;
 use places::rule_in;
 use recount::clause::rules_of;
 use rules::place::Stands;
 use rules::state::State;
 use words::word;
 
-// Whether place i, if it is below j, is that of rule r: whether the rule names the variable. The clause c is only spoken of.
-fn is_at(run: &Run<'_>, c: usize, r: usize, i: usize, j: usize) -> bool
-    requires { Merging run.now c r i j }
-    ensures { result ≡ named_in run.now.x (rule_at (plan run.now) r).terms }
+// Whether place i, if it is one of the group, is that of rule r: whether the rule names the variable.
+fn is_at(group: &Group<'_>, r: usize, i: usize) -> bool
+    requires { Merging group.now r i }
+    ensures { result ≡ named_in group.now.run.now.x (rule_at (plan group.now) r).terms }
 {
-    if i < j {
-        return rule_in(word(run.tables, ORDER + i)) == r;
+    let run = group.run;
+    if i < group.end {
+        return rule_in(word(run.footing.tables, ORDER + i)) == r;
     }
     false
 }
 
 // The place behind that of rule r.
-fn past(run: &Run<'_>, c: usize, r: usize, i: usize, j: usize) -> usize
-    requires { Merging run.now c r i j }
-    ensures { result ≡ cond (named_in run.now.x (rule_at (plan run.now) r).terms) (i + 1) i }
+fn past(group: &Group<'_>, r: usize, i: usize) -> usize
+    requires { Merging group.now r i }
+    ensures { result ≡ cond (named_in group.now.run.now.x (rule_at (plan group.now) r).terms) (i + 1) i }
 {
-    if is_at(run, c, r, i, j) {
+    if is_at(group, r, i) {
         return i + 1;
     }
     i
 }
 
 // The state of rule r, seen from the variable.
-fn state_in(run: &Run<'_>, c: usize, r: usize, i: usize, j: usize) -> State
-    requires { Merging run.now c r i j }
-    ensures { StateOf (bits run.now) run.now.x (rule_at (plan run.now) r) result }
+fn state_in(group: &Group<'_>, r: usize, i: usize) -> State
+    requires { Merging group.now r i }
+    ensures { StateOf (bits group.now) group.now.run.now.x (rule_at (plan group.now) r) result }
 {
-    if is_at(run, c, r, i, j) {
+    let run = group.run;
+    if is_at(group, r, i) {
         return run.state_at(i);
     }
-    told(run.tallies, r, Stands::Out)
+    told(run.footing.tallies, r, Stands::Out)
 }
 
-// The shares of clause c, of which the places from k on, below j, are the group.
-pub fn shares_along(run: &Run<'_>, c: usize, k: usize, j: usize) -> Shares
-    requires { Placed run.now c k j }
-    ensures { shares_in result
-        ≡ capped_shares
-        (joined_along (shares_of (bits run.now) run.now.x) start_shares
-        (get_or (plan run.now).clauses c [])) }
+// The shares of the clause whose group this is.
+pub fn shares_along(group: &Group<'_>) -> Shares
+    requires { Placed group.now }
+    ensures { shares_in result ≡ capped_shares (joined_along (shares_of (bits group.now) group.now.run.now.x) start_shares (clause group.now)) }
 {
-    let rules = rules_of(run.tables, c);
+    let run = group.run;
+    let rules = rules_of(run.footing.tables, group.clause);
     let end = rules.end;
     let mut shares = Shares::START;
-    let mut i = k;
+    let mut i = group.first;
     for r in rules.first..end {
-        let s = state_in(run, c, r, i, j);
+        let s = state_in(group, r, i);
         shares = shares.joined(s.shares());
-        i = past(run, c, r, i, j);
+        i = past(group, r, i);
     }
     shares
 }

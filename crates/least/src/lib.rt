@@ -1,18 +1,17 @@
 // Which variables of a clause have the least break count: each count is given up above the least so far.
 #![tactic(auto)]
 
-ghost use Rattle.std.specs.Prelude.{◌≡◌, [], ◌≤◌, ◌<◌, get_or};
+ghost use Rattle.std.specs.Prelude.{◌≡◌};
 ghost use Rattle.plpb.specs.Count.{capped_break};
-ghost use Rattle.plpb.specs.Choice.{choosable, least_break, with_break};
+ghost use Rattle.plpb.specs.Choice.{least_break, with_break};
 ghost use Rattle.words.specs.Words.{word_at};
-ghost use Rattle.format.specs.Tables.{plan_of_tables};
-ghost use Rattle.effects.specs.Kept.{lent_bits};
-ghost use Rattle.picks.specs.Picks.{Picked, Pickable, Triable};
+ghost use Rattle.effects.specs.Footing.{plan_on, bits_on};
+ghost use Rattle.picks.specs.Picks.{of_clause, Picked, Pickable, Triable};
 ghost use Rattle.least.specs.Best.{place_for, Offered};
 
 use columns::PICKS;
 use counting::count::Count;
-use groups::Run;
+use effects::{Footing, Run};
 use picks::list_of;
 use spoiling::break_of;
 use words::{index, narrow, write_word};
@@ -31,23 +30,13 @@ fn place_for(n: u64, best: Best) -> usize
 }
 
 // The variable that word i of the marks lists is offered.
-fn offer(
-    tables: &[u8],
-    terms: &[u8],
-    assignment: &[u8],
-    tallies: &[u8],
-    marks: &mut [u8],
-    i: usize,
-    best: Best,
-) -> Best
-    requires { Triable tables.now terms.now assignment.now tallies.now marks.old i best.count }
-    ensures { Offered
-        (capped_break (plan_of_tables tables.now terms.now)
-        (lent_bits tables.now terms.now assignment.now) (word_at marks.old i)) (word_at marks.old i) best
-        marks.old marks.new result }
+fn offer(footing: &Footing<'_>, marks: &mut [u8], i: usize, best: Best) -> Best
+    requires { Triable footing.now marks.old i best.count }
+    ensures { Offered (capped_break (plan_on footing.now) (bits_on footing.now) (word_at marks.old i)) (word_at marks.old i) best marks.old
+        marks.new result }
 {
     let x = index(marks, i);
-    let run = Run::of(tables, terms, assignment, tallies, marks, x);
+    let run = Run::of(footing, marks, x);
     let n = break_of(&run, best.least);
     if best.least < n {
         return best;
@@ -61,32 +50,19 @@ fn offer(
 }
 
 // Those of the variables of clause c that may be chosen whose break count is the least, to the picks, in order; how many.
-pub fn least_of(
-    tables: &[u8],
-    terms: &[u8],
-    assignment: &[u8],
-    tallies: &[u8],
-    marks: &mut [u8],
-    c: usize,
-) -> usize
-    requires { Pickable tables.now terms.now assignment.now tallies.now marks.old c }
+pub fn least_of(footing: &Footing<'_>, marks: &mut [u8], c: usize) -> usize
+    requires { Pickable footing.now marks.old c }
     ensures { Picked
-        (with_break (plan_of_tables tables.now terms.now)
-        (lent_bits tables.now terms.now assignment.now)
-        (least_break (plan_of_tables tables.now terms.now)
-        (lent_bits tables.now terms.now assignment.now)
-        (choosable (plan_of_tables tables.now terms.now)
-        (get_or (plan_of_tables tables.now terms.now).clauses c [])))
-        (choosable (plan_of_tables tables.now terms.now)
-        (get_or (plan_of_tables tables.now terms.now).clauses c []))) marks.old marks.new result }
+        (with_break (plan_on footing.now) (bits_on footing.now)
+        (least_break (plan_on footing.now) (bits_on footing.now) (of_clause footing.now c)) (of_clause footing.now c)) marks.old marks.new result }
 {
-    let list = list_of(tables, terms, marks, c);
+    let list = list_of(&footing.plan(), marks, c);
     let mut best = Best {
         least: Count::CAP.value as u64 + 1,
         count: 0,
     };
     for i in list.start..list.end {
-        best = offer(tables, terms, assignment, tallies, marks, i, best);
+        best = offer(footing, marks, i, best);
     }
     best.count
 }

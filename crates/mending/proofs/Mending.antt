@@ -10,9 +10,9 @@ use lib.Dec.{T}
 use lib.ListN.{length, get_or}
 use borrow.Author.Tests.{ltb-false, eqb-true}
 use Rattle.plpb.specs.Lists.{◌or◌, count, any, all}
-use Rattle.plpb.specs.Plan.{Rule, Clause, Assignment, rule_holds, rising, numbers_rise}
+use Rattle.plpb.specs.Plan.{Bound, Rule, Clause, Assignment, rule_holds, rising, numbers_rise}
 use Rattle.plpb.specs.Expansion.{parts, is_true}
-use Rattle.plpb.specs.Equations.{shares_of, product, clause_make}
+use Rattle.plpb.specs.Equations.{Standing, out, on, off, over, lost, gained, shares, shares_of, product, clause_make}
 use Rattle.plpb.proofs.Lists.{and_left, and_right, count_cons, count_nil, all_by_count, all_at, false_T}
 use Rattle.plpb.proofs.Theorem1.{is_false, mended_and_left}
 use Rattle.plpb.proofs.Theorem2.{rule_holds_lem}
@@ -20,10 +20,14 @@ use Rattle.plpb.proofs.Equations.{equations}
 use Rattle.order.specs.Grouped.{naming, others}
 use Rattle.order.specs.Blocks.{rules_along, Group}
 use Rattle.order.proofs.Shares.{make_by_naming}
+use Rattle.counting.specs.Bound.{bound_of}
 use Rattle.format.specs.Tables.{plan_of_tables}
+use Rattle.rules.specs.declared.state.State.{State}
+use Rattle.rules.specs.Places.{standing_in}
+use Rattle.rules.specs.State.{Balanced, Turned, opposite, shares_from}
 use Rattle.effects.specs.Kept.{lent_bits}
 use Rattle.effects.proofs.Runs.{going_rises, going_bits}
-use Rattle.groups.specs.Stretch.{Stretch}
+use Rattle.groups.proofs.Stretch.{Stretch}
 use Rattle.mending.specs.Mends.{mends_part}
 
 module _ (a : Assignment) (x : ℕ) (low : 0 < x) (high : x ≤ length a) where
@@ -54,6 +58,23 @@ module _ (a : Assignment) (x : ℕ) (low : 0 < x) (high : x ≤ length a) where
 -- What is taken off may be put back.
 pub put_back : (m w : ℕ) → w ≤ m → m - w + w ≡ m
 put_back m w h = omega arith
+
+-- What a flip mends is what the flip back spoils.
+over_turned : (z : Standing) (n p m q : ℕ) (A B : Bound ℕ) → lost z ≤ p → gained z ≤ n → m + gained z ≡ n + lost z → q + lost z ≡ p + gained z → (shares (opposite z) m q A B).e ≡ (shares z n p A B).f
+unfolding shares opposite lost gained
+over_turned out n p m q A B l g e f = refl
+over_turned (on w) n p m q A B l g e f =
+    let all : q + w ≡ p = omega (arith, f) in
+    let rest : q ≡ p - w = omega (arith, f) in
+    ap₂ (λ u v. over u B - over v B) all rest
+over_turned (off w) n p m q A B l g e f =
+    let all : m + w ≡ n = omega (arith, e) in
+    let rest : m ≡ n - w = omega (arith, e) in
+    ap₂ (λ u v. over u A - over v A) all rest
+
+pub turned_spoils : {s r : State} → Balanced s → Turned s r → (shares_from r).e ≡ (shares_from s).f
+unfolding shares_from
+turned_spoils {s} {r} b t = rw (t.stands, t.lower, t.upper) (over_turned (standing_in s.stands) s.n s.p r.n r.p (bound_of s.a) (bound_of s.b) b.loses b.gains t.falses t.trues)
 
 neither : (b c : Bool) → b or c ≡ false → (b ≡ false) × (c ≡ false)
 unfolding ◌or◌

@@ -2,43 +2,36 @@
 // none of those that name the variable mends a part.
 #![tactic(auto)]
 
-ghost use Rattle.std.specs.Prelude.{◌≡◌, false, [], ◌+◌, ◌<◌, ltb, get_or};
+ghost use Rattle.std.specs.Prelude.{◌≡◌, false, ◌+◌, ◌<◌, ltb};
 ghost use Rattle.plpb.specs.Lists.{any};
 ghost use Rattle.plpb.specs.Count.{capped};
 ghost use Rattle.plpb.specs.Equations.{clause_make};
 ghost use Rattle.counting.specs.Count.{number};
 ghost use Rattle.counting.specs.Bound.{bound_of};
-ghost use Rattle.order.specs.Blocks.{rules_along, Group};
 ghost use Rattle.order.proofs.Groups.{reaches};
-ghost use Rattle.format.specs.Tables.{plan_of_tables};
 ghost use Rattle.rules.specs.State.{Balanced, shares_from};
-ghost use Rattle.effects.specs.Kept.{lent_bits, place_rule, Visited};
-ghost use Rattle.groups.specs.Stretch.{Stretch};
+ghost use Rattle.effects.specs.Run.{Inside, rule, bits as bits_of};
+ghost use Rattle.groups.specs.Group.{bits, clause, rules};
 ghost use Rattle.mending.specs.Mends.{mends_part};
 
-use counting::bound::over_difference;
 use counting::count::Count;
-use effects::state_at;
+use effects::Run;
 use format::HOLDING;
+use groups::Group;
 use rules::place::Stands;
 use rules::state::State;
+use spoiling::spoiled;
 use words::word;
 
-// f of a rule in this state: equation (11).
+// f of a rule in this state, equation (11): what the flip mends is what turning the variable back would spoil.
 pub fn mended(s: State) -> Count
     requires { Balanced s }
     ensures { number result ≡ capped (shares_from s).f }
 {
-    let n = s.n as u64;
-    let p = s.p as u64;
-    match s.stands {
-        Stands::Out => Count::ZERO,
-        Stands::On(w) => over_difference(p - w as u64, w as u64, s.b),
-        Stands::Off(w) => over_difference(n - w as u64, w as u64, s.a),
-    }
+    spoiled(s.flipped())
 }
 
-// Whether m + w choose as many as the bound's size, and m fewer ways.
+// Whether m + w choose as many as the bound's size, and m fewer ways. The three stay apart, as equation (11) and `counting::bound` have them.
 fn reached(m: u64, w: u64, bound: Option<u64>) -> bool
     requires { m + w < 4294967296 }
     ensures { result ≡ reaches m w (bound_of bound) }
@@ -49,7 +42,7 @@ fn reached(m: u64, w: u64, bound: Option<u64>) -> bool
     }
 }
 
-// Whether f is above 0, told without a binomial. It has the arms of f itself, since one function for both would take a closure and say no more.
+// Whether f is above 0, told without a binomial. One function for this and `spoiled`, over what is asked of a side, would take a closure and say no more.
 fn mends(s: State) -> bool
     requires { Balanced s }
     ensures { result ≡ ltb 0 (shares_from s).f }
@@ -64,67 +57,27 @@ fn mends(s: State) -> bool
 }
 
 // Whether the flip mends a part of the rule at place k,
-fn mends_at(
-    tables: &[u8],
-    terms: &[u8],
-    assignment: &[u8],
-    tallies: &[u8],
-    marks: &[u8],
-    x: usize,
-    k: usize,
-) -> bool
-    requires { Visited tables.now terms.now assignment.now tallies.now marks.now x k }
-    ensures { result
-        ≡ mends_part (lent_bits tables.now terms.now assignment.now) x
-        (place_rule tables.now terms.now k) }
+fn mends_at(run: &Run<'_, '_>, k: usize) -> bool
+    requires { Inside run.now k }
+    ensures { result ≡ mends_part (bits_of run.now) run.now.x (rule run.now k) }
 {
-    let s = state_at(tables, terms, assignment, tallies, marks, x, k);
-    mends(s)
+    mends(run.state_at(k))
 }
 
-// .. and of one of the rules at some places in a row.
-fn any_mends(
-    tables: &[u8],
-    terms: &[u8],
-    assignment: &[u8],
-    tallies: &[u8],
-    marks: &[u8],
-    x: usize,
-    k: usize,
-    j: usize,
-) -> bool
-    requires { Stretch tables.now terms.now assignment.now tallies.now marks.now x k j }
-    ensures { result
-        ≡ any (mends_part (lent_bits tables.now terms.now assignment.now) x)
-        (rules_along (plan_of_tables tables.now terms.now) k j) }
+// .. and of one of the rules of a group.
+fn any_mends(group: &Group<'_>) -> bool
+    ensures { result ≡ any (mends_part (bits group.now) group.now.run.now.x) (rules group.now) }
 {
-    for i in k..j {
-        if mends_at(tables, terms, assignment, tallies, marks, x, i) {
-            return true;
-        }
-    }
-    false
+    (group.first..group.end).any(|i| mends_at(group.run, i))
 }
 
-// Whether the flip may mend something of clause c, of which these places are the group: where it says no, it mends nothing.
-pub fn group_mends(
-    tables: &[u8],
-    terms: &[u8],
-    assignment: &[u8],
-    tallies: &[u8],
-    marks: &[u8],
-    x: usize,
-    c: usize,
-    k: usize,
-    j: usize,
-) -> bool
-    requires { Stretch tables.now terms.now assignment.now tallies.now marks.now x k j
-        × Group (plan_of_tables tables.now terms.now) x c k j }
-    ensures { result ≡ false → clause_make (lent_bits tables.now terms.now assignment.now) x
-        (get_or (plan_of_tables tables.now terms.now).clauses c []) ≡ 0 }
+// Whether the flip may mend something of the group's clause: where it says no, it mends nothing.
+pub fn group_mends(group: &Group<'_>) -> bool
+    ensures { result ≡ false → clause_make (bits group.now) group.now.run.now.x (clause group.now) ≡ 0 }
 {
-    if word(tallies, HOLDING + c) != 0 {
+    let run = group.run;
+    if word(run.footing.tallies, HOLDING + group.clause) != 0 {
         return false;
     }
-    any_mends(tables, terms, assignment, tallies, marks, x, k, j)
+    any_mends(group)
 }

@@ -1,17 +1,17 @@
 -- Laws of the choice by Novelty+: what it comes to, number by number.
 -- Assumes nothing.
-use Prim.Native.Nat.{ℕ, suc, ◌+◌, ◌-◌, ◌/◌, ◌≤◌, ◌<◌}
+use Prim.Native.Nat.{ℕ, suc, ◌/◌, ◌≤◌, ◌<◌}
 use native.Mathlib.Omega.{arith}
 use mathlib.Core.Bool.{Bool, true, false, cond}
 use mathlib.Core.List.{List, [], ◌∷◌}
-use mathlib.Core.Path.{◌≡◌, refl, sym, ap, ap₂, ◌∙◌, subst}
-use lib.Dec.{T, ltb, eqb}
-use lib.ListN.{length, get_or}
+use mathlib.Core.Path.{◌≡◌, refl, sym, ap, ap₂, ◌∙◌}
+use lib.Dec.{T, ltb}
+use lib.ListN.{length}
 use borrow.Author.Tests.{lt-ltb, ltb-true}
 use Rattle.plpb.specs.Lists.{◌and◌, all, row}
 use Rattle.plpb.specs.Plan.{Clause, Plan, Assignment, is_variable}
 use Rattle.plpb.specs.Numbers.{take_pick, taken, too_few}
-use Rattle.plpb.specs.Walk.{Walk, done, pick, ◌>>=◌, Mark, at, drawn, ends, short, run}
+use Rattle.plpb.specs.Walk.{Walk, done, pick, at, ends, run}
 use Rattle.plpb.specs.Settings.{Settings}
 use Rattle.plpb.specs.Novelty.{ranked, latest, is_newest}
 use Rattle.plpb.specs.Choice.{choosable, pick_from, ranked_choice, novelty_choice}
@@ -29,7 +29,7 @@ use Rattle.picking.specs.declared.Chosen.{Chosen}
 use Rattle.picking.specs.Outcome.{outcome_of, used_by, Among, Chooses}
 use Rattle.picking.proofs.Picking.{later}
 use Rattle.ranking.specs.declared.Top.{Top}
-use Rattle.ranking.specs.Ranking.{Stands, Tops, Ranks}
+use Rattle.ranking.specs.Ranking.{Tops, Ranks}
 use Rattle.novelty.specs.Noise.{asks_noise}
 
 -- ---- the walk chance

@@ -1,22 +1,23 @@
 // The choice of a variable by Novelty+ (T-09).
 #![tactic(auto)]
 
-ghost use Rattle.std.specs.Prelude.{◌≡◌, cond, List, ℕ, ◌/◌, ◌≤◌, ◌<◌, T, length};
+ghost use Rattle.std.specs.Prelude.{◌≡◌, List, ℕ, ◌/◌, ◌≤◌, ◌<◌, T, length};
 ghost use Rattle.plpb.specs.Lists.{all};
 ghost use Rattle.plpb.specs.Plan.{Plan, Assignment, is_variable};
 ghost use Rattle.plpb.specs.Settings.{Settings as Set};
 ghost use Rattle.plpb.specs.Novelty.{ranked};
 ghost use Rattle.plpb.specs.Choice.{ranked_choice, novelty_choice};
-ghost use Rattle.format.specs.Tables.{plan_of_tables};
 ghost use Rattle.numbers.specs.Numbers.{numbers_of};
 ghost use Rattle.settings.specs.Settings.{settings_of};
 ghost use Rattle.stamps.specs.Stamps.{stamp_in};
-ghost use Rattle.effects.specs.Kept.{lent_bits};
+ghost use Rattle.effects.specs.Footing.{plan_on, bits_on};
+ghost use Rattle.picks.specs.Picks.{of_clause};
 ghost use Rattle.ranking.specs.Ranking.{Ranks};
 ghost use Rattle.picking.specs.Outcome.{Chooses};
-ghost use Rattle.skc.specs.Choosing.{of_clause, ToChoose};
+ghost use Rattle.skc.specs.Choosing.{ToChoose};
 ghost use Rattle.novelty.specs.Noise.{asks_noise};
 
+use effects::Footing;
 use numbers::{Short, pick};
 use picking::{Chosen, is_below};
 use ranking::{Top, rank_clause};
@@ -37,13 +38,6 @@ fn asks_noise(top: Top) -> bool
     first.last == top.latest
 }
 
-// One of two variables.
-fn either(yes: bool, x: u32, y: u32) -> u32
-    ensures { result ≡ cond yes x y }
-{
-    if yes { x } else { y }
-}
-
 // "If the first is not the one most recently flipped in this try among them, or it is alone, flip it. Otherwise a number under noise takes the second,
 // else the first."
 fn choose_ranked(top: Top, numbers: &[u8], used: usize, noise: u32) -> Result<Chosen, Short>
@@ -62,41 +56,30 @@ fn choose_ranked(top: Top, numbers: &[u8], used: usize, noise: u32) -> Result<Ch
     }
     let drawn = pick(numbers, used, 1000)?;
     let second_taken = is_below(drawn.place, noise);
+    let taken = if second_taken { second } else { first };
     Ok(Chosen {
-        variable: either(second_taken, second.variable, first.variable),
+        variable: taken.variable,
         used: drawn.used,
     })
 }
 
 // "One number under the walk chance, per 1,000, leads to a pick among the clause's unlocked variables. Otherwise rank them"
 pub fn choose_novelty(
-    tables: &[u8],
-    terms: &[u8],
-    assignment: &[u8],
-    tallies: &[u8],
+    footing: &Footing<'_>,
     marks: &[u8],
     c: usize,
     numbers: &[u8],
     used: usize,
     s: Settings,
 ) -> Result<Chosen, Short>
-    requires { ToChoose tables.now terms.now assignment.now tallies.now marks.now c numbers.now used }
+    requires { ToChoose footing.now marks.now c numbers.now used }
     ensures { Chooses
-        (novelty_choice (settings_of s) (plan_of_tables tables.now terms.now)
-        (lent_bits tables.now terms.now assignment.now) (stamp_in marks.now)
-        (of_clause tables.now terms.now c)) (numbers_of numbers.now) used
-        (plan_of_tables tables.now terms.now).variables result }
+        (novelty_choice (settings_of s) (plan_on footing.now) (bits_on footing.now) (stamp_in marks.now)
+        (of_clause footing.now c)) (numbers_of numbers.now) used (plan_on footing.now).variables result }
 {
     let drawn = pick(numbers, used, 1000)?;
     if is_below(drawn.place, s.chance) {
-        return choose_any(
-            tables, terms, assignment, tallies, marks, c, numbers, drawn.used,
-        );
+        return choose_any(footing, marks, c, numbers, drawn.used);
     }
-    choose_ranked(
-        rank_clause(tables, terms, assignment, tallies, marks, c),
-        numbers,
-        drawn.used,
-        s.noise,
-    )
+    choose_ranked(rank_clause(footing, marks, c), numbers, drawn.used, s.noise)
 }

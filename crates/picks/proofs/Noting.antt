@@ -29,10 +29,10 @@ use Rattle.format.proofs.Placed.{clause_first, rule_first}
 use Rattle.tallies.proofs.Tallied.{get_d_map}
 use Rattle.recount.specs.Core.{Laid}
 use Rattle.recount.proofs.Laid.{parts, sections}
-use Rattle.columns.specs.Layout.{hint_at, pick_at, weight_at, list_count_at, list_at, column_size}
-use Rattle.columns.specs.Columns.{words_from, terms_ahead, Listed}
+use Rattle.columns.specs.Layout.{hint_at, pick_at, weight_at, list_at, column_size}
+use Rattle.columns.specs.Columns.{words_from, terms_ahead, Weighed, Listed}
 use Rattle.columns.proofs.Marks.{Behind, weighed_behind, listed_behind}
-use Rattle.effects.specs.Kept.{Walkable}
+use Rattle.effects.specs.declared.footing.Footing.{Footing}
 use Rattle.picks.specs.Picks.{Noted, Picks, Pickable, Triable, Tried}
 use Rattle.picks.proofs.Room.{list_room, choosable_within, choosable_most, keep_fewer}
 
@@ -58,8 +58,8 @@ word_behind {s} {t} n i h =
 noted_behind : {s t : List ℕ} → Noted s t → Behind s t
 noted_behind n = record { size = n.size; same = word_behind n }
 
-pub noted_walkable : {tables terms assignment tallies s t : List ℕ} → Noted s t → Walkable tables terms assignment tallies s → Walkable tables terms assignment tallies t
-noted_walkable n w = record { ready = w.ready; bits = w.bits; fresh = w.fresh; sized = w.sized; needed = w.needed; weighed = weighed_behind (noted_behind n) w.weighed }
+pub noted_weighed : {p : Plan} {s t : List ℕ} → Noted s t → Weighed p s → Weighed p t
+noted_weighed n w = weighed_behind (noted_behind n) w
 
 pub noted_listed : {p : Plan} {s t : List ℕ} → Noted s t → Listed p s → Listed p t
 noted_listed n l = listed_behind (noted_behind n) l
@@ -159,48 +159,44 @@ module _ {x v : ℕ} {s t : List ℕ} (h : Wrote (hint_at x) v s t) (low : 1 ≤
 
 -- ---- a clause's list gone through
 
-module _ {tables terms assignment tallies s : List ℕ} {c : ℕ} (k : Pickable tables terms assignment tallies s c) where
+module _ {q : Footing} {s : List ℕ} {c : ℕ} (k : Pickable q s c) where
   abbrev plan : Plan
-  plan = plan_of_tables tables terms
+  plan = plan_of_tables q.tables.now q.terms.now
 
   abbrev xs : List ℕ
-  xs = choosable (plan_of_tables tables terms) (get_or (plan_of_tables tables terms).clauses c [])
+  xs = choosable (plan_of_tables q.tables.now q.terms.now) (get_or (plan_of_tables q.tables.now q.terms.now).clauses c [])
 
-  laid : Laid tables terms
-  laid = k.kept.ready.laid
+  laid : Laid q.tables.now q.terms.now
+  laid = q.ready.laid
 
-  pub count_word : {n : ℕ} → n ≡ word_at s (list_count_at c) → n ≡ length (choosable (plan_of_tables tables terms) (get_or (plan_of_tables tables terms).clauses c []))
-  count_word e = e ∙ (k.listed.each c k.there).counted
+  pub list_few : length (choosable (plan_of_tables q.tables.now q.terms.now) (get_or (plan_of_tables q.tables.now q.terms.now).clauses c [])) ≤ 512
+  list_few = omega (arith, choosable_most plan (get_or plan.clauses c []), (parts q.tables.now q.terms.now laid).high)
 
-  pub list_few : length (choosable (plan_of_tables tables terms) (get_or (plan_of_tables tables terms).clauses c [])) ≤ 512
-  list_few = omega (arith, choosable_most plan (get_or plan.clauses c []), (parts tables terms laid).high)
-
-  pub list_ends : terms_ahead (plan_of_tables tables terms) c + length (choosable (plan_of_tables tables terms) (get_or (plan_of_tables tables terms).clauses c [])) ≤ 6_512
+  pub list_ends : terms_ahead (plan_of_tables q.tables.now q.terms.now) c + length (choosable (plan_of_tables q.tables.now q.terms.now) (get_or (plan_of_tables q.tables.now q.terms.now).clauses c [])) ≤ 6_512
   list_ends = list_inside laid k.there
 
-  module _ {t : List ℕ} (n : Noted s t) {i first end : ℕ} (e : first ≡ list_at (terms_ahead (plan_of_tables tables terms) c)) (f : end ≡ first + length (choosable (plan_of_tables tables terms) (get_or (plan_of_tables tables terms).clauses c []))) (low : first ≤ i) (high : i < end) where
+  module _ {t : List ℕ} (n : Noted s t) {i first end : ℕ} (e : first ≡ list_at (terms_ahead (plan_of_tables q.tables.now q.terms.now) c)) (f : end ≡ first + length (choosable (plan_of_tables q.tables.now q.terms.now) (get_or (plan_of_tables q.tables.now q.terms.now).clauses c []))) (low : first ≤ i) (high : i < end) where
     d : ℕ
     d = i - first
 
     inside : i - first < length xs
     inside = omega (arith, f)
 
-    pub list_here : word_at t i ≡ get_or (choosable (plan_of_tables tables terms) (get_or (plan_of_tables tables terms).clauses c [])) (i - first) 0
+    pub list_here : word_at t i ≡ get_or (choosable (plan_of_tables q.tables.now q.terms.now) (get_or (plan_of_tables q.tables.now q.terms.now).clauses c [])) (i - first) 0
     list_here =
         let back : list_at (terms_ahead plan c) + (i - first) ≡ i = omega (arith, e) in
         ap (word_at t) (sym back) ∙ listed_at c (i - first) (noted_listed n k.listed) k.there inside
 
-    pub list_triable : {count : ℕ} → count ≤ i - first → Triable tables terms assignment tallies t i count
+    pub list_triable : {count : ℕ} → count ≤ i - first → Triable q t i count
     list_triable l =
         let within = choosable_within plan (get_or plan.clauses c []) (i - first) inside in
         record {
-          going = record { kept = noted_walkable n k.kept; low = rw list_here within.0; high = rw list_here within.1 };
-          inside = omega (arith, n.size, k.kept.weighed.room, list_ends, e, f);
+          run = record { weighed = noted_weighed n k.weighed; low = rw list_here within.0; high = rw list_here within.1 };
+          inside = omega (arith, n.size, k.weighed.room, list_ends, e, f);
           few = omega (arith, list_few, inside);
         }
 
--- ---- the list's words, as the code reads where they begin and how many they are
-
-module _ {tables terms assignment tallies s : List ℕ} {c : ℕ} (k : Pickable tables terms assignment tallies s c) {ahead n : ℕ} (e : ahead ≡ terms_ahead (plan_of_tables tables terms) c) (f : n ≡ word_at s (list_count_at c)) where
-  pub list_bounds : (ahead ≤ 6_512) × (n ≤ 512) × (ahead + n ≤ 6_512)
-  list_bounds = (omega (arith, e, list_ends k), omega (arith, count_word k f, list_few k), omega (arith, e, count_word k f, list_ends k))
+-- Where a clause's list begins and ends, as its tables tell.
+pub listed : (q : Footing) (c : ℕ) {tables terms : List ℕ} {start end : ℕ} → (tables ≡ q.tables.now) × (terms ≡ q.terms.now) → (start ≡ list_at (terms_ahead (plan_of_tables tables terms) c)) × (end ≡ start + length (choosable (plan_of_tables tables terms) (get_or (plan_of_tables tables terms).clauses c [])))
+    → (start ≡ list_at (terms_ahead (plan_of_tables q.tables.now q.terms.now) c)) × (end ≡ start + length (choosable (plan_of_tables q.tables.now q.terms.now) (get_or (plan_of_tables q.tables.now q.terms.now).clauses c [])))
+listed q c e l = rw (e.0, e.1) at l

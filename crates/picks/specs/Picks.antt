@@ -1,12 +1,13 @@
 -- The variables to pick among, in words behind the marks.
 -- Assumes nothing.
-use Rattle.std.specs.Prelude.{ℕ, ◌+◌, ◌*◌, ◌≤◌, ◌<◌, ◌≡◌, Bool, true, cond, List, length, get_or, take, drop}
+use Rattle.std.specs.Prelude.{ℕ, ◌+◌, ◌*◌, ◌≤◌, ◌<◌, ◌≡◌, Bool, true, cond, List, [], length, get_or, take, drop}
+use Rattle.plpb.specs.Choice.{choosable}
 use Rattle.words.specs.Words.{word_at}
 use Rattle.format.specs.Limits.{max_variables}
-use Rattle.format.specs.Tables.{plan_of_tables}
 use Rattle.columns.specs.Layout.{hint_at, pick_at, weight_at}
-use Rattle.columns.specs.Columns.{Listed}
-use Rattle.effects.specs.Kept.{Walkable, Going}
+use Rattle.columns.specs.Columns.{Weighed, Listed}
+use Rattle.effects.specs.declared.footing.Footing.{Footing}
+use Rattle.effects.specs.Footing.{plan_on, HasRun}
 
 -- Only hints and picks change: what stands before the first hint is as it was, and what stands behind the picks.
 pub record Noted (s t : List ℕ) : Type 0 where
@@ -25,15 +26,19 @@ pub record Picked (ys s t : List ℕ) (count : ℕ) : Type 0 where
   pub picks : Picks ys t
   pub noted : Noted s t
 
--- What picking among the variables of clause c needs.
-pub record Pickable (tables terms assignment tallies marks : List ℕ) (c : ℕ) : Type 0 where
-  pub kept : Walkable tables terms assignment tallies marks
-  pub listed : Listed (plan_of_tables tables terms) marks
-  pub there : c < length (plan_of_tables tables terms).clauses
+-- The variables of clause c that may be chosen.
+abbrev pub of_clause : Footing → ℕ → List ℕ
+of_clause q c = choosable (plan_on q) (get_or (plan_on q).clauses c [])
+
+-- What picking among them needs of the marks.
+pub record Pickable (q : Footing) (marks : List ℕ) (c : ℕ) : Type 0 where
+  pub weighed : Weighed (plan_on q) marks
+  pub listed : Listed (plan_on q) marks
+  pub there : c < length (plan_on q).clauses
 
 -- What trying the variable needs that word i of the marks lists, behind so many picks.
-pub record Triable (tables terms assignment tallies marks : List ℕ) (i count : ℕ) : Type 0 where
-  pub going : Going tables terms assignment tallies marks (word_at marks i)
+pub record Triable (q : Footing) (marks : List ℕ) (i count : ℕ) : Type 0 where
+  pub run : HasRun q marks (word_at marks i)
   pub inside : 4 * i + 4 ≤ length marks
   pub few : count < max_variables
 

@@ -5,61 +5,47 @@ ghost use Rattle.std.specs.Prelude.{◌≡◌, [], ◌+◌, ◌<◌, eqb, length
 ghost use Rattle.plpb.specs.Count.{capped_break};
 ghost use Rattle.plpb.specs.Choice.{choosable, with_break};
 ghost use Rattle.words.specs.Words.{word_at};
-ghost use Rattle.format.specs.Tables.{plan_of_tables};
-ghost use Rattle.recount.specs.Core.{Laid};
 ghost use Rattle.columns.specs.Layout.{list_at};
 ghost use Rattle.columns.specs.Columns.{terms_ahead, Listed};
-ghost use Rattle.effects.specs.Kept.{lent_bits};
-ghost use Rattle.picks.specs.Picks.{Picked, Pickable, Triable, Tried};
+ghost use Rattle.recount.specs.Plans.{plan};
+ghost use Rattle.effects.specs.Footing.{plan_on, bits_on};
+ghost use Rattle.picks.specs.Picks.{of_clause, Picked, Pickable, Triable, Tried};
 
 use columns::{LIST_COUNTS, LISTS, PICKS};
+use effects::Footing;
 use format::{CLAUSES, RULES};
 use freely::is_free;
+use recount::tables::Tables;
 use std::ops::Range;
 use words::{index, narrow, write_word};
 
 // How many terms stand before those of clause c.
-pub fn terms_ahead(tables: &[u8], terms: &[u8], c: usize) -> usize
-    requires { Laid tables.now terms.now × (c < length (plan_of_tables tables.now terms.now).clauses) }
-    ensures { result ≡ terms_ahead (plan_of_tables tables.now terms.now) c }
+pub fn terms_ahead(t: &Tables<'_>, c: usize) -> usize
+    requires { c < length (plan t.now).clauses }
+    ensures { result ≡ terms_ahead (plan t.now) c }
 {
-    index(tables, RULES + 5 * index(tables, CLAUSES + 2 * c))
+    index(t.tables, RULES + 5 * index(t.tables, CLAUSES + 2 * c))
 }
 
 // The words of the marks that list the variables of clause c that may be chosen.
-pub fn list_of(tables: &[u8], terms: &[u8], marks: &[u8], c: usize) -> Range<usize>
-    requires { Laid tables.now terms.now × (c < length (plan_of_tables tables.now terms.now).clauses)
-        × Listed (plan_of_tables tables.now terms.now) marks.now }
-    ensures { (result.start ≡ list_at (terms_ahead (plan_of_tables tables.now terms.now) c))
-        × (result.end
-        ≡ result.start
-        + length
-        (choosable (plan_of_tables tables.now terms.now)
-        (get_or (plan_of_tables tables.now terms.now).clauses c []))) }
+pub fn list_of(t: &Tables<'_>, marks: &[u8], c: usize) -> Range<usize>
+    requires { (c < length (plan t.now).clauses) × Listed (plan t.now) marks.now }
+    ensures { (result.start ≡ list_at (terms_ahead (plan t.now) c))
+        × (result.end ≡ result.start + length (choosable (plan t.now) (get_or (plan t.now).clauses c []))) }
 {
-    let start = LISTS + terms_ahead(tables, terms, c);
+    let start = LISTS + terms_ahead(t, c);
     start..start + index(marks, LIST_COUNTS + c)
 }
 
-// The variable that word i of the marks lists is put behind so many picks if its flip breaks nothing.
-fn free_one(
-    tables: &[u8],
-    terms: &[u8],
-    assignment: &[u8],
-    tallies: &[u8],
-    marks: &mut [u8],
-    i: usize,
-    count: usize,
-) -> usize
-    requires { Triable tables.now terms.now assignment.now tallies.now marks.old i count }
-    ensures { Tried
-        (eqb
-        (capped_break (plan_of_tables tables.now terms.now)
-        (lent_bits tables.now terms.now assignment.now) (word_at marks.old i)) 0)
-        (word_at marks.old i) count marks.old marks.new result }
+// The variable that word i of the marks lists is put behind so many picks if its flip breaks nothing. A count goes with the marks, because what follows the
+// picks in them, the weights and the lists, is lent too.
+fn free_one(footing: &Footing<'_>, marks: &mut [u8], i: usize, count: usize) -> usize
+    requires { Triable footing.now marks.old i count }
+    ensures { Tried (eqb (capped_break (plan_on footing.now) (bits_on footing.now) (word_at marks.old i)) 0) (word_at marks.old i) count
+        marks.old marks.new result }
 {
     let x = index(marks, i);
-    if !is_free(tables, terms, assignment, tallies, marks, x) {
+    if !is_free(footing, marks, x) {
         return count;
     }
     write_word(marks, PICKS + count, narrow(x));
@@ -67,25 +53,14 @@ fn free_one(
 }
 
 // Those of the variables of clause c that may be chosen whose flip breaks nothing, to the picks, in order; how many.
-pub fn free_of(
-    tables: &[u8],
-    terms: &[u8],
-    assignment: &[u8],
-    tallies: &[u8],
-    marks: &mut [u8],
-    c: usize,
-) -> usize
-    requires { Pickable tables.now terms.now assignment.now tallies.now marks.old c }
-    ensures { Picked
-        (with_break (plan_of_tables tables.now terms.now)
-        (lent_bits tables.now terms.now assignment.now) 0
-        (choosable (plan_of_tables tables.now terms.now)
-        (get_or (plan_of_tables tables.now terms.now).clauses c []))) marks.old marks.new result }
+pub fn free_of(footing: &Footing<'_>, marks: &mut [u8], c: usize) -> usize
+    requires { Pickable footing.now marks.old c }
+    ensures { Picked (with_break (plan_on footing.now) (bits_on footing.now) 0 (of_clause footing.now c)) marks.old marks.new result }
 {
-    let list = list_of(tables, terms, marks, c);
+    let list = list_of(&footing.plan(), marks, c);
     let mut count: usize = 0;
     for i in list.start..list.end {
-        count = free_one(tables, terms, assignment, tallies, marks, i, count);
+        count = free_one(footing, marks, i, count);
     }
     count
 }

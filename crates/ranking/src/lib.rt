@@ -2,23 +2,21 @@
 // Of the ranking only the first two are kept.
 #![tactic(auto)]
 
-ghost use Rattle.std.specs.Prelude.{◌≡◌, List, [], ◌∷◌, ℕ, ◌+◌, ◌-◌, get_or};
+ghost use Rattle.std.specs.Prelude.{◌≡◌, List, ◌∷◌, ℕ, ◌+◌, ◌-◌};
 ghost use Rattle.plpb.specs.Plan.{Plan, Assignment};
 ghost use Rattle.plpb.specs.Count.{cap, given};
-ghost use Rattle.plpb.specs.Choice.{choosable};
 ghost use Rattle.counting.specs.Count.{number};
-ghost use Rattle.format.specs.Tables.{plan_of_tables};
-ghost use Rattle.effects.specs.Kept.{lent_bits, Going};
-ghost use Rattle.picks.specs.Picks.{Pickable};
+ghost use Rattle.effects.specs.Footing.{plan_on, bits_on, HasRun};
+ghost use Rattle.picks.specs.Picks.{of_clause, Pickable};
 ghost use Rattle.stamps.specs.Stamps.{stamp_in};
 ghost use Rattle.ranking.specs.Ranking.{comes_before, Stands, Ranks};
 
-use counting::count::Count;
+use counting::count::{Count, Marked};
 use counts::counts_along;
-use groups::Run;
+use effects::{Footing, Run};
 use picks::list_of;
 use stamps::last_flip;
-use words::{widen, word};
+use words::word;
 
 // A variable as it is ranked: make minus break, above the least that this can be; the number of its last flip; its number.
 #[derive(Clone, Copy)]
@@ -28,7 +26,8 @@ pub struct Standing {
     pub variable: u32,
 }
 
-// The first two of some ranked variables, how many of the two there are, and the number of the last flip among all of them.
+// The first two of some ranked variables, how many of the two there are, and the number of the last flip among all of them. The choice takes the first where
+// there is one always: an `Option` of it would be opened there with an answer for none.
 #[derive(Clone, Copy)]
 pub struct Top {
     pub count: u32,
@@ -58,24 +57,16 @@ impl Top {
 fn raised(makes: Count, breaks: Count) -> u64
     ensures { result ≡ (given (number makes)).value + (cap - (given (number breaks)).value) }
 {
-    let m = makes.marked();
-    let b = breaks.marked();
+    let m = Marked::from(makes);
+    let b = Marked::from(breaks);
     m.value as u64 + (Count::CAP.value - b.value) as u64
 }
 
-fn standing_of(
-    tables: &[u8],
-    terms: &[u8],
-    assignment: &[u8],
-    tallies: &[u8],
-    marks: &[u8],
-    x: u32,
-) -> Standing
-    requires { Going tables.now terms.now assignment.now tallies.now marks.now x }
-    ensures { Stands (plan_of_tables tables.now terms.now)
-        (lent_bits tables.now terms.now assignment.now) (stamp_in marks.now) x result }
+fn standing_of(footing: &Footing<'_>, marks: &[u8], x: u32) -> Standing
+    requires { HasRun footing.now marks.now x }
+    ensures { Stands (plan_on footing.now) (bits_on footing.now) (stamp_in marks.now) x result }
 {
-    let run = Run::of(tables, terms, assignment, tallies, marks, widen(x));
+    let run = Run::of(footing, marks, x as usize);
     let counts = counts_along(&run);
     Standing {
         score: raised(counts.makes, counts.breaks),
@@ -140,25 +131,14 @@ fn joined(top: Top, s: Standing) -> Top
 }
 
 // "rank them": the variables of a clause that may be chosen, from the last of its list to the first, so that each comes before those that are ranked already.
-pub fn rank_clause(
-    tables: &[u8],
-    terms: &[u8],
-    assignment: &[u8],
-    tallies: &[u8],
-    marks: &[u8],
-    c: usize,
-) -> Top
-    requires { Pickable tables.now terms.now assignment.now tallies.now marks.now c }
-    ensures { Ranks (plan_of_tables tables.now terms.now)
-        (lent_bits tables.now terms.now assignment.now) (stamp_in marks.now)
-        (choosable (plan_of_tables tables.now terms.now)
-        (get_or (plan_of_tables tables.now terms.now).clauses c [])) result }
+pub fn rank_clause(footing: &Footing<'_>, marks: &[u8], c: usize) -> Top
+    requires { Pickable footing.now marks.now c }
+    ensures { Ranks (plan_on footing.now) (bits_on footing.now) (stamp_in marks.now) (of_clause footing.now c) result }
 {
-    let list = list_of(tables, terms, marks, c);
+    let list = list_of(&footing.plan(), marks, c);
     let mut top = Top::NONE;
     for i in (list.start..list.end).rev() {
-        let x = word(marks, i);
-        let s = standing_of(tables, terms, assignment, tallies, marks, x);
+        let s = standing_of(footing, marks, word(marks, i));
         top = joined(top, s);
     }
     top

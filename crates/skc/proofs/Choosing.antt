@@ -21,9 +21,8 @@ use Rattle.plpb.specs.Choice.{choosable, pick_from, least_break, with_break, noi
 use Rattle.plpb.proofs.Lists.{and_both, all_still}
 use Rattle.plpb.proofs.Capped.{capped_most}
 use Rattle.words.specs.Words.{word_at}
-use Rattle.format.specs.Tables.{plan_of_tables}
 use Rattle.format.proofs.Spells.{spells_all, spells_map}
-use Rattle.columns.specs.Layout.{column_size, list_at, list_count_at, picks_at}
+use Rattle.columns.specs.Layout.{column_size, list_at, picks_at}
 use Rattle.columns.specs.Columns.{terms_ahead, words_from, Listed}
 use Rattle.std.specs.Prelude.{Result, Ok, Err}
 use Rattle.numbers.specs.declared.Drawn.{Drawn}
@@ -32,12 +31,14 @@ use Rattle.numbers.specs.Numbers.{numbers_of}
 use Rattle.numbers.specs.Taking.{taken_of}
 use Rattle.numbers.proofs.Taking.{length_numbers_of, picked_at, picked_short, pick_uses, pick_gone}
 use Rattle.numbers.proofs.Runs.{empty_by_length, noisy_least, noisy_any, noisy_short, skc_free, skc_noisy}
-use Rattle.picks.specs.Picks.{Noted, Picks, Picked, Pickable}
-use Rattle.picks.proofs.Noting.{noted_walkable, noted_listed, count_word, list_bounds}
+use Rattle.effects.specs.declared.footing.Footing.{Footing}
+use Rattle.effects.specs.Footing.{plan_on}
+use Rattle.picks.specs.Picks.{of_clause, Noted, Picks, Picked}
+use Rattle.picks.proofs.Noting.{noted_weighed, noted_listed, list_few, list_ends}
 use Rattle.picking.specs.declared.Chosen.{Chosen}
 use Rattle.picking.specs.Outcome.{outcome_of, used_by, Among, Chooses, PickListed, is_one}
 use Rattle.picking.proofs.Picking.{later}
-use Rattle.skc.specs.Choosing.{of_clause, lent_try, ToChoose}
+use Rattle.skc.specs.Choosing.{ToChoose}
 
 -- ---- variables of the plan
 
@@ -60,8 +61,8 @@ pub picks_words : {ys t : List ℕ} {r : ℕ} → r ≡ length ys → Picks ys t
 unfolding words_from
 picks_words {ys} {t} e k = ap (λ n. map (word_at t) (row picks_at n)) e ∙ spells_map (word_at t) picks_at ys (spells_all (word_at t) picks_at ys 0 k.each)
 
-pub list_words : {p : Plan} {t : List ℕ} {c n : ℕ} → Listed p t → c < length p.clauses → n ≡ word_at t (list_count_at c) → words_from (word_at t) (list_at (terms_ahead p c)) n ≡ choosable p (get_or p.clauses c [])
-list_words {p} {t} {c} k h e = ap (words_from (word_at t) (list_at (terms_ahead p c))) (e ∙ (k.each c h).counted) ∙ (k.each c h).listed
+pub list_words : {p : Plan} {t : List ℕ} {c n : ℕ} → Listed p t → c < length p.clauses → n ≡ length (choosable p (get_or p.clauses c [])) → words_from (word_at t) (list_at (terms_ahead p c)) n ≡ choosable p (get_or p.clauses c [])
+list_words {p} {t} {c} k h e = ap (words_from (word_at t) (list_at (terms_ahead p c))) e ∙ (k.each c h).listed
 
 -- ---- a pick among those picked out
 
@@ -78,24 +79,24 @@ picks_chosen {ns = ns} {used = used} {n = n} {q = q} h one f =
 
 -- ---- a pick among all of the list
 
-module _ {tables terms assignment tallies marks numbers : List ℕ} {c used : ℕ} (k : ToChoose tables terms assignment tallies marks c numbers used) {ahead n : ℕ} (e : ahead ≡ terms_ahead (plan_of_tables tables terms) c) (f : n ≡ word_at marks (list_count_at c)) where
-  pub list_pickable : PickListed numbers used marks (list_at ahead) n
+module _ {q : Footing} {marks numbers : List ℕ} {c used : ℕ} (k : ToChoose q marks c numbers used) {start n : ℕ} (e : start ≡ list_at (terms_ahead (plan_on q) c)) (f : n ≡ length (of_clause q c)) where
+  pub list_pickable : PickListed numbers used marks start n
   list_pickable =
-      let b = list_bounds k.pickable e f in
-      record { some = omega (arith, count_word k.pickable f, k.some); few = b.1; inside = omega (arith, b.2); room = k.pickable.listed.room; listed = k.listed }
+      let p = k.pickable in
+      record { some = omega (arith, f, k.some); few = omega (arith, f, list_few p); inside = omega (arith, e, f, list_ends p); room = p.listed.room; listed = k.listed }
 
-  pub list_chosen : {q : Result Chosen Short}
-      → ((m : ℕ) → T (all (is_one m) (words_from (word_at marks) (list_at ahead) n)) → Chooses (pick_from 0 (words_from (word_at marks) (list_at ahead) n)) (numbers_of numbers) used m q)
-      → Chooses (pick_from 0 (of_clause tables terms c)) (numbers_of numbers) used (plan_of_tables tables terms).variables q
-  list_chosen {q} g =
-      let words : words_from (word_at marks) (list_at ahead) n ≡ of_clause tables terms c = ap (λ i. words_from (word_at marks) (list_at i) n) e ∙ list_words k.pickable.listed k.pickable.there f in
-      subst (λ xs. Chooses (pick_from 0 xs) (numbers_of numbers) used (plan_of_tables tables terms).variables q) words (g _ (rw words (list_ones (plan_of_tables tables terms) _)))
+  pub list_chosen : {r : Result Chosen Short}
+      → ((m : ℕ) → T (all (is_one m) (words_from (word_at marks) start n)) → Chooses (pick_from 0 (words_from (word_at marks) start n)) (numbers_of numbers) used m r)
+      → Chooses (pick_from 0 (of_clause q c)) (numbers_of numbers) used (plan_on q).variables r
+  list_chosen {r} g =
+      let words : words_from (word_at marks) start n ≡ of_clause q c = ap (λ i. words_from (word_at marks) i n) e ∙ list_words k.pickable.listed k.pickable.there f in
+      subst (λ xs. Chooses (pick_from 0 xs) (numbers_of numbers) used (plan_on q).variables r) words (g _ (rw words (list_ones (plan_on q) _)))
 
 -- ---- the list behind a choice that came to nothing
 
-pub still_to_choose : {tables terms assignment tallies s t numbers : List ℕ} {c used after : ℕ} → Noted s t → after ≤ length numbers / 4 → ToChoose tables terms assignment tallies s c numbers used → ToChoose tables terms assignment tallies t c numbers after
+pub still_to_choose : {q : Footing} {s t numbers : List ℕ} {c used after : ℕ} → Noted s t → after ≤ length numbers / 4 → ToChoose q s c numbers used → ToChoose q t c numbers after
 still_to_choose o l k = record {
-  pickable = record { kept = noted_walkable o k.pickable.kept; listed = noted_listed o k.pickable.listed; there = k.pickable.there };
+  pickable = record { weighed = noted_weighed o k.pickable.weighed; listed = noted_listed o k.pickable.listed; there = k.pickable.there };
   some = k.some;
   listed = l;
 }

@@ -32,8 +32,8 @@ use Rattle.effects.specs.Kept.{lent_bits, Going, place_at, place_rule, Visited}
 use Rattle.effects.proofs.Runs.{run_inside}
 use Rattle.effects.proofs.Places.{place_named}
 use Rattle.groups.specs.Stretch.{group_end}
-use Rattle.groups.specs.declared.run.Run.{Run}
-use Rattle.groups.specs.Run.{plan}
+use Rattle.effects.specs.declared.run.Run.{Run}
+use Rattle.effects.specs.Run.{plan}
 use Rattle.groups.proofs.Stretch.{along_length}
 use Rattle.freely.proofs.Free.{single_clause}
 use Rattle.freely.proofs.Sums.{Summing, sum_begins, sum_most, break_counted}

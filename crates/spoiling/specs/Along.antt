@@ -5,8 +5,9 @@ use Rattle.plpb.specs.Plan.{Clause}
 use Rattle.plpb.specs.Count.{capped}
 use Rattle.counting.specs.Count.{number}
 use Rattle.order.specs.Order.{in_rules, order, cut, first_rule}
-use Rattle.groups.specs.declared.run.Run.{Run}
-use Rattle.groups.specs.Run.{plan, place, clause, end_of_group, Begins}
+use Rattle.effects.specs.declared.run.Run.{Run}
+use Rattle.effects.specs.Run.{plan, place, clause}
+use Rattle.groups.specs.Run.{end_of_group, Begins}
 use Rattle.spoiling.specs.declared.Step.{Step}
 
 -- A group begins at place k, and its places are those of its clause.

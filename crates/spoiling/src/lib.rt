@@ -6,12 +6,13 @@ ghost use Rattle.plpb.specs.Count.{cap, capped, capped_break};
 ghost use Rattle.plpb.specs.Equations.{clause_break};
 ghost use Rattle.counting.specs.Count.{number};
 ghost use Rattle.rules.specs.State.{Balanced, shares_from};
-ghost use Rattle.groups.specs.Run.{plan, bits};
+ghost use Rattle.effects.specs.Run.{plan, bits};
 ghost use Rattle.spoiling.specs.Along.{Starts, Stepped, UpTo};
 
 use counting::bound::{over_difference, over_surely_past};
 use counting::count::Count;
-use groups::Run;
+use effects::Run;
+use groups::Group;
 use joining::shares_along;
 use rules::place::Stands;
 use rules::state::State;
@@ -52,7 +53,7 @@ fn surely_past(s: State) -> bool
 }
 
 // Whether the last place of the run, if it is that of a clause of one rule, shows that the whole count is cut: the objective's clause is behind all others.
-fn cut_at_last(run: &Run<'_>) -> bool
+fn cut_at_last(run: &Run<'_, '_>) -> bool
     ensures { result ≡ true → suc cap ≡ capped_break (plan run.now) (bits run.now) run.now.x }
 {
     if run.end <= run.first {
@@ -73,7 +74,7 @@ pub struct Step {
 }
 
 // A clause of one rule counts nothing where the rule is not spoiled, one of several where it does not break: no binomial is worked out there.
-fn count_at(run: &Run<'_>, k: usize) -> Step
+fn count_at(run: &Run<'_, '_>, k: usize) -> Step
     requires { Starts run.now k }
     ensures { Stepped (clause_break (bits run.now) run.now.x) run.now k result }
 {
@@ -90,22 +91,22 @@ fn count_at(run: &Run<'_>, k: usize) -> Step
             next,
         };
     }
-    let c = run.clause_at(k);
-    let j = run.group_end(k);
-    if !run.group_breaks(c, k, j) {
+    let group = Group::at(run, k);
+    let next = group.end;
+    if !group.breaks() {
         return Step {
             count: Count::ZERO,
-            next: j,
+            next,
         };
     }
     Step {
-        count: shares_along(run, c, k, j).e,
-        next: j,
+        count: shares_along(&group).e,
+        next,
     }
 }
 
 // The break count of the variable where it is no more than a limit, else some number above the limit.
-pub fn break_of(run: &Run<'_>, limit: u64) -> u64
+pub fn break_of(run: &Run<'_, '_>, limit: u64) -> u64
     ensures { UpTo limit (capped_break (plan run.now) (bits run.now) run.now.x) result }
 {
     if cut_at_last(run) {
@@ -116,7 +117,7 @@ pub fn break_of(run: &Run<'_>, limit: u64) -> u64
     while k < run.end {
         let t = count_at(run, k);
         let count = t.count;
-        sum = sum.plus(count);
+        sum = sum + count;
         if limit < sum.rank() {
             return sum.rank();
         }

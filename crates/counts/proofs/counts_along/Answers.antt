@@ -11,8 +11,9 @@ use Rattle.plpb.proofs.Capped.{capped_zero, capped_twice}
 use Rattle.order.specs.Order.{run_end}
 use Rattle.order.proofs.Groups.{no_break, no_make}
 use Rattle.effects.proofs.Runs.{run_few}
-use Rattle.groups.specs.declared.run.Run.{Run}
-use Rattle.groups.specs.Run.{plan, bits, clause, end_of_group}
+use Rattle.effects.specs.declared.run.Run.{Run}
+use Rattle.effects.specs.Run.{plan, bits, clause}
+use Rattle.groups.specs.Run.{end_of_group}
 use Rattle.freely.proofs.Sums.{sum_start, sum_next, sum_end_lem, break_counted, make_counted}
 use Rattle.spoiling.specs.Along.{Starts}
 use Rattle.spoiling.proofs.Counting.{sum_starts}
@@ -72,7 +73,7 @@ loop-k-preserved c =
     let h = c.loop-k-test.true in
     let t = c.turn_at-t.ensures in
     let v = c.loop-k.invariant in
-    (goes r h (no_break _ r.x) v.0 t.ends t.breaks c.plus-breaks.ensures, goes r h (no_make _ r.x) v.1 t.ends t.makes c.plus-makes.ensures)
+    (goes r h (no_break _ r.x) v.0 t.ends t.breaks c.add-breaks.ensures, goes r h (no_make _ r.x) v.1 t.ends t.makes c.add-makes.ensures)
 
 pub returns : goal.returns
 returns c =

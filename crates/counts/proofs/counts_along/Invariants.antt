@@ -7,8 +7,8 @@ use Rattle.plpb.specs.Plan.{Clause}
 use Rattle.plpb.specs.Equations.{clause_break, clause_make}
 use Rattle.plpb.specs.Count.{capped, capped_break, capped_make}
 use Rattle.counting.specs.Count.{number}
-use Rattle.groups.specs.declared.run.Run.{Run}
-use Rattle.groups.specs.Run.{plan, bits}
+use Rattle.effects.specs.declared.run.Run.{Run}
+use Rattle.effects.specs.Run.{plan, bits}
 use Rattle.freely.proofs.Sums.{Summing}
 use Rattle.counts.proofs.counts_along.Given as goal
 

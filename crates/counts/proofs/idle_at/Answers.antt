@@ -43,7 +43,7 @@ returns c = λ e.
     let g = c.requires.begins in
     let one = sym c.has_several.ensures ∙ c.if-has_several.false in
     let s = group_stretch r g in
-    let n = holding_word s g (c.word.ensures ∙ ap (λ i. word_at r.tallies.now (holding_at i)) c.clause_at.ensures) in
+    let n = holding_word s g (c.word.ensures ∙ ap (λ i. word_at r.footing.tallies.now (holding_at i)) c.clause_at.ensures) in
     record {
       alone = single_group g (omega (arith, g.last, run_inside r.going)) one;
       idle = record {

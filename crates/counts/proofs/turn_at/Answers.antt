@@ -37,28 +37,21 @@ returns-then-not-has_several c =
       ends = sym (single_group g (omega (arith, g.last, run_inside r.going)) one);
     }
 
-pub clause_at-c-requires : goal.clause_at-c-requires
-clause_at-c-requires c = opening c.args.run.now c.requires.begins
-
-pub group_end-j-requires : goal.group_end-j-requires
-group_end-j-requires c = opening c.args.run.now c.requires.begins
-
-pub group_idle-requires : goal.group_idle-requires
-group_idle-requires c = rw (c.group_end-j.ensures, c.clause_at-c.ensures) c.requires.begins
-
 pub returns-then-group_idle : goal.returns-then-group_idle
 returns-then-group_idle c =
-    let idle = rw c.clause_at-c.ensures at (c.group_idle.ensures c.if-group_idle.true) in
+    let e = c.at-group.ensures in
+    let idle = rw (e.0, e.1) at (c.group_idle.ensures c.if-group_idle.true) in
     record {
       breaks = sym (ap capped idle.spoils_none ∙ capped_zero);
       makes = sym (ap capped idle.mends_none ∙ capped_zero);
-      ends = c.group_end-j.ensures;
+      ends = e.3;
     }
 
 pub shares_along-t-requires : goal.shares_along-t-requires
-shares_along-t-requires c = rw (c.group_end-j.ensures, c.clause_at-c.ensures) (record { group = c.requires.begins; places = c.requires.places })
+shares_along-t-requires c = let e = c.at-group.ensures in record { places = rw (e.0, e.1, e.2, e.3) c.requires.places }
 
 pub returns : goal.returns
 returns c =
-    let s = rw c.clause_at-c.ensures at c.shares_along-t.ensures in
-    record { breaks = shares_break _ _ _ _ s; makes = shares_make _ _ _ _ s; ends = c.group_end-j.ensures }
+    let e = c.at-group.ensures in
+    let s = rw (e.0, e.1) at c.shares_along-t.ensures in
+    record { breaks = shares_break _ _ _ _ s; makes = shares_make _ _ _ _ s; ends = e.3 }

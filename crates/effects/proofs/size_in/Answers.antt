@@ -12,4 +12,4 @@ returns-then-w-eq-NEVER c = rw (eq-eqb c.args.w never c.if-w-eq-NEVER.true) refl
 
 pub returns : goal.returns
 unfolding size_in
-returns c = rw (ne_eqb c.args.w never c.if-w-eq-NEVER.false) refl
+returns c = rw (c.from.ensures, ne_eqb c.args.w never c.if-w-eq-NEVER.false) refl

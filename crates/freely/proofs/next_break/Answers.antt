@@ -8,8 +8,9 @@ use Rattle.plpb.specs.Equations.{clause_break}
 use Rattle.plpb.specs.Count.{capped_break}
 use Rattle.plpb.proofs.Capped.{capped_zero}
 use Rattle.order.proofs.Groups.{no_break}
-use Rattle.groups.specs.declared.run.Run.{Run}
-use Rattle.groups.specs.Run.{plan, bits, Begins}
+use Rattle.effects.specs.declared.run.Run.{Run}
+use Rattle.effects.specs.Run.{plan, bits}
+use Rattle.groups.specs.Run.{Begins}
 use Rattle.freely.proofs.Free.{unbroken, going_on, stopping}
 use Rattle.freely.proofs.Sums.{Summing, sum_start, sum_begins, sum_next, sum_some, sum_end_lem, break_counted}
 use Rattle.freely.proofs.next_break.Goals as goal

@@ -3,7 +3,7 @@
 use Prim.Native.Nat.{◌-◌, ◌≤◌}
 use Rattle.plpb.specs.Equations.{clause_break}
 use Rattle.plpb.specs.Count.{capped_break}
-use Rattle.groups.specs.Run.{plan, bits}
+use Rattle.effects.specs.Run.{plan, bits}
 use Rattle.freely.proofs.Sums.{Summing}
 use Rattle.freely.proofs.next_break.Given as goal
 

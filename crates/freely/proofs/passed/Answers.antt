@@ -28,17 +28,12 @@ returns-then-not-has_several c =
     pick_second None (single_spoils (opened c.args.run.now g) one ∙ sym c.spoils_at.ensures ∙ c.if-spoils_at.false)
     (ap (λ j. Some j) (sym (single_group g (omega (arith, g.last, run_inside c.args.run.now.going)) one)))
 
-pub group_end-j-requires : goal.group_end-j-requires
-group_end-j-requires c = opening c.args.run.now c.requires
-
-pub clause_at-requires : goal.clause_at-requires
-clause_at-requires c = opening c.args.run.now c.requires
-
-pub group_breaks-requires : goal.group_breaks-requires
-group_breaks-requires c = rw (c.group_end-j.ensures, c.clause_at.ensures) c.requires
-
-pub returns-then-group_breaks : goal.returns-then-group_breaks
-returns-then-group_breaks c = pick_first None _ (rw c.clause_at.ensures at (sym c.group_breaks.ensures ∙ c.if-group_breaks.true))
+pub returns-then-breaks : goal.returns-then-breaks
+returns-then-breaks c =
+    let e = c.at-group.ensures in
+    pick_first None _ (rw (e.0, e.1) at (sym c.breaks.ensures ∙ c.if-breaks.true))
 
 pub returns : goal.returns
-returns c = pick_second None (rw c.clause_at.ensures at (sym c.group_breaks.ensures ∙ c.if-group_breaks.false)) (ap (λ j. Some j) c.group_end-j.ensures)
+returns c =
+    let e = c.at-group.ensures in
+    pick_second None (rw (e.0, e.1) at (sym c.breaks.ensures ∙ c.if-breaks.false)) (ap (λ j. Some j) e.3)

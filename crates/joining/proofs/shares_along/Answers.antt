@@ -1,4 +1,5 @@
--- The goals that the search leaves.
+-- `shares_along` meets its contract.
+-- Assumes nothing.
 use native.Mathlib.Omega.{arith}
 use mathlib.Core.Path.{refl}
 use Rattle.counting.specs.Shares.{start_shares}

@@ -5,11 +5,11 @@ use Prim.Native.Nat.{suc}
 use mathlib.Core.Path.{◌≡◌}
 use Rattle.counting.specs.Shares.{shares_in}
 use Rattle.order.specs.Order.{first_rule}
-use Rattle.format.specs.Tables.{plan_of_tables}
-use Rattle.effects.specs.Kept.{lent_bits}
+use Rattle.groups.specs.Group.{plan, bits}
 use Rattle.joining.proofs.Merging.{Joined}
 use Rattle.joining.proofs.shares_along.Given as goal
 
 abbrev pub invariant-loop-r : goal.invariant-loop-r
 invariant-loop-r l =
-    Joined (plan_of_tables l.run.tables.now l.run.terms.now) (lent_bits l.run.tables.now l.run.terms.now l.run.assignment.now) l.run.x l.c l.k l.j l.r l.i (shares_in l.shares) × (l.end ≡ first_rule (plan_of_tables l.run.tables.now l.run.terms.now).clauses (suc l.c))
+    let g = l.group in
+    Joined (plan g) (bits g) g.run.now.x g.clause g.first g.end l.r l.i (shares_in l.shares) × (l.end ≡ first_rule (plan g).clauses (suc g.clause))

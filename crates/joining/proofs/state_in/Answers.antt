@@ -1,13 +1,13 @@
 -- `state_in` meets its contract: the state at the rule's place, or seen from a variable that it does not name.
 -- Assumes nothing.
-use native.Mathlib.Omega.{arith}
 use mathlib.Core.Path.{sym, ◌∙◌}
 use Rattle.effects.proofs.Kept.{rule_countable, told_state}
+use Rattle.groups.proofs.Runs.{of_run}
 use Rattle.joining.proofs.Merging.{merging_below, named_low, named_here, standing_out}
 use Rattle.joining.proofs.state_in.Goals as goal
 
 pub state_at-requires : goal.state_at-requires
-state_at-requires c = (c.requires.low, omega (arith, c.requires.high, named_low c.requires (sym c.is_at.ensures ∙ c.if-is_at.true)))
+state_at-requires c = of_run c.args.group.now c.requires.low (named_low c.requires (sym c.is_at.ensures ∙ c.if-is_at.true))
 
 pub returns-then-is_at : goal.returns-then-is_at
 returns-then-is_at c =
@@ -16,10 +16,10 @@ returns-then-is_at c =
 
 pub returns : goal.returns
 returns c =
-    told_state c.args.run.now.going.kept (merging_below c.requires) (sym (standing_out _ c.args.run.now.x _ (sym c.is_at.ensures ∙ c.if-is_at.false))) c.told.ensures
+    told_state c.args.group.now.run.now.going.kept (merging_below c.requires) (sym (standing_out _ c.args.group.now.run.now.x _ (sym c.is_at.ensures ∙ c.if-is_at.false))) c.told.ensures
 
 pub is_at-requires : goal.is_at-requires
 is_at-requires c = c.requires
 
 pub told-requires : goal.told-requires
-told-requires c = (rule_countable c.args.run.now.going.kept (merging_below c.requires), c.args.run.now.going.kept.sized.room)
+told-requires c = (rule_countable c.args.group.now.run.now.going.kept (merging_below c.requires), c.args.group.now.run.now.going.kept.sized.room)

@@ -1,4 +1,5 @@
--- The goals that the search leaves.
+-- `least_of` meets its contract.
+-- Assumes nothing.
 use Prim.Native.Nat.{ℕ, suc, ◌+◌, ◌-◌, ◌≤◌, ◌<◌}
 use native.Mathlib.Omega.{arith}
 use mathlib.Core.Path.{◌≡◌, refl}
@@ -12,40 +13,41 @@ use Rattle.format.specs.Tables.{plan_of_tables}
 use Rattle.columns.specs.Layout.{list_at}
 use Rattle.columns.specs.Columns.{terms_ahead}
 use Rattle.effects.specs.Kept.{lent_bits}
+use Rattle.effects.specs.declared.footing.Footing.{Footing}
 use Rattle.picks.specs.Picks.{Picked, Pickable, Triable}
-use Rattle.picks.proofs.Noting.{with_fewer, list_few, list_here, list_triable}
+use Rattle.picks.proofs.Noting.{listed, with_fewer, list_few, list_here, list_triable}
 use Rattle.least.specs.declared.Best.{Best}
 use Rattle.least.specs.Best.{Offered}
 use Rattle.least.proofs.Leading.{Leading, leading_none, leading_next}
 use Rattle.least.proofs.least_of.Goals as goal
 
-module _ {tables terms assignment tallies s : List ℕ} {c : ℕ} (k : Pickable tables terms assignment tallies s c) {first end : ℕ} (e : first ≡ list_at (terms_ahead (plan_of_tables tables terms) c)) (f : end ≡ first + length (choosable (plan_of_tables tables terms) (get_or (plan_of_tables tables terms).clauses c []))) where
+module _ {q : Footing} {s : List ℕ} {c : ℕ} (k : Pickable q s c) {first end : ℕ} (e : first ≡ list_at (terms_ahead (plan_of_tables q.tables.now q.terms.now) c)) (f : end ≡ first + length (choosable (plan_of_tables q.tables.now q.terms.now) (get_or (plan_of_tables q.tables.now q.terms.now).clauses c []))) where
   abbrev xs : List ℕ
-  xs = choosable (plan_of_tables tables terms) (get_or (plan_of_tables tables terms).clauses c [])
+  xs = choosable (plan_of_tables q.tables.now q.terms.now) (get_or (plan_of_tables q.tables.now q.terms.now).clauses c [])
 
-  start : {b : Best} → b.least ≡ suc cap → b.count ≡ 0 → Leading (plan_of_tables tables terms) (lent_bits tables terms assignment) (take (first - first) xs) s s b
+  start : {b : Best} → b.least ≡ suc cap → b.count ≡ 0 → Leading (plan_of_tables q.tables.now q.terms.now) (lent_bits q.tables.now q.terms.now q.assignment.now) (take (first - first) xs) s s b
   start l z =
       let none : first - first ≡ 0 = omega arith in
-      rw none (leading_none (plan_of_tables tables terms) (lent_bits tables terms assignment) s l z)
+      rw none (leading_none (plan_of_tables q.tables.now q.terms.now) (lent_bits q.tables.now q.terms.now q.assignment.now) s l z)
 
-  module _ {t : List ℕ} {i : ℕ} {b : Best} (low : first ≤ i) (high : i < end) (d : Leading (plan_of_tables tables terms) (lent_bits tables terms assignment) (take (i - first) xs) s t b) where
+  module _ {t : List ℕ} {i : ℕ} {b : Best} (low : first ≤ i) (high : i < end) (d : Leading (plan_of_tables q.tables.now q.terms.now) (lent_bits q.tables.now q.terms.now q.assignment.now) (take (i - first) xs) s t b) where
     few : b.count ≤ i - first
-    few = omega (arith, d.picked.counted, with_fewer (plan_of_tables tables terms) (lent_bits tables terms assignment) b.least (take (i - first) xs), length-take (i - first) xs)
+    few = omega (arith, d.picked.counted, with_fewer (plan_of_tables q.tables.now q.terms.now) (lent_bits q.tables.now q.terms.now q.assignment.now) b.least (take (i - first) xs), length-take (i - first) xs)
 
-    ready : Triable tables terms assignment tallies t i b.count
+    ready : Triable q t i b.count
     ready = list_triable k d.picked.noted e f low high few
 
-    again : {u : List ℕ} {r : Best} → Offered (capped_break (plan_of_tables tables terms) (lent_bits tables terms assignment) (word_at t i)) (word_at t i) b t u r → Leading (plan_of_tables tables terms) (lent_bits tables terms assignment) (take (i + 1 - first) xs) s u r
+    again : {u : List ℕ} {r : Best} → Offered (capped_break (plan_of_tables q.tables.now q.terms.now) (lent_bits q.tables.now q.terms.now q.assignment.now) (word_at t i)) (word_at t i) b t u r → Leading (plan_of_tables q.tables.now q.terms.now) (lent_bits q.tables.now q.terms.now q.assignment.now) (take (i + 1 - first) xs) s u r
     again {u} {r} o =
         let j = i - first in
         let here = list_here k d.picked.noted e f low high in
         let next : i + 1 - first ≡ suc j = omega arith in
         let inside : j < length xs = omega (arith, f) in
-        rw next (leading_next (plan_of_tables tables terms) (lent_bits tables terms assignment) xs j inside d (omega (arith, few, inside, list_few k)) (rw here at o))
+        rw next (leading_next (plan_of_tables q.tables.now q.terms.now) (lent_bits q.tables.now q.terms.now q.assignment.now) xs j inside d (omega (arith, few, inside, list_few k)) (rw here at o))
 
-  whole : {t : List ℕ} {i : ℕ} {b : Best} → end ≤ i → Leading (plan_of_tables tables terms) (lent_bits tables terms assignment) (take (i - first) xs) s t b → Picked (with_break (plan_of_tables tables terms) (lent_bits tables terms assignment) (least_break (plan_of_tables tables terms) (lent_bits tables terms assignment) xs) xs) s t b.count
+  whole : {t : List ℕ} {i : ℕ} {b : Best} → end ≤ i → Leading (plan_of_tables q.tables.now q.terms.now) (lent_bits q.tables.now q.terms.now q.assignment.now) (take (i - first) xs) s t b → Picked (with_break (plan_of_tables q.tables.now q.terms.now) (lent_bits q.tables.now q.terms.now q.assignment.now) (least_break (plan_of_tables q.tables.now q.terms.now) (lent_bits q.tables.now q.terms.now q.assignment.now) xs) xs) s t b.count
   whole {t} {i} {b} h d =
-      let all : Leading (plan_of_tables tables terms) (lent_bits tables terms assignment) xs s t b = rw (take_all (i - first) xs (omega (arith, f))) at d in
+      let all : Leading (plan_of_tables q.tables.now q.terms.now) (lent_bits q.tables.now q.terms.now q.assignment.now) xs s t b = rw (take_all (i - first) xs (omega (arith, f))) at d in
       rw (← all.least) all.picked
 
 -- No count is found yet: the start is above all.
@@ -54,25 +56,25 @@ unfolding cap
 above_all = refl
 
 pub list_of-list-requires : goal.list_of-list-requires
-list_of-list-requires c = (c.requires.kept.ready.laid, c.requires.there, c.requires.listed)
+list_of-list-requires c = let e = c.plan.ensures in rw (e.0, e.1) (c.requires.there, c.requires.listed)
 
 pub loop-i-init : goal.loop-i-init
-loop-i-init c = let l = c.list_of-list.ensures in (omega arith, omega (arith, l.1), start c.requires l.0 l.1 above_all refl)
+loop-i-init c = let l = listed c.args.footing.now c.args.c c.plan.ensures c.list_of-list.ensures in (omega arith, omega (arith, l.1), start c.requires l.0 l.1 above_all refl)
 
 pub offer-best-requires : goal.offer-best-requires
 offer-best-requires c =
     let i = c.loop-i.invariant in
-    let l = c.list_of-list.ensures in
+    let l = listed c.args.footing.now c.args.c c.plan.ensures c.list_of-list.ensures in
     ready c.requires l.0 l.1 i.0 c.loop-i-test.true i.2
 
 pub loop-i-preserved : goal.loop-i-preserved
 loop-i-preserved c =
     let i = c.loop-i.invariant in
-    let l = c.list_of-list.ensures in
+    let l = listed c.args.footing.now c.args.c c.plan.ensures c.list_of-list.ensures in
     (omega (arith, i.0), omega (arith, c.loop-i-test.true), again c.requires l.0 l.1 i.0 c.loop-i-test.true i.2 c.offer-best.ensures)
 
 pub shape_of-marks : goal.shape_of-marks
 shape_of-marks c = c.loop-i.invariant.2.picked.noted.size
 
 pub returns : goal.returns
-returns c = let l = c.list_of-list.ensures in whole c.requires l.0 l.1 c.loop-i-test.false c.loop-i.invariant.2
+returns c = let l = listed c.args.footing.now c.args.c c.plan.ensures c.list_of-list.ensures in whole c.requires l.0 l.1 c.loop-i-test.false c.loop-i.invariant.2

@@ -6,9 +6,10 @@ use mathlib.Core.Path.{◌≡◌, refl, ap, ◌∙◌}
 use mathlib.Core.List.{List}
 use Rattle.words.specs.Words.{word_at}
 use Rattle.words.proofs.Writes.{word_wrote}
-use Rattle.format.specs.Tables.{plan_of_tables}
-use Rattle.effects.specs.Kept.{lent_bits}
+use Rattle.effects.specs.declared.footing.Footing.{Footing}
+use Rattle.effects.specs.Footing.{plan_on, bits_on}
 use Rattle.effects.proofs.Runs.{going_few}
+use Rattle.effects.proofs.Visits.{going_on}
 use Rattle.picks.specs.Picks.{Triable}
 use Rattle.least.specs.declared.Best.{Best}
 use Rattle.least.specs.Best.{place_for}
@@ -16,8 +17,8 @@ use Rattle.least.proofs.Leading.{offered_above, offered_in, offered_same, place_
 use Rattle.least.proofs.offer.Goals as goal
 
 -- The variable is one of the plan's,
-few : {tables terms assignment tallies marks : List ℕ} {i count x : ℕ} → Triable tables terms assignment tallies marks i count → x ≡ word_at marks i → x ≤ 512
-few y e = omega (arith, e, going_few y.going)
+few : {q : Footing} {marks : List ℕ} {i count x : ℕ} → Triable q marks i count → x ≡ word_at marks i → x ≤ 512
+few y e = omega (arith, e, going_few (going_on _ y.run))
 
 -- and its place one of the picks.
 low : (n : ℕ) {at : ℕ} (b : Best) → at ≡ place_for n b → b.count < 512 → at < 512
@@ -25,33 +26,33 @@ low n b e h = omega (arith, e, place_few n b, h)
 
 pub returns-then-best-n : goal.returns-then-best-n
 returns-then-best-n c =
-    let p = plan_of_tables c.args.tables.now c.args.terms.now in
-    let a = lent_bits c.args.tables.now c.args.terms.now c.args.assignment.now in
+    let p = plan_on c.args.footing.now in
+    let a = bits_on c.args.footing.now in
     let e = c.of-run.ensures in
-    let d = rw (e.0, e.1, e.2, e.5) at c.break_of-n.ensures in
+    let d = rw (e.0, e.2) at c.break_of-n.ensures in
     offered_same p a c.index-x.ensures
     (offered_above _ _ c.args.best _ (d.above c.if-best-n.true))
 
 pub shape_of-marks : goal.shape_of-marks
 shape_of-marks c =
-    (word_wrote (1_152 + c.place_for-at.result) c.narrow.result c.args.marks.now _ (omega (arith, low _ c.args.best c.place_for-at.ensures c.requires.few, c.requires.going.kept.weighed.room)) (omega (arith, c.narrow.ensures, few c.requires c.index-x.ensures)) c.write_word.ensures).size
+    (word_wrote (1_152 + c.place_for-at.result) c.narrow.result c.args.marks.now _ (omega (arith, low _ c.args.best c.place_for-at.ensures c.requires.few, c.requires.run.weighed.room)) (omega (arith, c.narrow.ensures, few c.requires c.index-x.ensures)) c.write_word.ensures).size
 
 pub returns : goal.returns
 returns c =
-    let p = plan_of_tables c.args.tables.now c.args.terms.now in
-    let a = lent_bits c.args.tables.now c.args.terms.now c.args.assignment.now in
+    let p = plan_on c.args.footing.now in
+    let a = bits_on c.args.footing.now in
     let e = c.of-run.ensures in
-    let d = rw (e.0, e.1, e.2, e.5) at c.break_of-n.ensures in
+    let d = rw (e.0, e.2) at c.break_of-n.ensures in
     let exact = d.exact c.if-best-n.false in
-    let wrote = word_wrote (1_152 + c.place_for-at.result) c.narrow.result c.args.marks.now _ (omega (arith, low _ c.args.best c.place_for-at.ensures c.requires.few, c.requires.going.kept.weighed.room)) (omega (arith, c.narrow.ensures, few c.requires c.index-x.ensures)) c.write_word.ensures in
+    let wrote = word_wrote (1_152 + c.place_for-at.result) c.narrow.result c.args.marks.now _ (omega (arith, low _ c.args.best c.place_for-at.ensures c.requires.few, c.requires.run.weighed.room)) (omega (arith, c.narrow.ensures, few c.requires c.index-x.ensures)) c.write_word.ensures in
     offered_same p a c.index-x.ensures
-    (offered_in (omega (arith, exact, c.if-best-n.false)) (c.place_for-at.ensures ∙ ap (λ n. place_for n c.args.best) exact) c.requires.few c.requires.going.kept.weighed.room wrote c.narrow.ensures exact refl)
+    (offered_in (omega (arith, exact, c.if-best-n.false)) (c.place_for-at.ensures ∙ ap (λ n. place_for n c.args.best) exact) c.requires.few c.requires.run.weighed.room wrote c.narrow.ensures exact refl)
 
 pub index-x-requires : goal.index-x-requires
 index-x-requires c = c.requires.inside
 
 pub of-run-requires : goal.of-run-requires
-of-run-requires c = rw c.index-x.ensures c.requires.going
+of-run-requires c = rw c.index-x.ensures c.requires.run
 
 pub shape_of-marks-then-best-n : goal.shape_of-marks-then-best-n
 shape_of-marks-then-best-n c = refl
@@ -63,7 +64,7 @@ pub narrow-requires : goal.narrow-requires
 narrow-requires c = omega (arith, few c.requires c.index-x.ensures)
 
 pub write_word-requires : goal.write_word-requires
-write_word-requires c = omega (arith, low _ c.args.best c.place_for-at.ensures c.requires.few, c.requires.going.kept.weighed.room)
+write_word-requires c = omega (arith, low _ c.args.best c.place_for-at.ensures c.requires.few, c.requires.run.weighed.room)
 
 pub overflow_add-result : goal.overflow_add-result
 overflow_add-result c = omega (arith, low _ c.args.best c.place_for-at.ensures c.requires.few)

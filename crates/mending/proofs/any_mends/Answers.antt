@@ -1,25 +1,19 @@
--- The goals that the search leaves.
-use native.Mathlib.Omega.{arith}
-use mathlib.Core.Path.{refl, sym, ◌∙◌}
-use Rattle.effects.specs.Kept.{lent_bits}
+-- `any_mends` meets its contract: what is asked of each place is asked of its rule.
+-- Assumes nothing.
+use mathlib.Core.Path.{refl, ◌∙◌}
+use borrow.Author.Rules.{rules}
+use borrow.Author.Tests.{tests}
+use Rattle.std.proofs.lemmas.Iterator.{YieldsList-from_range}
+use Rattle.std.proofs.lemmas.Iterator.Search.{any_from_yields_List}
+use Rattle.effects.specs.Run.{rule}
+use Rattle.groups.specs.Group.{bits}
+use Rattle.groups.proofs.Stretch.{any_along}
+use Rattle.groups.proofs.Runs.{group_stretch}
 use Rattle.mending.specs.Mends.{mends_part}
-use Rattle.groups.proofs.Stretch.{stretch_visited, any_here, any_behind, any_end}
 use Rattle.mending.proofs.any_mends.Goals as goal
-
-pub returns-then-mends_at : goal.returns-then-mends_at
-returns-then-mends_at c =
-    sym (any_here c.requires c.loop-i-test.true (mends_part (lent_bits c.args.tables.now c.args.terms.now c.args.assignment.now) c.args.x) c.mends_at.ensures c.if-mends_at.true) ∙ c.loop-i.invariant.1
-
-pub loop-i-preserved : goal.loop-i-preserved
-loop-i-preserved c =
-    (omega (arith, c.loop-i.invariant.0), any_behind c.requires c.loop-i-test.true (mends_part (lent_bits c.args.tables.now c.args.terms.now c.args.assignment.now) c.args.x) c.mends_at.ensures c.if-mends_at.false ∙ c.loop-i.invariant.1)
 
 pub returns : goal.returns
 returns c =
-    sym (any_end c.requires c.loop-i-test.false (mends_part (lent_bits c.args.tables.now c.args.terms.now c.args.assignment.now) c.args.x)) ∙ c.loop-i.invariant.1
-
-pub loop-i-init : goal.loop-i-init
-loop-i-init c = (omega arith, refl)
-
-pub mends_at-requires : goal.mends_at-requires
-mends_at-requires c = stretch_visited c.requires c.loop-i.invariant.0 c.loop-i-test.true
+    let g = c.args.group.now in
+    let f = mends_part (bits g) g.run.now.x in
+    any_from_yields_List (λ i. f (rule g.run.now i)) _ _ c.any.result c.any.ensures.ran (YieldsList-from_range g.first g.end _ refl refl) (λ i b q e. search (rules, tests)) ∙ any_along (group_stretch g.run.now g.whole) f

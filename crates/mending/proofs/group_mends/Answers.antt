@@ -4,22 +4,21 @@ use native.Mathlib.Omega.{arith}
 use mathlib.Core.Path.{sym, ◌∙◌}
 use Rattle.recount.proofs.Laid.{parts}
 use Rattle.groups.proofs.Stretch.{holding_word}
+use Rattle.groups.proofs.Runs.{group_stretch}
 use Rattle.mending.proofs.Mending.{clause_held, group_none}
 use Rattle.mending.proofs.group_mends.Goals as goal
 
-pub overflow_add-c : goal.overflow_add-c
-overflow_add-c c = omega (arith, c.requires.1.clause_there, (parts _ _ c.requires.0.going.kept.ready.laid).clause_count)
+pub overflow_add-group : goal.overflow_add-group
+overflow_add-group c = let g = c.args.group.now in omega (arith, g.whole.clause_there, (parts _ _ g.run.now.going.kept.ready.laid).clause_count)
 
 pub word-requires : goal.word-requires
-word-requires c = omega (arith, c.requires.1.clause_there, (parts _ _ c.requires.0.going.kept.ready.laid).clause_count, c.requires.0.going.kept.sized.room)
+word-requires c = let g = c.args.group.now in omega (arith, g.whole.clause_there, (parts _ _ g.run.now.going.kept.ready.laid).clause_count, g.run.now.footing.sized.room)
 
 pub returns-then-word-ne0 : goal.returns-then-word-ne0
 returns-then-word-ne0 c = λ e.
-    let n = holding_word c.requires.0 c.requires.1 c.word.ensures in
-    clause_held c.requires.0 c.requires.1 (omega (arith, n, c.if-word-ne0.true))
+    let g = c.args.group.now in
+    let s = group_stretch g.run.now g.whole in
+    clause_held s g.whole (omega (arith, holding_word s g.whole c.word.ensures, c.if-word-ne0.true))
 
 pub returns : goal.returns
-returns c = λ e. group_none c.requires.0 c.requires.1 (sym c.any_mends.ensures ∙ e)
-
-pub any_mends-requires : goal.any_mends-requires
-any_mends-requires c = c.requires.0
+returns c = λ e. let g = c.args.group.now in group_none (group_stretch g.run.now g.whole) g.whole (sym c.any_mends.ensures ∙ e)

@@ -9,42 +9,43 @@ use borrow.Author.Tests.{not-true, not-false}
 use Rattle.plpb.specs.Count.{capped_break}
 use Rattle.words.specs.Words.{word_at}
 use Rattle.words.proofs.Writes.{word_wrote}
-use Rattle.format.specs.Tables.{plan_of_tables}
-use Rattle.effects.specs.Kept.{lent_bits}
+use Rattle.effects.specs.declared.footing.Footing.{Footing}
+use Rattle.effects.specs.Footing.{plan_on, bits_on}
 use Rattle.effects.proofs.Runs.{going_few}
+use Rattle.effects.proofs.Visits.{going_on}
 use Rattle.picks.specs.Picks.{Triable}
 use Rattle.picks.proofs.Noting.{tried_not, tried_so}
 use Rattle.picks.proofs.free_one.Goals as goal
 
 -- The variable is one of the plan's.
-few : {tables terms assignment tallies marks : List ℕ} {i count x : ℕ} → Triable tables terms assignment tallies marks i count → x ≡ word_at marks i → (1 ≤ x) × (x ≤ 512)
-few y e = (omega (arith, e, y.going.low), omega (arith, e, going_few y.going))
+few : {q : Footing} {marks : List ℕ} {i count x : ℕ} → Triable q marks i count → x ≡ word_at marks i → (1 ≤ x) × (x ≤ 512)
+few y e = (omega (arith, e, y.run.low), omega (arith, e, going_few (going_on _ y.run)))
 
 pub returns-then-not-is_free : goal.returns-then-not-is_free
 returns-then-not-is_free c =
     let x = few c.requires c.index-x.ensures in
-    let same = ap (λ x. eqb (capped_break (plan_of_tables c.args.tables.now c.args.terms.now) (lent_bits c.args.tables.now c.args.terms.now c.args.assignment.now) x) 0) c.index-x.ensures in
-    tried_not c.is_free.ensures.1 x.0 x.1 c.requires.going.kept.weighed.room _ (sym same ∙ sym c.is_free.ensures.0 ∙ not-true _ c.if-not-is_free.true-raw)
+    let same = ap (λ x. eqb (capped_break (plan_on c.args.footing.now) (bits_on c.args.footing.now) x) 0) c.index-x.ensures in
+    tried_not c.is_free.ensures.1 x.0 x.1 c.requires.run.weighed.room _ (sym same ∙ sym c.is_free.ensures.0 ∙ not-true _ c.if-not-is_free.true-raw)
 
 pub returns : goal.returns
 returns c =
     let x = few c.requires c.index-x.ensures in
     let hint = c.is_free.ensures.1 in
-    let same = ap (λ x. eqb (capped_break (plan_of_tables c.args.tables.now c.args.terms.now) (lent_bits c.args.tables.now c.args.terms.now c.args.assignment.now) x) 0) c.index-x.ensures in
-    tried_so hint x.0 x.1 c.requires.going.kept.weighed.room c.args.count (sym same ∙ sym c.is_free.ensures.0 ∙ not-false _ c.if-not-is_free.false-raw)
-    (word_wrote (1_152 + c.args.count) c.narrow.result _ _ (omega (arith, c.requires.few, hint.size, c.requires.going.kept.weighed.room)) (omega (arith, c.narrow.ensures, x.1)) c.write_word.ensures)
+    let same = ap (λ x. eqb (capped_break (plan_on c.args.footing.now) (bits_on c.args.footing.now) x) 0) c.index-x.ensures in
+    tried_so hint x.0 x.1 c.requires.run.weighed.room c.args.count (sym same ∙ sym c.is_free.ensures.0 ∙ not-false _ c.if-not-is_free.false-raw)
+    (word_wrote (1_152 + c.args.count) c.narrow.result _ _ (omega (arith, c.requires.few, hint.size, c.requires.run.weighed.room)) (omega (arith, c.narrow.ensures, x.1)) c.write_word.ensures)
     c.requires.few (c.narrow.ensures ∙ c.index-x.ensures)
 
 pub shape_of-marks : goal.shape_of-marks
 shape_of-marks c =
     let hint = c.is_free.ensures.1 in
-    (word_wrote (1_152 + c.args.count) c.narrow.result _ _ (omega (arith, c.requires.few, hint.size, c.requires.going.kept.weighed.room)) (omega (arith, c.narrow.ensures, (few c.requires c.index-x.ensures).1)) c.write_word.ensures).size ∙ hint.size
+    (word_wrote (1_152 + c.args.count) c.narrow.result _ _ (omega (arith, c.requires.few, hint.size, c.requires.run.weighed.room)) (omega (arith, c.narrow.ensures, (few c.requires c.index-x.ensures).1)) c.write_word.ensures).size ∙ hint.size
 
 pub index-x-requires : goal.index-x-requires
 index-x-requires c = c.requires.inside
 
 pub is_free-requires : goal.is_free-requires
-is_free-requires c = rw c.index-x.ensures c.requires.going
+is_free-requires c = rw c.index-x.ensures c.requires.run
 
 pub shape_of-marks-then-not-is_free : goal.shape_of-marks-then-not-is_free
 shape_of-marks-then-not-is_free c = c.is_free.ensures.1.size
@@ -56,7 +57,7 @@ pub narrow-requires : goal.narrow-requires
 narrow-requires c = omega (arith, (few c.requires c.index-x.ensures).1)
 
 pub write_word-requires : goal.write_word-requires
-write_word-requires c = omega (arith, c.requires.few, c.is_free.ensures.1.size, c.requires.going.kept.weighed.room)
+write_word-requires c = omega (arith, c.requires.few, c.is_free.ensures.1.size, c.requires.run.weighed.room)
 
 pub overflow_add-result : goal.overflow_add-result
 overflow_add-result c = omega (arith, c.requires.few)

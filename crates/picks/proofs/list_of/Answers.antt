@@ -8,19 +8,19 @@ use Rattle.picks.proofs.Noting.{clause_low, list_inside}
 use Rattle.picks.proofs.list_of.Goals as goal
 
 pub terms_ahead-start-requires : goal.terms_ahead-start-requires
-terms_ahead-start-requires c = (c.requires.0, c.requires.1)
+terms_ahead-start-requires c = c.requires.0
 
 pub overflow_add-start : goal.overflow_add-start
-overflow_add-start c = omega (arith, c.terms_ahead-start.ensures, list_inside c.requires.0 c.requires.1)
+overflow_add-start c = omega (arith, c.terms_ahead-start.ensures, list_inside c.args.t.now.laid c.requires.0)
 
 pub overflow_add-c : goal.overflow_add-c
-overflow_add-c c = omega (arith, clause_low c.requires.0 c.requires.1)
+overflow_add-c c = omega (arith, clause_low c.args.t.now.laid c.requires.0)
 
 pub index-requires : goal.index-requires
-index-requires c = omega (arith, clause_low c.requires.0 c.requires.1, c.requires.2.room)
+index-requires c = omega (arith, clause_low c.args.t.now.laid c.requires.0, c.requires.1.room)
 
 pub overflow_add-result : goal.overflow_add-result
-overflow_add-result c = omega (arith, c.terms_ahead-start.ensures, c.index.ensures ∙ (c.requires.2.each _ c.requires.1).counted, list_inside c.requires.0 c.requires.1)
+overflow_add-result c = omega (arith, c.terms_ahead-start.ensures, c.index.ensures ∙ (c.requires.1.each _ c.requires.0).counted, list_inside c.args.t.now.laid c.requires.0)
 
 pub returns : goal.returns
-returns c = (ap list_at c.terms_ahead-start.ensures, ap (λ n. list_at c.terms_ahead-start.result + n) (c.index.ensures ∙ (c.requires.2.each _ c.requires.1).counted))
+returns c = (ap list_at c.terms_ahead-start.ensures, ap (λ n. list_at c.terms_ahead-start.result + n) (c.index.ensures ∙ (c.requires.1.each _ c.requires.0).counted))

@@ -9,4 +9,4 @@ use Rattle.ranking.proofs.raised.Goals as goal
 
 pub returns : goal.returns
 unfolding count_words cap
-returns c = ap₂ (λ i j. i + (cap - j)) (first_word c.marked-m.ensures) (first_word c.marked-b.ensures)
+returns c = ap₂ (λ i j. i + (cap - j)) (first_word c.from-m.ensures) (first_word c.from-b.ensures)

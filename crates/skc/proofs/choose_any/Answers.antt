@@ -1,24 +1,22 @@
 -- `choose_any` meets its contract: the pick is among the words of the clause's list.
 -- Assumes nothing.
 use native.Mathlib.Omega.{arith}
-use Rattle.picks.proofs.Noting.{clause_low, list_ends}
+use Rattle.picks.proofs.Noting.{listed}
 use Rattle.skc.proofs.Choosing.{list_pickable, list_chosen}
 use Rattle.skc.proofs.choose_any.Goals as goal
 
-pub terms_ahead-at-requires : goal.terms_ahead-at-requires
-terms_ahead-at-requires c = let k = c.requires in (k.pickable.kept.ready.laid, k.pickable.there)
+pub list_of-list-requires : goal.list_of-list-requires
+list_of-list-requires c = let e = c.plan.ensures in let k = c.requires.pickable in rw (e.0, e.1) (k.there, k.listed)
 
-pub overflow_add-at : goal.overflow_add-at
-overflow_add-at c = omega (arith, c.terms_ahead-at.ensures, list_ends c.requires.pickable)
-
-pub overflow_add-c : goal.overflow_add-c
-overflow_add-c c = let k = c.requires in omega (arith, clause_low k.pickable.kept.ready.laid k.pickable.there)
-
-pub index-requires : goal.index-requires
-index-requires c = let k = c.requires in omega (arith, clause_low k.pickable.kept.ready.laid k.pickable.there, k.pickable.listed.room)
+pub overflow_sub-list : goal.overflow_sub-list
+overflow_sub-list c = omega (arith, c.list_of-list.ensures.1)
 
 pub pick_listed-requires : goal.pick_listed-requires
-pick_listed-requires c = list_pickable c.requires c.terms_ahead-at.ensures c.index.ensures
+pick_listed-requires c =
+    let l = listed c.args.footing.now c.args.c c.plan.ensures c.list_of-list.ensures in
+    list_pickable c.requires l.0 (omega (arith, l.1))
 
 pub returns : goal.returns
-returns c = list_chosen c.requires c.terms_ahead-at.ensures c.index.ensures c.pick_listed.ensures
+returns c =
+    let l = listed c.args.footing.now c.args.c c.plan.ensures c.list_of-list.ensures in
+    list_chosen c.requires l.0 (omega (arith, l.1)) c.pick_listed.ensures

@@ -10,8 +10,8 @@ use Rattle.counting.specs.Count.{number}
 use Rattle.counting.specs.declared.count.Count.{Count}
 use Rattle.order.specs.Order.{run_end}
 use Rattle.order.proofs.Groups.{no_break}
-use Rattle.groups.specs.declared.run.Run.{Run}
-use Rattle.groups.specs.Run.{plan, bits}
+use Rattle.effects.specs.declared.run.Run.{Run}
+use Rattle.effects.specs.Run.{plan, bits}
 use Rattle.freely.proofs.Sums.{Summing, sum_start, sum_next, sum_end_lem, break_counted}
 use Rattle.spoiling.specs.declared.Step.{Step}
 use Rattle.spoiling.specs.Along.{Starts, Stepped}
@@ -55,7 +55,7 @@ returns-then-limit-rank c =
     let r = c.args.run.now in
     let s = c.loop-k.invariant.0 in
     let h = c.loop-k-test.true in
-    given_up r.going (no_break _ r.x) (goes r s h c.count_at-t.ensures c.plus-sum.ensures) (stays r s h c.count_at-t.ensures c.plus-sum.ensures)
+    given_up r.going (no_break _ r.x) (goes r s h c.count_at-t.ensures c.add-sum.ensures) (stays r s h c.count_at-t.ensures c.add-sum.ensures)
     c.rank-then-limit-rank.ensures.0 (omega (arith, c.rank-then-limit-rank.ensures.0, c.rank-in-loop-k.ensures.0, c.if-limit-rank.true))
 
 pub returns-then-sum : goal.returns-then-sum
@@ -63,12 +63,12 @@ returns-then-sum c =
     let r = c.args.run.now in
     let s = c.loop-k.invariant.0 in
     let h = c.loop-k-test.true in
-    given_cut r.going (no_break _ r.x) (goes r s h c.count_at-t.ensures c.plus-sum.ensures) (stays r s h c.count_at-t.ensures c.plus-sum.ensures)
-    c.rank-then-sum.ensures.0 (cut_large c.plus-sum.result c.if-sum.true) (omega (arith, c.rank-then-sum.ensures.0, c.rank-in-loop-k.ensures.0, c.if-limit-rank.false))
+    given_cut r.going (no_break _ r.x) (goes r s h c.count_at-t.ensures c.add-sum.ensures) (stays r s h c.count_at-t.ensures c.add-sum.ensures)
+    c.rank-then-sum.ensures.0 (cut_large c.add-sum.result c.if-sum.true) (omega (arith, c.rank-then-sum.ensures.0, c.rank-in-loop-k.ensures.0, c.if-limit-rank.false))
 
 pub loop-k-smaller : goal.loop-k-smaller
 loop-k-smaller c =
-    let f = further c.args.run.now c.loop-k.invariant.0 c.loop-k-test.true c.count_at-t.ensures c.plus-sum.ensures in
+    let f = further c.args.run.now c.loop-k.invariant.0 c.loop-k-test.true c.count_at-t.ensures c.add-sum.ensures in
     omega (arith, f.0, f.1)
 
 pub loop-k-preserved : goal.loop-k-preserved
@@ -76,7 +76,7 @@ loop-k-preserved c =
     let r = c.args.run.now in
     let s = c.loop-k.invariant.0 in
     let h = c.loop-k-test.true in
-    (goes r s h c.count_at-t.ensures c.plus-sum.ensures, stays r s h c.count_at-t.ensures c.plus-sum.ensures)
+    (goes r s h c.count_at-t.ensures c.add-sum.ensures, stays r s h c.count_at-t.ensures c.add-sum.ensures)
 
 pub returns : goal.returns
 returns c =

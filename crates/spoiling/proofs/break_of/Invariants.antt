@@ -6,7 +6,7 @@ use mathlib.Core.Path.{◌≡◌}
 use Rattle.plpb.specs.Equations.{clause_break}
 use Rattle.plpb.specs.Count.{capped, capped_break}
 use Rattle.counting.specs.Count.{number}
-use Rattle.groups.specs.Run.{plan, bits}
+use Rattle.effects.specs.Run.{plan, bits}
 use Rattle.freely.proofs.Sums.{Summing}
 use Rattle.spoiling.proofs.break_of.Given as goal
 

@@ -41,20 +41,15 @@ returns-then-not-has_several c =
       ends = sym (single_group g (omega (arith, g.last, run_inside c.args.run.now.going)) one);
     }
 
-pub clause_at-c-requires : goal.clause_at-c-requires
-clause_at-c-requires c = opening c.args.run.now c.requires.begins
-
-pub group_end-j-requires : goal.group_end-j-requires
-group_end-j-requires c = opening c.args.run.now c.requires.begins
-
-pub group_breaks-requires : goal.group_breaks-requires
-group_breaks-requires c = rw (c.group_end-j.ensures, c.clause_at-c.ensures) c.requires.begins
-
-pub returns-then-not-group_breaks : goal.returns-then-not-group_breaks
-returns-then-not-group_breaks c = record { counted = unbroken _ (rw c.clause_at-c.ensures at (sym c.group_breaks.ensures ∙ c.if-not-group_breaks.true)); ends = c.group_end-j.ensures }
+pub returns-then-not-breaks : goal.returns-then-not-breaks
+returns-then-not-breaks c =
+    let e = c.at-group.ensures in
+    record { counted = unbroken _ (rw (e.0, e.1) at (sym c.breaks.ensures ∙ c.if-not-breaks.true)); ends = e.3 }
 
 pub shares_along-requires : goal.shares_along-requires
-shares_along-requires c = rw (c.group_end-j.ensures, c.clause_at-c.ensures) (record { group = c.requires.begins; places = c.requires.places })
+shares_along-requires c = let e = c.at-group.ensures in record { places = rw (e.0, e.1, e.2, e.3) c.requires.places }
 
 pub returns : goal.returns
-returns c = record { counted = shares_break _ _ _ _ (rw c.clause_at-c.ensures at c.shares_along.ensures); ends = c.group_end-j.ensures }
+returns c =
+    let e = c.at-group.ensures in
+    record { counted = shares_break _ _ _ _ (rw (e.0, e.1) at c.shares_along.ensures); ends = e.3 }

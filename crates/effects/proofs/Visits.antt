@@ -1,0 +1,31 @@
+-- A run as the columns see it.
+-- Assumes nothing.
+use Prim.Native.Nat.{ℕ}
+use native.Mathlib.Omega.{arith}
+use mathlib.Core.Path.{◌≡◌, ap, ◌∙◌}
+use mathlib.Core.List.{List}
+use Rattle.words.specs.Words.{word_at}
+use Rattle.order.specs.Order.{word_place}
+use Rattle.format.specs.Layout.{entry_at}
+use Rattle.columns.specs.Columns.{Weighed}
+use Rattle.effects.specs.declared.footing.Footing.{Footing}
+use Rattle.effects.specs.declared.run.Run.{Run}
+use Rattle.effects.specs.Footing.{plan_on, HasRun}
+use Rattle.effects.specs.Kept.{Walkable, Going, place_at, Visited}
+use Rattle.effects.specs.Run.{Inside}
+use Rattle.effects.proofs.Places.{place_here}
+
+-- With the weights, what the walk stands on can be walked on,
+pub walkable : (q : Footing) {marks : List ℕ} → Weighed (plan_on q) marks → Walkable q.tables.now q.terms.now q.assignment.now q.tallies.now marks
+walkable q w = record { ready = q.ready; bits = q.bits; fresh = q.fresh; sized = q.sized; needed = q.needed; weighed = w }
+
+pub going_on : (q : Footing) {marks : List ℕ} {x : ℕ} → HasRun q marks x → Going q.tables.now q.terms.now q.assignment.now q.tallies.now marks x
+going_on q h = record { kept = walkable q h.weighed; low = h.low; high = h.high }
+
+-- and a place of a run is visited.
+pub visited : (r : Run) {k : ℕ} → Inside r k → Visited r.footing.tables.now r.footing.terms.now r.footing.assignment.now r.footing.tallies.now r.marks.now r.x k
+visited r i = record { going = r.going; first = omega (arith, i.0, r.begins); last = omega (arith, i.1, r.ends) }
+
+-- The clause that a place's word tells.
+pub clause_here : {tables terms assignment tallies marks : List ℕ} {x k w c : ℕ} → Visited tables terms assignment tallies marks x k → w ≡ word_at tables (entry_at k) → c ≡ (word_place w).clause → c ≡ (place_at tables terms k).clause
+clause_here v e f = f ∙ ap (λ u. (word_place u).clause) e ∙ ap (λ q. q.clause) (place_here v)

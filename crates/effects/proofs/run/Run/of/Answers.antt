@@ -1,0 +1,18 @@
+-- `of` meets its contract: the table tells where the run begins and ends.
+-- Assumes nothing.
+use native.Mathlib.Omega.{arith}
+use mathlib.Core.Path.{◌∙◌}
+use Rattle.effects.proofs.Runs.{going_tables, going_few, run_first, run_last}
+use Rattle.effects.proofs.Visits.{going_on}
+use Rattle.effects.proofs.run.Run.of.Goals as goal
+
+pub index-requires : goal.index-requires
+index-requires c = let g = going_on c.args.footing.now c.requires in omega (arith, going_few g, going_tables g)
+
+pub index-requires-2 : goal.index-requires-2
+index-requires-2 c = let g = going_on c.args.footing.now c.requires in omega (arith, going_few g, going_tables g)
+
+pub invariant_of-result : goal.invariant_of-result
+invariant_of-result c =
+    let g = going_on c.args.footing.now c.requires in
+    record { going = g; begins = c.index.ensures ∙ run_first g; ends = c.index-2.ensures ∙ run_last g }

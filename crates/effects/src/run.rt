@@ -1,0 +1,42 @@
+// A variable's run in what the walk stands on, lent to be read.
+ghost use Rattle.std.specs.Prelude.{◌≡◌, ◌-◌};
+ghost use Rattle.std.proofs.Props.{props};
+ghost use Rattle.order.specs.Order.{run_end};
+ghost use Rattle.format.specs.Tables.{plan_of_tables};
+ghost use Rattle.recount.specs.Core.{holds_prop};
+ghost use Rattle.effects.specs.Kept.{Going};
+ghost use Rattle.effects.specs.Footing.{HasRun};
+
+use crate::footing::Footing;
+use format::ENDS;
+use words::index;
+
+// The run of a variable: the places of the order from the first on, below the end. The marks have the weights of its terms.
+#[derive(Clone, Copy)]
+pub struct Run<'a, 'b> {
+    pub footing: Footing<'a>,
+    pub marks: &'b [u8],
+    pub x: usize,
+    pub first: usize,
+    pub end: usize,
+    pub ghost going: { Going footing.tables.now footing.terms.now footing.assignment.now footing.tallies.now
+        marks.now x } by { Prim.hlevel (props, holds_prop) },
+    pub ghost begins: { first ≡ run_end (plan_of_tables footing.tables.now footing.terms.now) (x - 1) },
+    pub ghost ends: { end ≡ run_end (plan_of_tables footing.tables.now footing.terms.now) x },
+}
+
+impl<'a, 'b> Run<'a, 'b> {
+    // The run of x.
+    pub fn of(footing: &Footing<'a>, marks: &'b [u8], x: usize) -> Run<'a, 'b>
+        requires { HasRun footing.now marks.now x }
+        ensures { (result.footing ≡ footing.now) × (result.marks.now ≡ marks.now) × (result.x ≡ x) }
+    {
+        Run {
+            footing: *footing,
+            marks,
+            x,
+            first: index(footing.tables, ENDS + (x - 1)),
+            end: index(footing.tables, ENDS + x),
+        }
+    }
+}
