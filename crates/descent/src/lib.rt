@@ -1,4 +1,6 @@
 // Calls with the added last clause O ≤ m, each find below the one before it.
+// The buffers to write come one by one: one is read while another is written, which a struct of them would not let be proved.
+// The numbers and the settings stay two: a struct of them would be made at the top only to be taken apart at the bottom.
 #![tactic(auto)]
 
 ghost use Rattle.std.specs.Prelude.{◌≡◌, ◌≤◌, ◌<◌, nat_abs};
@@ -10,8 +12,9 @@ ghost use Rattle.progress.specs.Bounds.{basis, Room, Tracks, UnderBound, Descent
 
 use objective::added::set_bound;
 use progress::{Halt, Progress, bound_for, keep_find};
+use recount::tables::Tables;
 use settings::Settings;
-use tries::{Spent, Unreached, call};
+use tries::{Unreached, call};
 
 // One call with the added clause O ≤ bound, which replaces the one before.
 fn call_under(
@@ -34,27 +37,20 @@ fn call_under(
         (work tried.new tallies.new marks.new) }
 {
     set_bound(tables, bound);
-    let begun = Spent {
-        used: at.used,
-        flips: at.flips,
-    };
-    match call(tables, terms, numbers, begun, s, tried, tallies, marks) {
-        Ok(Spent { used, flips }) => Ok(Progress {
+    let t = Tables { tables, terms };
+    match call(&t, numbers, at.spent, s, tried, tallies, marks) {
+        Ok(spent) => Ok(Progress {
             cost: keep_find(tables, tried, assignment),
             finds: at.finds + 1,
-            flips,
-            used,
+            spent,
         }),
-        Err(Unreached::Failed(Spent { used, flips })) => {
-            Err(Halt::Failed(Progress { flips, used, ..at }))
-        }
-        Err(Unreached::Short(Spent { used, flips })) => {
-            Err(Halt::Short(Progress { flips, used, ..at }))
-        }
+        Err(Unreached::Failed(spent)) => Err(Halt::Failed(Progress { spent, ..at })),
+        Err(Unreached::Short(spent)) => Err(Halt::Short(Progress { spent, ..at })),
     }
 }
 
-// Calls in one mode, each below the last find, until one fails or the floor is reached.
+// Calls in one mode, each below the last find, until one fails or the floor is reached. The mode stays the number that the C interface takes, since it is
+// only handed on.
 pub fn descend(
     tables: &mut [u8],
     terms: &[u8],

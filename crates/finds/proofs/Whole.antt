@@ -3,7 +3,7 @@
 use Prim.Native.Nat.{ℕ, zero, suc, ◌+◌, ◌-◌, ◌≤◌, ◌<◌}
 use native.Mathlib.Omega.{arith}
 use mathlib.Core.Path.{◌≡◌, refl, sym, ap, ap₂, ◌∙◌, subst}
-use mathlib.Core.Bool.{Bool, true, false}
+use mathlib.Core.Bool.{true, false}
 use mathlib.Core.List.{List, [], ◌∷◌, ◌++◌}
 use lib.Dec.{T}
 use lib.IntN.{ℤ, nat_abs}
@@ -14,11 +14,11 @@ use mir.Facts.{to_z-of_z}
 use mir.Syntax.{w64}
 use mir.Val.{to_z, of_z, SFits}
 use Rattle.plpb.specs.Lists.{◌and◌, ◌or◌, is_empty}
-use Rattle.plpb.specs.Plan.{Plan, Assignment, obeys, satisfies, cost, floor_cost}
+use Rattle.plpb.specs.Plan.{Plan, Assignment, obeys, cost, floor_cost}
 use Rattle.plpb.proofs.Soundness.{call_obeys}
 use Rattle.plpb.specs.Walk.{Mark, ends, short, run}
 use Rattle.plpb.specs.Settings.{Mode, linear, lbs, Settings}
-use Rattle.plpb.specs.Search.{Reached, failed, reached, call, tightened, floor, none, at_floor, gap, linear_search, lbs_search, tighten, search_walk, last_find, cost_of, answer_of as answered, conclude, begin, search}
+use Rattle.plpb.specs.Search.{Reached, failed, reached, tightened, floor, none, at_floor, gap, linear_search, lbs_search, tighten, search_walk, last_find, cost_of, answer_of as answered, conclude, begin, search}
 use Rattle.plpb.specs.Walk.{at}
 use Rattle.plpb.proofs.Costs.{floor_below}
 use Rattle.words.specs.Words.{word_bytes, word_at}
@@ -48,7 +48,7 @@ use Rattle.progress.specs.declared.Progress.{Progress}
 use Rattle.progress.specs.declared.Ending.TheVariants as code
 use Rattle.progress.specs.declared.Searched.{Searched}
 use Rattle.lending.specs.Work.{Work, Beyond}
-use Rattle.tries.specs.Steps.{Startable, tried_of, spent_by, IfReached, Tries}
+use Rattle.tries.specs.Steps.{Startable, tried_of, spent_by, IfReached}
 use Rattle.progress.specs.Bounds.{basis, Bounded, Tracks, Room, Leaves, answer_of, ending_of, Concludes}
 use Rattle.finds.specs.Whole.{with_find, CallsFirst, Copyable, Empty, FirstCall, Roomy, FirstFind, FromFind, Searchable, Unfound, Whole}
 use Rattle.progress.proofs.Bounds.{bounded_basis, front_bits, front_are_bits, front_beyond}
@@ -82,7 +82,7 @@ module _ (s : Settings) (p : Plan) (ns : List ℕ) (a : Assignment) (m : Mark) (
 
 first_answer : (p : Plan) (a : Assignment) (used flips : ℕ) (v : ℤ) → v ≡ cost p a
     → conclude p (ends floor (at used flips (a ∷ [])))
-    ≡ answer_of code.Floor (record { cost = v; finds = 1; flips = flips; used = used }) (reached a)
+    ≡ answer_of code.Floor (record { cost = v; finds = 1; spent = record { used = used; flips = flips } }) (reached a)
 unfolding conclude answered last_find cost_of answer_of ending_of
 first_answer p a used flips v e = λ j. record { ending = floor; cost = (sym e) j; finds = 1; flips = flips; used = used; assignment = reached a }
 
@@ -137,12 +137,12 @@ module _ {tables terms numbers : List ℕ} {used flips : ℕ} {assignment : List
       kept_beyond = copied_beyond here.variables w.assignment assignment bytes copied
 
       abbrev progress : Progress
-      progress = record { cost = to_z w64 (of_z w64 v); finds = 1; flips = flips; used = used }
+      progress = record { cost = to_z w64 (of_z w64 v); finds = 1; spent = record { used = used; flips = flips } }
 
       -- "A found assignment of cost v with v = l(O) ends the search."
       pub from_floor : (s : Settings) → le_z (to_z w64 (of_z w64 v)) (to_z w64 (of_z w64 least)) ≡ true
           → FromFind s tables terms numbers used flips
-          (record { ending = code.Floor; progress = record { cost = to_z w64 (of_z w64 v); finds = 1; flips = flips; used = used } })
+          (record { ending = code.Floor; progress = record { cost = to_z w64 (of_z w64 v); finds = 1; spent = record { used = used; flips = flips } } })
           assignment kept w w
       unfolding at_floor ◌and◌
       from_floor s t =
@@ -195,7 +195,7 @@ module _ {tables terms numbers : List ℕ} {used flips : ℕ} {assignment : List
 
           pub tighten_ready :
               Room (basis tables' terms') tables' terms' kept w
-              × Tracks (basis tables' terms') numbers kept (record { cost = to_z w64 (of_z w64 v); finds = 1; flips = flips; used = used })
+              × Tracks (basis tables' terms') numbers kept (record { cost = to_z w64 (of_z w64 v); finds = 1; spent = record { used = used; flips = flips } })
               × (to_z w64 (of_z w64 least) ≡ floor_cost (basis tables' terms'))
           tighten_ready =
               subst (λ q. Room q tables' terms' kept w × Tracks q numbers kept progress × (to_z w64 (of_z w64 least) ≡ floor_cost q)) (sym same) (
@@ -232,7 +232,7 @@ module _ {tables terms numbers : List ℕ} {used flips : ℕ} {assignment : List
               ∙ drop_at (word_bytes (table_words (tightened here m))) (drop table_size tables) table_size (omega (arith, n, length_table_words (tightened here m) l))
 
           pub from_tightened : (s : Settings) {r : Searched} {out exit : List ℕ} {u : Work}
-              → Concludes (tighten s.mode s) (basis tables' terms') numbers (record { cost = to_z w64 (of_z w64 v); finds = 1; flips = flips; used = used })
+              → Concludes (tighten s.mode s) (basis tables' terms') numbers (record { cost = to_z w64 (of_z w64 v); finds = 1; spent = record { used = used; flips = flips } })
               (bits_of (basis tables' terms').variables kept) (answer_of r.ending r.progress (reached (bits_of (basis tables' terms').variables exit)))
               × Tracks (basis tables' terms') numbers exit r.progress
               × Leaves (basis tables' terms') tables' terms' out kept exit w u
@@ -358,7 +358,7 @@ module _ {s : Settings} {tables terms numbers : List ℕ} {t : Result Spent Unre
       found_whole s plan numbers r found z.find z.beyond
 
   -- It reached nothing.
-  pub call_empty : {r : Searched} → (why : Unreached) → t ≡ Err why → Empty why r → Whole s (plan_of_tables tables terms) numbers r assignment assignment w w
+  pub call_empty : {r : Searched} → (why : Unreached) → t ≡ Err why → Empty (Err why) r → Whole s (plan_of_tables tables terms) numbers r assignment assignment w w
   unfolding tried_of begin Empty
   call_empty {r} (reason.Failed d) e z =
       let k = told_as (Err (reason.Failed d)) e in

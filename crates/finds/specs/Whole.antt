@@ -1,6 +1,6 @@
 -- What the whole search needs of tables that passed its tests, and what it answers and leaves before the work tables are cleared.
 -- Assumes nothing.
-use Rattle.std.specs.Prelude.{ℕ, ◌/◌, ◌≤◌, ◌≡◌, List, [], ◌∷◌, ◌++◌, T, pos, length, take, drop, Result}
+use Rattle.std.specs.Prelude.{ℕ, ◌/◌, ◌≤◌, ◌≡◌, List, [], ◌∷◌, ◌++◌, T, pos, length, take, drop, Result, Ok, Err}
 use Rattle.plpb.specs.Lists.{◌or◌}
 use Rattle.plpb.specs.Plan.{Plan, Assignment, obeys}
 use Rattle.plpb.specs.Walk.{run}
@@ -34,13 +34,14 @@ pub record Unfound (e : EndingOf) (used flips : ℕ) (r : Searched) : Type 0 whe
   pub ending : r.ending ≡ e
   pub cost : r.progress.cost ≡ pos 0
   pub finds : r.progress.finds ≡ 0
-  pub flips_made : r.progress.flips ≡ flips
-  pub numbers_used : r.progress.used ≡ used
+  pub flips_made : r.progress.spent.flips ≡ flips
+  pub numbers_used : r.progress.spent.used ≡ used
 
--- .. by a first call: it failed, or the numbers were gone before.
-unfoldable pub Empty : Unreached → Searched → Type 0
-Empty (unreached.Failed t) r = Unfound code.None t.used t.flips r
-Empty (unreached.Short t) r = Unfound code.ShortNone t.used t.flips r
+-- .. by a first call: it failed, or the numbers were gone before. One that reached an assignment is never asked for it.
+unfoldable pub Empty : Result Spent Unreached → Searched → Type 0
+Empty (Ok t) r = Unfound code.None t.used t.flips r
+Empty (Err (unreached.Failed t)) r = Unfound code.None t.used t.flips r
+Empty (Err (unreached.Short t)) r = Unfound code.ShortNone t.used t.flips r
 
 -- The walk's buffers have room for any plan.
 pub record Roomy (w : Work) : Type 0 where

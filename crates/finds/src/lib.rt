@@ -1,6 +1,7 @@
 // The answer of a search whose first call found nothing.
 #![tactic(auto)]
 
+ghost use Rattle.std.specs.Prelude.{Err};
 ghost use Rattle.finds.specs.Whole.{Empty, Unfound};
 
 use progress::{Ending, Progress, Searched};
@@ -14,18 +15,26 @@ fn empty(ending: Ending, spent: Spent) -> Searched
         progress: Progress {
             cost: 0,
             finds: 0,
-            flips: spent.flips,
-            used: spent.used,
+            spent,
         },
     }
 }
 
-// The answer of a first call that found nothing.
-pub fn nothing(why: Unreached) -> Searched
-    ensures { Empty why result }
+fn without(why: Unreached) -> Searched
+    ensures { Empty (Err why) result }
 {
     match why {
         Unreached::Failed(spent) => empty(Ending::None, spent),
         Unreached::Short(spent) => empty(Ending::ShortNone, spent),
+    }
+}
+
+// The answer of a first call that found nothing. Nobody asks what it is for one that reached an assignment.
+pub fn nothing(t: Result<Spent, Unreached>) -> Searched
+    ensures { Empty t result }
+{
+    match t {
+        Ok(spent) => empty(Ending::None, spent),
+        Err(why) => without(why),
     }
 }

@@ -1,10 +1,13 @@
 // The first call of a search, with the plan alone.
+// The buffers to write come one by one: one is read while another is written, which a struct of them would not let be proved.
+// The numbers and the settings stay two: a struct of them would be made at the top only to be taken apart at the bottom.
 #![tactic(auto)]
 
 ghost use Rattle.settings.specs.Settings.{settings_of};
 ghost use Rattle.lending.specs.Work.{work};
 ghost use Rattle.finds.specs.Whole.{CallsFirst, Copyable};
 
+use recount::tables::Tables;
 use settings::Settings;
 use tries::{Spent, Unreached, call};
 use words::copy;
@@ -27,8 +30,9 @@ pub fn first_call(
         (work tried.old tallies.old marks.old)
         (work tried.new tallies.new marks.new) }
 {
-    copy(plan, tables, format::TABLES);
-    copy(plan_terms, terms, format::TERMS);
+    copy(&plan[..format::TABLES], tables);
+    copy(&plan_terms[..format::TERMS], terms);
+    let t = Tables { tables, terms };
     let begun = Spent { used: 0, flips: 0 };
-    call(tables, terms, numbers, begun, s, tried, tallies, marks)
+    call(&t, numbers, begun, s, tried, tallies, marks)
 }

@@ -7,7 +7,7 @@ use mathlib.Core.List.{List}
 use lib.Dec.{ltb}
 use lib.ListN.{length}
 use borrow.Author.Tests.{lt-ltb, le-ltb}
-use Rattle.plpb.specs.Lists.{◌and◌, ◌or◌}
+use Rattle.plpb.specs.Lists.{◌or◌}
 use Rattle.format.specs.File.{refuse}
 use Rattle.format.specs.Tables.{is_loaded}
 use Rattle.settings.specs.declared.Settings.{Settings as Asked}

@@ -7,6 +7,7 @@ use Rattle.format.specs.Tables.{table_size, term_size, is_loaded}
 use Rattle.columns.specs.Layout.{column_size, kept_size}
 use Rattle.format.specs.Assignment.{assignment_size}
 use Rattle.lending.specs.Work.{Work}
+use Rattle.lending.specs.declared.Lent.{Lent as Slices}
 use Rattle.settings.specs.declared.Settings.{Settings as Asked}
 use Rattle.settings.specs.Settings.{settings_refusal}
 
@@ -36,6 +37,12 @@ lent_all tables terms numbers assignment work_tables work_terms work_assignment 
       work_tallies = work_tallies;
       work_marks = work_marks;
     }
+
+-- What the slices hold that the code has of it.
+abbrev pub lent_in : Slices → Lent
+lent_in l =
+    lent_all l.tables.now l.terms.now l.numbers.now l.assignment.now l.work_tables.now l.work_terms.now l.work_assignment.now
+    l.work_tallies.now l.work_marks.now
 
 unfoldable pub too_small : Lent → Bool
 too_small l =

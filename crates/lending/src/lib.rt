@@ -1,16 +1,31 @@
 // What a search tests of what it is lent and set, in the order of document 01: 21, 22, 11, 12, 13, 14; and how it clears what it worked in.
+// The buffers to write come one by one: one is read while another is written, which a struct of them would not let be proved.
 #![tactic(auto)]
 
 ghost use Rattle.std.specs.Prelude.{◌≡◌, ◌++◌, ◌≤◌, length, drop, replicate};
 ghost use Rattle.format.specs.Layout.{table_size, term_size};
 ghost use Rattle.columns.specs.Layout.{column_size, kept_size};
 ghost use Rattle.format.specs.Assignment.{assignment_size};
-ghost use Rattle.lending.specs.Lent.{search_refusal, lent_all, tables_small, work_small};
+ghost use Rattle.lending.specs.Lent.{search_refusal, lent_in, tables_small, work_small};
 ghost use Rattle.lending.specs.Work.{work};
 
 use loaded::good;
 use settings::{Settings, settings_refusal};
 use words::clear;
+
+// All that a search is lent, to be read: the plan's tables, the list of numbers, the assignment, and what it works in.
+#[derive(Clone, Copy)]
+pub struct Lent<'a> {
+    pub tables: &'a [u8],
+    pub terms: &'a [u8],
+    pub numbers: &'a [u8],
+    pub assignment: &'a [u8],
+    pub work_tables: &'a [u8],
+    pub work_terms: &'a [u8],
+    pub work_assignment: &'a [u8],
+    pub work_tallies: &'a [u8],
+    pub work_marks: &'a [u8],
+}
 
 // Whether tables, terms or assignment have less room than the full limits need.
 fn tables_small(tables: &[u8], terms: &[u8], assignment: &[u8]) -> bool
@@ -25,57 +40,40 @@ fn tables_small(tables: &[u8], terms: &[u8], assignment: &[u8]) -> bool
     assignment.len() < format::ASSIGNMENT
 }
 
-fn work_small(tables: &[u8], terms: &[u8], assignment: &[u8], tallies: &[u8], marks: &[u8]) -> bool
-    ensures { result
-        ≡ work_small tables.now terms.now (work assignment.now tallies.now marks.now) }
-{
-    if tables_small(tables, terms, assignment) {
-        return true;
+impl Lent<'_> {
+    fn work_small(&self) -> bool
+        ensures { result
+            ≡ work_small self.now.work_tables.now self.now.work_terms.now
+            (work self.now.work_assignment.now self.now.work_tallies.now self.now.work_marks.now) }
+    {
+        if tables_small(self.work_tables, self.work_terms, self.work_assignment) {
+            return true;
+        }
+        if self.work_tallies.len() < columns::KEPT {
+            return true;
+        }
+        self.work_marks.len() < columns::COLUMNS
     }
-    if tallies.len() < columns::KEPT {
-        return true;
+
+    // The number of the first test that fails, 0 for none: the C interface gives it out as it is.
+    pub fn refusal(&self, s: Settings) -> u32
+        ensures { result ≡ search_refusal (lent_in self.now) s }
+    {
+        if tables_small(self.tables, self.terms, self.assignment) {
+            return 21;
+        }
+        if self.work_small() {
+            return 21;
+        }
+        if !good(self.tables, self.terms) {
+            return 22;
+        }
+        settings_refusal(s)
     }
-    marks.len() < columns::COLUMNS
 }
 
-// The number of the first test that fails, 0 for none: the C interface gives it out as it is.
-pub fn search_refusal(
-    tables: &[u8],
-    terms: &[u8],
-    numbers: &[u8],
-    s: Settings,
-    assignment: &[u8],
-    work_tables: &[u8],
-    work_terms: &[u8],
-    work_assignment: &[u8],
-    work_tallies: &[u8],
-    work_marks: &[u8],
-) -> u32
-    ensures { result
-        ≡ search_refusal
-        (lent_all tables.now terms.now numbers.now assignment.now work_tables.now
-        work_terms.now work_assignment.now work_tallies.now work_marks.now) s }
-{
-    if tables_small(tables, terms, assignment) {
-        return 21;
-    }
-    if work_small(
-        work_tables,
-        work_terms,
-        work_assignment,
-        work_tallies,
-        work_marks,
-    ) {
-        return 21;
-    }
-    if !good(tables, terms) {
-        return 22;
-    }
-    settings_refusal(s)
-}
-
-// Fills the first n bytes with 0.
-fn clear_first(s: &mut [u8], n: usize)
+// Fills the first n bytes with 0. A count goes with the slice, because what stands behind them is lent too.
+pub fn clear_first(s: &mut [u8], n: usize)
     requires { n ≤ length s.old }
     ensures { s.new ≡ replicate n 0 ++ drop n s.old }
 {

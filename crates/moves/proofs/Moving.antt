@@ -3,21 +3,21 @@
 use Prim.Native.Nat.{ℕ, zero, suc, ◌+◌, ◌*◌, ◌/◌, ◌≤◌, ◌<◌}
 use native.Mathlib.Omega.{arith}
 use mathlib.Core.Path.{◌≡◌, refl, sym, ap, ◌∙◌, subst}
-use mathlib.Core.Bool.{true, false}
+use mathlib.Core.Bool.{false}
 use mathlib.Core.List.{List, [], ◌∷◌}
 use lib.ListN.{length, get_or, take, drop}
 use lib.Dec.{T, ltb, lt→ltb}
 use borrow.Author.Tests.{eq-eqb, ne_eqb}
-use Rattle.plpb.specs.Lists.{◌and◌, all, count, keep, is_empty, row}
+use Rattle.plpb.specs.Lists.{all, count, keep, is_empty, row}
 use Rattle.plpb.specs.Plan.{Clause, Plan, Assignment, flip, is_variable, rule_holds}
 use Rattle.plpb.specs.Tallies.{unsatisfied}
 use Rattle.plpb.specs.Numbers.{take_pick}
 use Rattle.plpb.specs.Walk.{Walk, at, ends, short, run}
 use Rattle.plpb.specs.Settings.{Settings}
-use Rattle.plpb.specs.Try.{Try, turn_over}
+use Rattle.plpb.specs.Try.{turn_over}
 use Rattle.plpb.specs.Novelty.{last_flip}
 use Rattle.plpb.specs.Choice.{choosable, pick_from, choice_by, choice}
-use Rattle.plpb.specs.Search.{stuck, turned as turnedTo, turning, move}
+use Rattle.plpb.specs.Search.{turned as turnedTo, turning, move}
 use Rattle.words.specs.Words.{num_at, word_at}
 use Rattle.words.proofs.Words.{num_at_take}
 use Rattle.format.specs.Tables.{plan_of_tables}
@@ -46,8 +46,11 @@ use Rattle.numbers.proofs.Runs.{bind_ends, bind_short, pick_from_taken, pick_fro
 use Rattle.picking.specs.declared.Chosen.{Chosen}
 use Rattle.picking.specs.Outcome.{outcome_of, used_by, Among, Chooses}
 use Rattle.columns.specs.Layout.{column_size, kept_size, list_count_at, hint_at, weight_at}
+use Rattle.columns.specs.Columns.{Weighed, Listed}
 use Rattle.columns.proofs.Marks.{Behind, dropped_behind, dropped_more, behind_more, wrote_behind, weighed_behind, listed_behind}
 use Rattle.keeping.specs.Flip.{Keepable, Kept}
+use Rattle.effects.specs.declared.footing.Footing.{Footing}
+use Rattle.effects.specs.Footing.{plan_on}
 use Rattle.skc.specs.Choosing.{ToChoose}
 use Rattle.picks.specs.Picks.{Noted}
 use Rattle.moves.specs.declared.Unmoved.{Unmoved}
@@ -126,17 +129,11 @@ module _ {tables terms : List ℕ} {w : Work} (k : Walking tables terms w) where
   pub some_listed : {c some : ℕ} → c < word_at tables 1 → some ≡ word_at w.marks (list_count_at c) → some ≡ length (choosable (plan_of_tables tables terms) (get_or (plan_of_tables tables terms).clauses c []))
   some_listed {c} h e = e ∙ (k.prepared.listed.each c (rw (← clauses_word tables terms k.ready.laid) h)).counted
 
-  -- There is one.
-  pub to_choose : {numbers : List ℕ} {c some used : ℕ} → c < word_at tables 1 → some ≡ word_at w.marks (list_count_at c) → (some ≡ 0 → ⊥) → used ≤ length numbers / 4 → ToChoose tables terms w.assignment w.tallies w.marks c numbers used
-  to_choose {c = c} h e n l = record {
-    pickable = record {
-      kept = record { ready = k.ready; bits = k.bits; fresh = k.fresh; sized = k.prepared.sized; needed = k.needed; weighed = k.prepared.weighed };
-      listed = k.prepared.listed;
-      there = rw (← clauses_word tables terms k.ready.laid) h;
-    };
-    some = omega (arith, some_listed h e, n);
-    listed = l;
-  }
+-- There is one.
+pub to_choose : {q : Footing} {marks numbers : List ℕ} {c some used : ℕ} → Weighed (plan_on q) marks → Listed (plan_on q) marks → c < word_at q.tables.now 1 → some ≡ word_at marks (list_count_at c) → (some ≡ 0 → ⊥) → used ≤ length numbers / 4 → ToChoose q marks c numbers used
+to_choose {q} {c = c} w l h e n u =
+    let there : c < length (plan_on q).clauses = rw (← clauses_word q.tables.now q.terms.now q.ready.laid) h in
+    record { pickable = record { weighed = w; listed = l; there = there }; some = omega (arith, e ∙ (l.each c there).counted, n); listed = u }
 
 module _ {tables terms : List ℕ} (numbers : List ℕ) (used c : ℕ) {w : Work} (k : Walking tables terms w) {some : ℕ}
     (m : some ≡ length (choosable (plan_of_tables tables terms) (get_or (plan_of_tables tables terms).clauses c []))) where

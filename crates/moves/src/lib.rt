@@ -1,4 +1,6 @@
 // One step of the walk (Algorithm 1, lines 5 to 7): an unsatisfied clause is picked, a variable of it chosen and flipped.
+// The buffers to write come one by one: one is read while another is written, which a struct of them would not let be proved.
+// So do the numbers, how many of them are used and the settings: each function hands on another count of numbers and the same of the others.
 #![tactic(auto)]
 
 ghost use Rattle.std.specs.Prelude.{◌≡◌, ◌/◌, ◌≤◌, ◌<◌, length};
@@ -11,8 +13,10 @@ ghost use Rattle.moves.specs.declared.Unmoved.TheVariants as unmoved;
 
 use choosing::choose_in;
 use columns::LIST_COUNTS;
+use effects::Footing;
 use keeping::flip_kept;
 use numbers::{Short, nth_zero, pick};
+use recount::tables::Tables;
 use settings::Settings;
 use stamps::stamp;
 use words::index;
@@ -35,8 +39,7 @@ impl From<Short> for Unmoved {
 // "choose a variable of it; flip"; how many numbers are used after it. It is the flip behind so many of this try, and its number is kept as that of the
 // variable's last flip.
 fn flip_in(
-    tables: &[u8],
-    terms: &[u8],
+    t: &Tables<'_>,
     numbers: &[u8],
     used: usize,
     s: Settings,
@@ -46,9 +49,9 @@ fn flip_in(
     tallies: &mut [u8],
     marks: &mut [u8],
 ) -> Result<usize, Unmoved>
-    requires { Walking tables.now terms.now (work assignment.old tallies.old marks.old) × (c < word_at tables.now 1)
+    requires { Walking t.now.tables.now t.now.terms.now (work assignment.old tallies.old marks.old) × (c < word_at t.now.tables.now 1)
         × (used ≤ length numbers.now / 4) × (turn < 4_294_967_295) }
-    ensures { InClause (settings_of s) tables.now terms.now numbers.now used turn c result
+    ensures { InClause (settings_of s) t.now.tables.now t.now.terms.now numbers.now used turn c result
         (work assignment.old tallies.old marks.old)
         (work assignment.new tallies.new marks.new) }
 {
@@ -56,19 +59,22 @@ fn flip_in(
     if some == 0 {
         return Err(Unmoved::Stuck(used));
     }
-    let chosen = choose_in(
-        tables, terms, assignment, tallies, marks, c, numbers, used, s,
-    )?;
+    let footing = Footing {
+        tables: t.tables,
+        terms: t.terms,
+        assignment,
+        tallies,
+    };
+    let chosen = choose_in(&footing, marks, c, numbers, used, s)?;
     let x = chosen.variable;
-    flip_kept(tables, terms, marks, assignment, tallies, x);
+    flip_kept(t, marks, assignment, tallies, x);
     stamp(marks, x, turn + 1);
     Ok(chosen.used)
 }
 
 // "pick an unsatisfied clause": the tallies say how many there are and which. How many numbers are used after the flip.
 pub fn make_move(
-    tables: &[u8],
-    terms: &[u8],
+    t: &Tables<'_>,
     numbers: &[u8],
     used: usize,
     s: Settings,
@@ -77,16 +83,16 @@ pub fn make_move(
     tallies: &mut [u8],
     marks: &mut [u8],
 ) -> Result<usize, Unmoved>
-    requires { Walking tables.now terms.now (work assignment.old tallies.old marks.old) × (0 < word_at tallies.old unsatisfied_at)
+    requires { Walking t.now.tables.now t.now.terms.now (work assignment.old tallies.old marks.old) × (0 < word_at tallies.old unsatisfied_at)
         × (used ≤ length numbers.now / 4) × (turn < 4_294_967_295) }
-    ensures { Moves (settings_of s) tables.now terms.now numbers.now used turn result
+    ensures { Moves (settings_of s) t.now.tables.now t.now.terms.now numbers.now used turn result
         (work assignment.old tallies.old marks.old)
         (work assignment.new tallies.new marks.new) }
 {
     let unsatisfied = index(tallies, format::UNSATISFIED);
     let drawn = pick(numbers, used, unsatisfied)?;
-    let c = nth_zero(tallies, format::HOLDING, index(tables, 1), drawn.place);
+    let c = nth_zero(tallies, format::HOLDING, index(t.tables, 1), drawn.place);
     flip_in(
-        tables, terms, numbers, drawn.used, s, turn, c, assignment, tallies, marks,
+        t, numbers, drawn.used, s, turn, c, assignment, tallies, marks,
     )
 }

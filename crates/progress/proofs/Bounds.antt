@@ -17,7 +17,7 @@ use Rattle.plpb.proofs.Costs.{tightened_obeys}
 use Rattle.plpb.proofs.Soundness.{call_obeys}
 use Rattle.plpb.specs.Walk.{ends, run}
 use Rattle.plpb.specs.Settings.{Settings}
-use Rattle.plpb.specs.Search.{Reached, reached, call, tightened}
+use Rattle.plpb.specs.Search.{reached, call, tightened}
 use Rattle.plpb.specs.Walk.{at}
 use Rattle.words.specs.Words.{word_bytes, word_at}
 use Rattle.words.proofs.Words.{length_word_bytes}
@@ -144,7 +144,7 @@ module _ (n : ℕ) (x y : List ℕ) (h : n ≤ length x) where
 -- ---- a call under a bound
 
 abbrev pub TriesUnder : Settings → List ℕ → List ℕ → List ℕ → Progress → Work → Work → Result Spent Unreached → Type 0
-TriesUnder s tables terms numbers from w v r = Tries (call s (plan_of_tables tables terms)) tables terms numbers from.used from.flips (from.used + 1) r w v
+TriesUnder s tables terms numbers from w v r = Tries (call s (plan_of_tables tables terms)) tables terms numbers from.spent.used from.spent.flips (from.spent.used + 1) r w v
 
 module _ {p : Plan} {tables terms assignment : List ℕ} {w : Work} (room : Room p tables terms assignment w) (m : ℤ) (within : nat_abs m ≤ 1_000_000_000)
     {after : List ℕ} (told : after ≡ rebound (to_z w64 (of_z w64 m)) tables)
@@ -172,10 +172,10 @@ module _ {p : Plan} {tables terms assignment : List ℕ} {w : Work} (room : Room
 
     module _ (s : Settings) {numbers : List ℕ} {from : Progress} (st : Tracks p numbers assignment from) {v : Work} where
       under_outcome : {r : Result Spent Unreached} → TriesUnder s after terms numbers from w v r → (fs : List Assignment)
-          → run (call s (tightened p m)) (numbers_of numbers) (at from.used from.flips fs) ≡ tried_of r (bits_of p.variables v.assignment) fs
+          → run (call s (tightened p m)) (numbers_of numbers) (at from.spent.used from.spent.flips fs) ≡ tried_of r (bits_of p.variables v.assignment) fs
       unfolding tightened
       under_outcome {r} t fs =
-          subst (λ q. run (call s q) (numbers_of numbers) (at from.used from.flips fs) ≡ tried_of r (bits_of q.variables v.assignment) fs) under_back (t.outcome fs)
+          subst (λ q. run (call s q) (numbers_of numbers) (at from.spent.used from.spent.flips fs) ≡ tried_of r (bits_of q.variables v.assignment) fs) under_back (t.outcome fs)
 
       under_beyond : {r : Result Spent Unreached} → TriesUnder s after terms numbers from w v r → Beyond p.variables w v
       under_beyond t = rw (← bounded_variables under_bounded) t.beyond
@@ -193,7 +193,7 @@ module _ {p : Plan} {tables terms assignment : List ℕ} {w : Work} (room : Room
             reached_by_lem : TriesUnder s after terms numbers from w v (Ok d)
             reached_by_lem = subst (TriesUnder s after terms numbers from w v) k t
 
-            reached_finds : Finds after terms (from.used + 1) d.used v
+            reached_finds : Finds after terms (from.spent.used + 1) d.used v
             unfolding IfReached spent_by
             reached_finds = reached_by_lem.finds
 
@@ -223,10 +223,10 @@ module _ {p : Plan} {tables terms assignment : List ℕ} {w : Work} (room : Room
             unfolding tried_of
             exit_obeys =
                 subst (λ a. T (obeys a p)) (sym exit_bits)
-                (subst T (tightened_obeys p m _) (call_obeys s (tightened p m) (numbers_of numbers) from.used from.flips [] st.flips (under_outcome reached_by_lem [])))
+                (subst T (tightened_obeys p m _) (call_obeys s (tightened p m) (numbers_of numbers) from.spent.used from.spent.flips [] st.flips (under_outcome reached_by_lem [])))
 
             pub called_found :
-                CallsUnder s p m numbers from (Ok (record { cost = z; finds = from.finds + 1; flips = d.flips; used = d.used })) assignment exit
+                CallsUnder s p m numbers from (Ok (record { cost = z; finds = from.finds + 1; spent = d })) assignment exit
                 × Leaves p tables terms after assignment exit w v
             unfolding tried_of called_of progress_in FindOr spent_by
             called_found = (
@@ -252,7 +252,7 @@ module _ {p : Plan} {tables terms assignment : List ℕ} {w : Work} (room : Room
 
         -- None.
         module _ (t : TriesUnder s after terms numbers from w v r) where
-          still_tracks : spent_by r ≡ d → Tracks p numbers assignment (record { cost = to_z w64 (of_z w64 from.cost); finds = from.finds; flips = d.flips; used = d.used })
+          still_tracks : spent_by r ≡ d → Tracks p numbers assignment (record { cost = to_z w64 (of_z w64 from.cost); finds = from.finds; spent = d })
           still_tracks k =
               let l : used_by r ≡ d.used = ap (λ (q : Spent). q.used) k in
               let m : flips_by r ≡ d.flips = ap (λ (q : Spent). q.flips) k in
@@ -266,7 +266,7 @@ module _ {p : Plan} {tables terms assignment : List ℕ} {w : Work} (room : Room
               }
 
           pub called_failed : r ≡ Err (unreached.Failed d) →
-              CallsUnder s p m numbers from (Err (halt.Failed (record { cost = to_z w64 (of_z w64 from.cost); finds = from.finds; flips = d.flips; used = d.used }))) assignment assignment
+              CallsUnder s p m numbers from (Err (halt.Failed (record { cost = to_z w64 (of_z w64 from.cost); finds = from.finds; spent = d }))) assignment assignment
               × Leaves p tables terms after assignment assignment w v
           unfolding tried_of called_of progress_in FindOr spent_by
           called_failed k = (
@@ -279,7 +279,7 @@ module _ {p : Plan} {tables terms assignment : List ℕ} {w : Work} (room : Room
           )
 
           pub called_short : r ≡ Err (unreached.Short d) →
-              CallsUnder s p m numbers from (Err (halt.Short (record { cost = to_z w64 (of_z w64 from.cost); finds = from.finds; flips = d.flips; used = d.used }))) assignment assignment
+              CallsUnder s p m numbers from (Err (halt.Short (record { cost = to_z w64 (of_z w64 from.cost); finds = from.finds; spent = d }))) assignment assignment
               × Leaves p tables terms after assignment assignment w v
           unfolding tried_of called_of progress_in FindOr spent_by
           called_short k = (

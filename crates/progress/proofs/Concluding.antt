@@ -4,7 +4,7 @@ use Prim.Native.Nat.{ℕ, zero, suc, ◌≤◌, ◌<◌}
 use native.Mathlib.Omega.{arith}
 use mathlib.Core.Path.{◌≡◌, refl, sym, ap, ap₂, ◌∙◌, subst}
 use mathlib.Core.Bool.{true, false}
-use mathlib.Core.List.{List, [], ◌∷◌}
+use mathlib.Core.List.{List, ◌∷◌}
 use lib.Dec.{T}
 use lib.IntN.{ℤ, pos, negsuc, nat_abs}
 use lib.ListN.{length}
@@ -124,19 +124,19 @@ bound_lbs (suc k) l v e = refl
 -- ---- the answer
 
 module _ (p : Plan) (t : Progress) (a : Assignment) (fs : List Assignment) (c : t.cost ≡ cost p a) (n : suc (length fs) ≡ t.finds) where
-  concluded : (e : EndingOf) → conclude p (ends (ending_of e) (at t.used t.flips (a ∷ fs))) ≡ answer_of e t (reached a)
+  concluded : (e : EndingOf) → conclude p (ends (ending_of e) (at t.spent.used t.spent.flips (a ∷ fs))) ≡ answer_of e t (reached a)
   unfolding conclude answered answer_of last_find cost_of
-  concluded e = λ j. record { ending = ending_of e; cost = sym c j; finds = n j; flips = t.flips; used = t.used; assignment = reached a }
+  concluded e = λ j. record { ending = ending_of e; cost = sym c j; finds = n j; flips = t.spent.flips; used = t.spent.used; assignment = reached a }
 
-  concluded_short : conclude p (short (at t.used t.flips (a ∷ fs))) ≡ answer_of code.ShortFound t (reached a)
+  concluded_short : conclude p (short (at t.spent.used t.spent.flips (a ∷ fs))) ≡ answer_of code.ShortFound t (reached a)
   unfolding conclude answered answer_of last_find cost_of is_empty ending_of
-  concluded_short = λ j. record { ending = short_found; cost = sym c j; finds = n j; flips = t.flips; used = t.used; assignment = reached a }
+  concluded_short = λ j. record { ending = short_found; cost = sym c j; finds = n j; flips = t.spent.flips; used = t.spent.used; assignment = reached a }
 
 -- ---- what follows the next call
 
 module _ {s : Settings} {p : Plan} {numbers : List ℕ} {t : Progress} {m : ℤ} {r : Result Progress Halt} {entry exit : List ℕ} (c : CallsUnder s p m numbers t r entry exit) {k : ℤ} (e : m ≡ k) where
-  called_under : (fs : List Assignment) → run (call s (tightened p k)) (numbers_of numbers) (at t.used t.flips fs) ≡ called_of r (held p exit) fs
-  called_under fs = subst (λ n. run (call s (tightened p n)) (numbers_of numbers) (at t.used t.flips fs) ≡ called_of r (held p exit) fs) e (c.outcome fs)
+  called_under : (fs : List Assignment) → run (call s (tightened p k)) (numbers_of numbers) (at t.spent.used t.spent.flips fs) ≡ called_of r (held p exit) fs
+  called_under fs = subst (λ n. run (call s (tightened p n)) (numbers_of numbers) (at t.spent.used t.spent.flips fs) ≡ called_of r (held p exit) fs) e (c.outcome fs)
 
 -- A find costs less, so that fewer can follow.
 pub falls : {s : Settings} {p : Plan} {numbers : List ℕ} {t u : Progress} {m : ℤ} {entry exit : List ℕ} → CallsUnder s p m numbers t (Ok u) entry exit
@@ -162,9 +162,9 @@ module _ (s : Settings) (mode : Mode) (o : Plan → ℕ → Assignment → Walk 
 
   at_the_floor : t.cost ≡ cost p (held p entry) → at_floor p (held p entry) ≡ true → Concludes walk p numbers t (held p entry) (answer_of code.Floor t (reached (held p entry)))
   unfolding ending_of
-  at_the_floor c h zero fs g n = ap (conclude p) (descending_none s p mode (o p) ns a (at t.used t.flips (a ∷ fs))) ∙ concluded p t a fs c n code.Floor
+  at_the_floor c h zero fs g n = ap (conclude p) (descending_none s p mode (o p) ns a (at t.spent.used t.spent.flips (a ∷ fs))) ∙ concluded p t a fs c n code.Floor
   at_the_floor c h (suc left) fs g n =
-      ap (conclude p) (descending_floor s p mode (o p) ns a (at t.used t.flips (a ∷ fs)) left h) ∙ concluded p t a fs c n code.Floor
+      ap (conclude p) (descending_floor s p mode (o p) ns a (at t.spent.used t.spent.flips (a ∷ fs)) left h) ∙ concluded p t a fs c n code.Floor
 
   module _ (w : T (obeys (held p entry) p)) (h : at_floor p (held p entry) ≡ false) {m : ℤ} (e : m ≡ bound_in mode (floor_cost p) (cost p (held p entry))) {u : Progress} {exit : List ℕ} where
     on_a_find : CallsUnder s p m numbers t (Ok u) entry exit → (r : Answer) → Concludes walk p numbers u (held p exit) r → Concludes walk p numbers t (held p entry) r
@@ -172,7 +172,7 @@ module _ (s : Settings) (mode : Mode) (o : Plan → ℕ → Assignment → Walk 
     on_a_find c r f zero fs g n = absurd (omega (arith, some_gap p a w h))
     on_a_find c r f (suc left) fs g n =
         let less = falls c (bound_under p a mode w h e) in
-        ap (conclude p) (descending_found s p mode (o p) ns a (at t.used t.flips (a ∷ fs)) left h (called_under c e (a ∷ fs)))
+        ap (conclude p) (descending_found s p mode (o p) ns a (at t.spent.used t.spent.flips (a ∷ fs)) left h (called_under c e (a ∷ fs)))
         ∙ f left (a ∷ fs) (omega arith) (omega (arith, c.find.0))
 
     -- What follows the first failure.
@@ -182,7 +182,7 @@ module _ (s : Settings) (mode : Mode) (o : Plan → ℕ → Assignment → Walk 
     on_a_failure c r f (suc left) fs g n =
         let same : held p exit ≡ a = ap (held p) c.find.1 in
         let l : Concludes o p numbers u a r = rw same at f in
-        ap (conclude p) (descending_failed s p mode (o p) ns a (at t.used t.flips (a ∷ fs)) left h (called_under c e (a ∷ fs)))
+        ap (conclude p) (descending_failed s p mode (o p) ns a (at t.spent.used t.spent.flips (a ∷ fs)) left h (called_under c e (a ∷ fs)))
         ∙ l (suc left) fs g (n ∙ sym c.find.0)
 
     where_short : CallsUnder s p m numbers t (Err (halt.Short u)) entry exit → Concludes walk p numbers t (held p entry) (answer_of code.ShortFound u (reached (held p exit)))
@@ -190,7 +190,7 @@ module _ (s : Settings) (mode : Mode) (o : Plan → ℕ → Assignment → Walk 
     where_short c zero fs g n = absurd (omega (arith, some_gap p a w h))
     where_short c (suc left) fs g n =
         let same : held p exit ≡ a = ap (held p) c.find.1 in
-        ap (conclude p) (descending_short s p mode (o p) ns a (at t.used t.flips (a ∷ fs)) left h (called_under c e (a ∷ fs)))
+        ap (conclude p) (descending_short s p mode (o p) ns a (at t.spent.used t.spent.flips (a ∷ fs)) left h (called_under c e (a ∷ fs)))
         ∙ rw same (concluded_short p u a fs (c.tracks.costs ∙ ap (cost p) same) (n ∙ sym c.find.0))
 
 -- ---- what has been done since the first find

@@ -41,9 +41,9 @@ pub record Tracks (p : Plan) (numbers assignment : List ℕ) (t : Progress) : Ty
   pub bits : T (are_bits p.variables assignment)
   pub obeyed : T (obeys (bits_of p.variables assignment) p)
   pub costs : t.cost ≡ cost p (bits_of p.variables assignment)
-  pub finds : t.finds ≤ t.used
-  pub flips : t.flips ≤ t.used
-  pub within : t.used ≤ length numbers / 4
+  pub finds : t.finds ≤ t.spent.used
+  pub flips : t.spent.flips ≤ t.spent.used
+  pub within : t.spent.used ≤ length numbers / 4
 
 -- All that the tightening writes besides the find: the tables' bound and the walk's buffers.
 pub record Room (p : Plan) (tables terms assignment : List ℕ) (w : Work) : Type 0 where
@@ -62,9 +62,9 @@ pub record Leaves (p : Plan) (tables terms tables' assignment assignment' : List
 
 -- What one call with the added clause comes to.
 unfoldable pub called_of : Result Progress Halt → Assignment → List Assignment → Outcome Reached
-called_of (Ok t) b fs = ends (reached b) (at t.used t.flips fs)
-called_of (Err (halt.Failed t)) b fs = ends failed (at t.used t.flips fs)
-called_of (Err (halt.Short t)) b fs = short (at t.used t.flips fs)
+called_of (Ok t) b fs = ends (reached b) (at t.spent.used t.spent.flips fs)
+called_of (Err (halt.Failed t)) b fs = ends failed (at t.spent.used t.spent.flips fs)
+called_of (Err (halt.Short t)) b fs = short (at t.spent.used t.spent.flips fs)
 
 unfoldable pub progress_in : Result Progress Halt → Progress
 progress_in (Ok t) = t
@@ -79,7 +79,7 @@ FindOr q finds entry exit (Err (halt.Short t)) = (t.finds ≡ finds) × (exit �
 
 pub record CallsUnder (s : Settings) (p : Plan) (m : ℤ) (numbers : List ℕ) (from : Progress) (r : Result Progress Halt) (entry exit : List ℕ) : Type 0 where
   pub outcome :
-      (fs : List Assignment) → run (call s (tightened p m)) (numbers_of numbers) (at from.used from.flips fs)
+      (fs : List Assignment) → run (call s (tightened p m)) (numbers_of numbers) (at from.spent.used from.spent.flips fs)
       ≡ called_of r (bits_of p.variables exit) fs
   pub find : FindOr (tightened p m) from.finds entry exit r
   pub tracks : Tracks p numbers exit (progress_in r)
@@ -95,13 +95,13 @@ ending_of code.ShortNone = short_none
 -- The answer that the code gives, with the assignment that it leaves.
 unfoldable pub answer_of : EndingOf → Progress → Reached → Answer
 answer_of e t b =
-    record { ending = ending_of e; cost = t.cost; finds = t.finds; flips = t.flips; used = t.used; assignment = b }
+    record { ending = ending_of e; cost = t.cost; finds = t.finds; flips = t.spent.flips; used = t.spent.used; assignment = b }
 
 -- Tightening from a find a, with so many finds before it in all, comes to an answer.
 abbrev pub Concludes : (Plan → ℕ → Assignment → Walk Ending) → Plan → List ℕ → Progress → Assignment → Answer → Type 0
 Concludes w p numbers t a r =
     (left : ℕ) (fs : List Assignment) → gap p a ≤ left → suc (length fs) ≡ t.finds
-    → conclude p (run (w p left a) (numbers_of numbers) (at t.used t.flips (a ∷ fs))) ≡ r
+    → conclude p (run (w p left a) (numbers_of numbers) (at t.spent.used t.spent.flips (a ∷ fs))) ≡ r
 
 -- A tightening in one mode from a find a, with b the last find: at the floor or short of numbers it comes to this answer whatever would follow
 -- its failure, and where it failed to what follows from there.

@@ -11,15 +11,15 @@ ghost use Rattle.progress.specs.Bounds.{StoppedAt};
 
 use costs::cost;
 use counting::tightening::{lbs_bound, linear_bound};
+use tries::Spent;
 use words::{copy, index};
 
-// How far a search has come after a find: what it costs, and how many finds and flips were made and numbers used.
+// How far a search has come after a find: what it costs, how many finds were made, and what is spent.
 #[derive(Clone, Copy, Debug, PartialEq, Eq)]
 pub struct Progress {
     pub cost: i64,
     pub finds: usize,
-    pub flips: usize,
-    pub used: usize,
+    pub spent: Spent,
 }
 
 // Why a tightening has no further find: a call with the added clause failed, or too few numbers were left; and how far the search has come.
@@ -53,7 +53,7 @@ pub fn keep_find(tables: &[u8], found: &[u8], assignment: &mut [u8]) -> i64
         ≡ take (word_at tables.now 0) found.now ++ drop (word_at tables.now 0) assignment.old) }
 {
     let n = index(tables, 0);
-    copy(found, assignment, n);
+    copy(&found[..n], assignment);
     cost(tables, found)
 }
 

@@ -12,7 +12,8 @@ use Rattle.search.proofs.Refusing.{accepted}
 use Rattle.figures.specs.declared.Figures.{Figures}
 use Rattle.figures.specs.Figures.{refused_with}
 use Rattle.runs.specs.Repeating.{Ready}
-use Rattle.trials.specs.Trials.{Trial, runs_refusal}
+use Rattle.trials.specs.declared.Trial.{Trial}
+use Rattle.trials.specs.Trials.{runs_refusal}
 use Rattle.trials.proofs.Refusing.{inside}
 use Rattle.reports.specs.Calls.{reported, zeroed, Reports}
 

@@ -15,10 +15,11 @@ use Rattle.xorwow.specs.declared.Xorwow.{Xorwow}
 use Rattle.xorwow.specs.Xorwow.{after}
 use Rattle.figures.specs.declared.Sums.{Sums}
 use Rattle.figures.specs.declared.Figures.{Figures}
-use Rattle.figures.specs.Figures.{sums_of, figures_by, figures_of}
+use Rattle.figures.specs.Figures.{figures_by, figures_of}
 use Rattle.figures.specs.Runs.{answers, numbers_size}
 use Rattle.runs.specs.Repeating.{AsBefore, plan_in, Repeats}
-use Rattle.trials.specs.Trials.{Trial, runs_refusal}
+use Rattle.trials.specs.declared.Trial.{Trial}
+use Rattle.trials.specs.Trials.{runs_refusal}
 use Rattle.reports.specs.Calls.{reported, zeroed, Reports}
 
 length_answers : (s : Settings) (p : Plan) (k runs : ℕ) (g : Xorwow) → length (answers s p k runs g) ≡ runs
@@ -30,15 +31,13 @@ length_answers s p k (suc runs) g = ap suc (length_answers s p k runs (after k g
 cleared_is : {n : ℕ} {s t u : List ℕ} → u ≡ replicate n 0 ++ drop n t → AsBefore n s t → u ≡ replicate n 0 ++ drop n s
 cleared_is {n} e a = e ∙ ap (λ r. replicate n 0 ++ r) a.beyond
 
-module _ (l : Lent) (t : Trial) (z : runs_refusal l t ≡ 0) {count runs wide : ℕ} (c : count ≡ t.count) (r : runs ≡ t.runs) (w : wide ≡ t.runs)
-    {s : Sums} {m : Lent} (h : Repeats l t.settings count runs t.state s m)
+module _ (l : Lent) (t : Trial) (z : runs_refusal l t ≡ 0) {wide : ℕ} (w : wide ≡ t.runs)
+    {s : Sums} {m : Lent} (h : Repeats l t.settings t.count t.runs t.state s m)
   where
     figures_is : {f : Figures} → f ≡ figures_by wide s → f ≡ figures_of (answers (settings_of t.settings) (plan_in l) t.count t.runs t.state)
     unfolding figures_of
     figures_is e =
-        e
-        ∙ ap₂ figures_by (w ∙ sym (length_answers (settings_of t.settings) (plan_in l) t.count t.runs t.state))
-        (h.sums ∙ ap₂ (λ k n. sums_of (answers (settings_of t.settings) (plan_in l) k n t.state)) c r)
+        e ∙ ap₂ figures_by (w ∙ sym (length_answers (settings_of t.settings) (plan_in l) t.count t.runs t.state)) h.sums
 
     pub reporting : {f : Figures} {numbers assignment work_tables work_terms work_assignment work_tallies work_marks : List ℕ}
         → f ≡ figures_by wide s

@@ -10,7 +10,8 @@ use Rattle.figures.specs.declared.Figures.{Figures}
 use Rattle.figures.specs.Figures.{figures_of, refused_with}
 use Rattle.figures.specs.Runs.{answers, numbers_size}
 use Rattle.runs.specs.Repeating.{plan_in}
-use Rattle.trials.specs.Trials.{Trial, runs_refusal}
+use Rattle.trials.specs.declared.Trial.{Trial}
+use Rattle.trials.specs.Trials.{runs_refusal}
 
 -- What is reported.
 unfoldable pub reported : Lent → Trial → Figures

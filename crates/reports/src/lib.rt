@@ -1,48 +1,22 @@
 // Figures over many runs: what is lent and asked is tested once, the runs are made, and every buffer lent for writing is cleared.
+// The buffers to write come one by one: one is read while another is written, which a struct of them would not let be proved.
 #![tactic(auto)]
 
-ghost use Rattle.std.specs.Prelude.{◌≡◌, ◌++◌, ◌≤◌, length, drop, replicate};
+ghost use Rattle.std.specs.Prelude.{◌≡◌};
 ghost use Rattle.lending.specs.Lent.{lent_all};
-ghost use Rattle.trials.specs.Trials.{runs_refusal, trial};
+ghost use Rattle.trials.specs.Trials.{runs_refusal};
 ghost use Rattle.reports.specs.Calls.{Reports};
 
 use figures::{Figures, figures_of, refused};
-use lending::clear_work;
+use lending::{Lent, clear_first, clear_work};
 use runs::repeat_runs;
-use settings::Settings;
-use trials::runs_refusal;
-use words::clear;
-use xorwow::Xorwow;
+use trials::{Trial, runs_refusal};
 
-// Fills the first n bytes with 0.
-fn clear_front(s: &mut [u8], n: usize)
-    requires { n ≤ length s.old }
-    ensures { s.new ≡ replicate n 0 ++ drop n s.old }
-{
-    clear(&mut s[..n]);
-}
-
-// A number as a count, and as a denominator.
-fn counted(n: u32) -> usize
-    ensures { result ≡ n }
-{
-    n as usize
-}
-
-fn wide(n: u32) -> u64
-    ensures { result ≡ n }
-{
-    n as u64
-}
-
-// The runs of what passed its tests.
+// The runs of what passed its tests. How many numbers a run takes stands beside them, because what stands behind those in the buffer is lent too.
 fn reported(
     tables: &[u8],
     terms: &[u8],
-    g: Xorwow,
-    runs: u32,
-    count: u32,
-    s: Settings,
+    t: Trial,
     numbers: &mut [u8],
     assignment: &mut [u8],
     work_tables: &mut [u8],
@@ -53,21 +27,21 @@ fn reported(
 ) -> Figures
     requires { runs_refusal
         (lent_all tables.now terms.now numbers.old assignment.old work_tables.old work_terms.old work_assignment.old
-        work_tallies.old work_marks.old) (trial s g runs count) ≡ 0 }
+        work_tallies.old work_marks.old) t ≡ 0 }
     ensures { Reports
         (lent_all tables.now terms.now numbers.old assignment.old work_tables.old
         work_terms.old work_assignment.old work_tallies.old work_marks.old)
-        (trial s g runs count) result
+        t result
         (lent_all tables.now terms.now numbers.new assignment.new work_tables.new
         work_terms.new work_assignment.new work_tallies.new work_marks.new) }
 {
     let sums = repeat_runs(
         tables,
         terms,
-        g,
-        counted(runs),
-        counted(count),
-        s,
+        t.state,
+        t.runs as usize,
+        t.count as usize,
+        t.settings,
         numbers,
         assignment,
         work_tables,
@@ -76,8 +50,8 @@ fn reported(
         work_tallies,
         work_marks,
     );
-    clear_front(numbers, trials::NUMBERS);
-    clear_front(assignment, format::ASSIGNMENT);
+    clear_first(numbers, trials::NUMBERS);
+    clear_first(assignment, format::ASSIGNMENT);
     clear_work(
         work_tables,
         work_terms,
@@ -85,17 +59,14 @@ fn reported(
         work_tallies,
         work_marks,
     );
-    figures_of(wide(runs), sums)
+    figures_of(u64::from(t.runs), sums)
 }
 
 // The refusal is a number, as C sees it among the figures.
 pub fn report(
     tables: &[u8],
     terms: &[u8],
-    g: Xorwow,
-    runs: u32,
-    count: u32,
-    s: Settings,
+    t: Trial,
     numbers: &mut [u8],
     assignment: &mut [u8],
     work_tables: &mut [u8],
@@ -107,17 +78,13 @@ pub fn report(
     ensures { Reports
         (lent_all tables.now terms.now numbers.old assignment.old work_tables.old
         work_terms.old work_assignment.old work_tallies.old work_marks.old)
-        (trial s g runs count) result
+        t result
         (lent_all tables.now terms.now numbers.new assignment.new work_tables.new
         work_terms.new work_assignment.new work_tallies.new work_marks.new) }
 {
-    let refusal = runs_refusal(
+    let lent = Lent {
         tables,
         terms,
-        g,
-        runs,
-        count,
-        s,
         numbers,
         assignment,
         work_tables,
@@ -125,17 +92,15 @@ pub fn report(
         work_assignment,
         work_tallies,
         work_marks,
-    );
+    };
+    let refusal = runs_refusal(&lent, t);
     if refusal != 0 {
         return refused(refusal);
     }
     reported(
         tables,
         terms,
-        g,
-        runs,
-        count,
-        s,
+        t,
         numbers,
         assignment,
         work_tables,

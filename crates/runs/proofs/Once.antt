@@ -1,18 +1,17 @@
 -- One run: what is read of the numbers just written, what the search of them adds, and what it leaves as it was.
 -- Assumes nothing.
-use Prim.Native.Nat.{ℕ, zero, suc, ◌+◌, ◌*◌, ◌-◌, ◌/◌, ◌≤◌, ◌<◌}
+use Prim.Native.Nat.{ℕ, ◌+◌, ◌*◌, ◌-◌, ◌/◌, ◌≤◌, ◌<◌}
 use native.Mathlib.Omega.{arith}
 use mathlib.Core.Path.{◌≡◌, refl, sym, ap, ◌∙◌, subst}
 use mathlib.Core.List.{List, [], ◌++◌, append-nil}
 use lib.Dec.{T}
-use lib.IntN.{ℤ, nat_abs}
-use lib.ListN.{length, get_or, take, drop, length-take}
+use lib.IntN.{nat_abs}
+use lib.ListN.{length, take, drop}
 use lib.Seq.{take_at, drop_at, ext_get_or}
 use mir.Facts.{to_z-of_z}
 use mir.Syntax.{w64}
 use mir.Val.{to_z, of_z}
 use Rattle.plpb.specs.Plan.{Plan, Assignment}
-use Rattle.plpb.specs.Settings.{Settings}
 use Rattle.plpb.specs.Search.{Reached, failed, reached, cost_of, search}
 use Rattle.plpb.proofs.Soundness.{search_sound, search_flips, search_used}
 use Rattle.words.specs.Words.{word_bytes, word_at}
@@ -21,7 +20,7 @@ use Rattle.words.proofs.Words.{Below, length_word_bytes, word_at_word_bytes}
 use Rattle.words.proofs.Writes.{drop_put}
 use Rattle.format.specs.Assignment.{assignment_size, bit_bytes, bits_of}
 use Rattle.format.specs.Limits.{lawful}
-use Rattle.columns.specs.Layout.{column_size, kept_size}
+use Rattle.columns.specs.Layout.{column_size}
 use Rattle.format.specs.Tables.{plan_of_tables, is_loaded}
 use Rattle.format.proofs.Lawful.{plan_parts, lawful_roomy}
 use Rattle.format.proofs.IsLoaded.{is_loaded_lawful}
@@ -35,16 +34,15 @@ use Rattle.progress.specs.declared.Searched.{Searched}
 use Rattle.progress.specs.Bounds.{answer_of}
 use Rattle.settings.specs.declared.Settings.{Settings as Asked}
 use Rattle.settings.specs.Settings.{settings_of}
-use Rattle.lending.specs.Work.{Work, work}
-use Rattle.lending.specs.Lent.{Lent}
-use Rattle.finds.specs.Whole.{with_find, Searchable, Whole}
+use Rattle.lending.specs.Work.{Work}
+use Rattle.finds.specs.Whole.{with_find, Whole}
 use Rattle.xorwow.specs.declared.Xorwow.{Xorwow}
 use Rattle.xorwow.specs.Xorwow.{stream}
 use Rattle.xorwow.proofs.Stream.{length_stream, stream_below}
 use Rattle.figures.specs.declared.Sums.{Sums}
 use Rattle.figures.specs.Figures.{plus, plus_run}
 use Rattle.figures.specs.Runs.{numbers_size}
-use Rattle.runs.specs.Repeating.{AsBefore, plan_in}
+use Rattle.runs.specs.Repeating.{AsBefore}
 
 -- ---- bytes past a place
 
@@ -98,7 +96,7 @@ module _ (tables terms numbers : List ℕ) (k : Asked) (count : ℕ) (g : Xorwow
     few_here : p.variables ≤ 512
     few_here = (plan_parts p lawful_here).high
 
-    flips_is : (search (settings_of k) p (numbers_of numbers)).flips ≡ r.progress.flips
+    flips_is : (search (settings_of k) p (numbers_of numbers)).flips ≡ r.progress.spent.flips
     unfolding answer_of
     flips_is = ap (λ x. x.flips) h.answers
 
@@ -110,7 +108,7 @@ module _ (tables terms numbers : List ℕ) (k : Asked) (count : ℕ) (g : Xorwow
     unfolding answer_of
     finds_is = ap (λ x. x.finds) h.answers
 
-    pub flips_few : r.progress.flips ≤ 16_384
+    pub flips_few : r.progress.spent.flips ≤ 16_384
     flips_few =
         let ns = numbers_of numbers in
         omega (arith, search_flips (settings_of k) p ns, search_used (settings_of k) p ns, ap length read, length_stream count g, flips_is)
@@ -126,10 +124,10 @@ module _ (tables terms numbers : List ℕ) (k : Asked) (count : ℕ) (g : Xorwow
     pub cost_small : nat_abs (to_z w64 (of_z w64 r.progress.cost)) ≤ 512_000_000
     cost_small = rw held cost_few
 
-    pub run_added : (s : Sums) {t : Sums} → t ≡ plus s r.progress.finds r.progress.flips (to_z w64 (of_z w64 r.progress.cost))
+    pub run_added : (s : Sums) {t : Sums} → t ≡ plus s r.progress.finds r.progress.spent.flips (to_z w64 (of_z w64 r.progress.cost))
         → t ≡ plus_run s (search (settings_of k) p (stream count g))
     run_added s e =
-        e ∙ ap (plus s r.progress.finds r.progress.flips) held
+        e ∙ ap (plus s r.progress.finds r.progress.spent.flips) held
         ∙ rw (sym flips_is, sym cost_is, sym finds_is) (ap (λ ns. plus_run s (search (settings_of k) p ns)) read)
 
     -- ---- and what it leaves as it was

@@ -3,20 +3,15 @@
 use Prim.Native.Nat.{ℕ, zero, suc, ◌+◌, ◌-◌, ◌≤◌, ◌<◌}
 use native.Mathlib.Omega.{arith}
 use mathlib.Core.Path.{◌≡◌, refl, sym, ap, ap₂, ◌∙◌, subst}
-use mathlib.Core.List.{List, []}
+use mathlib.Core.List.{List}
 use lib.Dec.{T}
 use lib.IntN.{nat_abs}
-use lib.ListN.{length}
 use Rattle.plpb.specs.Plan.{Plan}
 use Rattle.plpb.specs.Settings.{Settings}
 use Rattle.plpb.specs.Search.{search}
 use Rattle.plpb.proofs.Soundness.{search_sound, search_flips, search_used}
 use Rattle.format.specs.Limits.{lawful}
-use Rattle.format.proofs.IsLoaded.{is_loaded_lawful}
-use Rattle.settings.specs.declared.Settings.{Settings as Asked}
-use Rattle.settings.specs.Settings.{settings_of}
 use Rattle.lending.specs.Lent.{Lent}
-use Rattle.finds.specs.Whole.{Searchable, Roomy}
 use Rattle.xorwow.specs.declared.Xorwow.{Xorwow}
 use Rattle.xorwow.specs.Xorwow.{stream, after}
 use Rattle.xorwow.proofs.Stream.{length_stream}
@@ -25,7 +20,7 @@ use Rattle.figures.specs.Figures.{AtMost, plus_run}
 use Rattle.figures.specs.Runs.{answers}
 use Rattle.figures.proofs.Adding.{plus_most, most_more, total}
 use Rattle.runs.specs.declared.Ran.{Ran}
-use Rattle.runs.specs.Repeating.{Ready, AsBefore, WithinLimits, plan_in, RunsOnce}
+use Rattle.runs.specs.Repeating.{Ready, AsBefore, WithinLimits}
 use Rattle.runs.proofs.Once.{cost_bounded}
 
 -- ---- the buffers

@@ -1,4 +1,5 @@
 // Runs of the search in a row, each over the next numbers of the generator. One run's numbers are written over those of the run before it.
+// The buffers to write come one by one: one is read while another is written, which a struct of them would not let be proved.
 #![tactic(auto)]
 
 ghost use Rattle.std.specs.Prelude.{◌≤◌};
@@ -18,7 +19,7 @@ pub struct Ran {
     pub sums: Sums,
 }
 
-// One run more.
+// One run more. How many numbers it takes stands beside them, because what stands behind those in the buffer is lent too.
 fn run_once(
     tables: &[u8],
     terms: &[u8],
@@ -58,7 +59,7 @@ fn run_once(
         work_marks,
     );
     let p = r.progress;
-    let sums = add(from.sums, p.finds as u64, p.flips as u64, p.cost);
+    let sums = add(from.sums, p.finds as u64, p.spent.flips as u64, p.cost);
     Ran { state, sums }
 }
 

@@ -89,7 +89,7 @@ module _ (l : Lent) (k : Asked) (z : search_refusal l k ≡ 0) {r : Searched} {e
         → c ≡ replicate assignment_size 0 ++ drop assignment_size v.assignment
         → d ≡ replicate kept_size 0 ++ drop kept_size v.tallies
         → m ≡ replicate column_size 0 ++ drop column_size v.marks
-        → Searches l k (record { refusal = 0; ending = n; cost = to_z w64 (of_z w64 r.progress.cost); finds = r.progress.finds; flips = r.progress.flips; used = r.progress.used })
+        → Searches l k (record { refusal = 0; ending = n; cost = to_z w64 (of_z w64 r.progress.cost); finds = r.progress.finds; flips = r.progress.spent.flips; used = r.progress.spent.used })
         (record {
           tables = l.tables;
           terms = l.terms;
@@ -118,6 +118,6 @@ module _ (l : Lent) (k : Asked) (z : search_refusal l k ≡ 0) {r : Searched} {e
           work_marks = rw z (em ∙ ap (λ s. replicate column_size 0 ++ s) h.beyond.marks);
         }
 
-    pub hands : HandsOut l (record { refusal = 0; ending = n; cost = to_z w64 (of_z w64 r.progress.cost); finds = r.progress.finds; flips = r.progress.flips; used = r.progress.used }) exit
+    pub hands : HandsOut l (record { refusal = 0; ending = n; cost = to_z w64 (of_z w64 r.progress.cost); finds = r.progress.finds; flips = r.progress.spent.flips; used = r.progress.spent.used }) exit
     unfolding HandsOut
     hands t = let o = handed_out h (subst (λ x. T (has_plan x)) e t) in (o.0, o.1, to_z-of_z f ∙ o.2)

@@ -1,4 +1,5 @@
 // The search with its tests: what is lent and set is tested, the plan is searched, the work tables are cleared.
+// The buffers to write come one by one: one is read while another is written, which a struct of them would not let be proved.
 #![tactic(auto)]
 
 ghost use Rattle.std.specs.Prelude.{◌≡◌};
@@ -7,11 +8,12 @@ ghost use Rattle.search.specs.Calls.{ending_number, Searches, HandsOut};
 ghost use Rattle.lending.specs.Lent.{lent_all, search_refusal};
 
 use answers::Answer;
-use lending::{clear_work, search_refusal};
+use lending::{Lent, clear_work};
 use progress::Ending;
 use settings::Settings;
 use walk::search_core;
 
+// The number that C sees of an ending.
 fn number_of(ending: Ending) -> u32
     ensures { result ≡ ending_number (ending_of ending) }
 {
@@ -70,8 +72,8 @@ fn searched(
         ending: number_of(ending),
         cost: r.progress.cost,
         finds: r.progress.finds,
-        flips: r.progress.flips,
-        used: r.progress.used,
+        flips: r.progress.spent.flips,
+        used: r.progress.spent.used,
     }
 }
 
@@ -98,18 +100,18 @@ pub fn search(
         work_terms.old work_assignment.old work_tallies.old work_marks.old) result
         assignment.new }
 {
-    let refusal = search_refusal(
+    let lent = Lent {
         tables,
         terms,
         numbers,
-        s,
         assignment,
         work_tables,
         work_terms,
         work_assignment,
         work_tallies,
         work_marks,
-    );
+    };
+    let refusal = lent.refusal(s);
     if refusal != 0 {
         return Answer {
             refusal,

@@ -1,4 +1,6 @@
 // The tightening (paper 000): calls with the added last clause O ≤ m, each find below the one before it.
+// The buffers to write come one by one: one is read while another is written, which a struct of them would not let be proved.
+// The numbers and the settings stay two: a struct of them would be made at the top only to be taken apart at the bottom.
 #![tactic(auto)]
 
 ghost use Rattle.std.specs.Prelude.{◌≡◌, ◌≤◌};

@@ -15,7 +15,8 @@ use Rattle.format.specs.File.{refuse}
 use Rattle.lending.specs.Lent.{Lent, search_refusal}
 use Rattle.xorwow.specs.declared.Xorwow.{Xorwow}
 use Rattle.figures.specs.Runs.{numbers_size}
-use Rattle.trials.specs.Trials.{Trial, all_zero, outside, runs_refusal}
+use Rattle.trials.specs.declared.Trial.{Trial}
+use Rattle.trials.specs.Trials.{all_zero, outside, runs_refusal}
 
 -- ---- the tests
 

@@ -7,14 +7,9 @@ use Rattle.settings.specs.declared.Settings.{Settings as Asked}
 use Rattle.lending.specs.Lent.{Lent, search_refusal}
 use Rattle.xorwow.specs.declared.Xorwow.{Xorwow}
 use Rattle.figures.specs.Runs.{numbers_size}
+use Rattle.trials.specs.declared.Trial.{Trial}
 
 -- "The caller gives x, y, z, w, v and the counter", the settings, how many runs, and how many numbers each takes.
-pub record Trial : Type 0 where
-  pub settings : Asked
-  pub state : Xorwow
-  pub runs : ℕ
-  pub count : ℕ
-
 abbrev pub trial : Asked → Xorwow → ℕ → ℕ → Trial
 trial settings state runs count = record { settings = settings; state = state; runs = runs; count = count }
 

@@ -2,12 +2,21 @@
 #![tactic(auto)]
 
 ghost use Rattle.std.specs.Prelude.{◌≡◌};
-ghost use Rattle.lending.specs.Lent.{lent_all};
-ghost use Rattle.trials.specs.Trials.{all_zero, outside, runs_refusal, trial};
+ghost use Rattle.lending.specs.Lent.{lent_in};
+ghost use Rattle.trials.specs.Trials.{all_zero, outside, runs_refusal};
 
-use lending::search_refusal;
+use lending::Lent;
 use settings::Settings;
 use xorwow::Xorwow;
+
+// What many runs are asked for: how each search is set, the state of the generator, how many runs, and how many numbers each takes.
+#[derive(Clone, Copy)]
+pub struct Trial {
+    pub settings: Settings,
+    pub state: Xorwow,
+    pub runs: u32,
+    pub count: u32,
+}
 
 // The bytes of the most numbers that a run takes.
 pub const NUMBERS: usize = 65536;
@@ -27,48 +36,20 @@ fn is_outside(most: u32, n: u32) -> bool
 }
 
 // The first refusal, 0 for none: the number that C sees of it.
-pub fn runs_refusal(
-    tables: &[u8],
-    terms: &[u8],
-    g: Xorwow,
-    runs: u32,
-    count: u32,
-    s: Settings,
-    numbers: &[u8],
-    assignment: &[u8],
-    work_tables: &[u8],
-    work_terms: &[u8],
-    work_assignment: &[u8],
-    work_tallies: &[u8],
-    work_marks: &[u8],
-) -> u32
-    ensures { result
-        ≡ runs_refusal
-        (lent_all tables.now terms.now numbers.now assignment.now work_tables.now
-        work_terms.now work_assignment.now work_tallies.now work_marks.now) (trial s g runs count) }
+pub fn runs_refusal(lent: &Lent<'_>, t: Trial) -> u32
+    ensures { result ≡ runs_refusal (lent_in lent.now) t }
 {
-    if all_zero(g) {
+    if all_zero(t.state) {
         return 41;
     }
-    if is_outside(1000, runs) {
+    if is_outside(1000, t.runs) {
         return 42;
     }
-    if is_outside(16384, count) {
+    if is_outside(16384, t.count) {
         return 43;
     }
-    if numbers.len() < NUMBERS {
+    if lent.numbers.len() < NUMBERS {
         return 21;
     }
-    search_refusal(
-        tables,
-        terms,
-        numbers,
-        s,
-        assignment,
-        work_tables,
-        work_terms,
-        work_assignment,
-        work_tallies,
-        work_marks,
-    )
+    lent.refusal(t.settings)
 }

@@ -3,17 +3,17 @@ use Prim.Native.Nat.{ℕ, suc, ◌+◌, ◌-◌, ◌/◌, ◌≤◌, ◌<◌}
 use native.Mathlib.Nat.{sub-zero}
 use native.Mathlib.Omega.{arith}
 use mathlib.Core.Path.{◌≡◌, refl, sym, ap, ap₂, ◌∙◌, subst}
-use mathlib.Core.Bool.{Bool, true, false, cond, true≢false}
+use mathlib.Core.Bool.{Bool, true, false, cond}
 use mathlib.Core.Logic.{◌≢◌}
-use mathlib.Core.List.{List, [], ◌∷◌, ◌++◌}
+use mathlib.Core.List.{List, [], ◌++◌}
 use lib.Dec.{leb, eqb}
 use lib.ListN.{length, take, drop}
 use borrow.Author.Tests.{eq-eqb, ne_eqb}
 use Rattle.plpb.specs.Plan.{Plan, Assignment, hold, satisfies}
 use Rattle.plpb.proofs.Locks.{length_hold}
 use Rattle.plpb.specs.Tallies.{fresh_count}
-use Rattle.plpb.specs.Numbers.{Taken, taken, too_few, take_words, start_words, start_of}
-use Rattle.plpb.specs.Walk.{Walk, at, ends, short, run}
+use Rattle.plpb.specs.Numbers.{taken, too_few, take_words, start_words, start_of}
+use Rattle.plpb.specs.Walk.{Walk, at, short, run}
 use Rattle.plpb.specs.Settings.{Settings}
 use Rattle.plpb.specs.Try.{begun as beginning}
 use Rattle.plpb.specs.Search.{Reached, flipping, try, trying, call}
@@ -37,7 +37,7 @@ use Rattle.tries.specs.declared.Unreached.{Unreached}
 use Rattle.tries.specs.declared.Unreached.TheVariants as unreached
 use Rattle.lending.specs.Work.{Work, Beyond}
 use Rattle.moves.specs.Moves.{bits_in, try_in, Prepared, Walking, moved_of, used_in, IfMade, Moves}
-use Rattle.tries.specs.Steps.{Startable, tried_of, stopped_at, spent_by, used_by, flips_by, IfReached, Tries}
+use Rattle.tries.specs.Steps.{Startable, tried_of, stopped_at, spent_by, IfReached, Tries}
 use Rattle.moves.proofs.Moving.{unsatisfied_word}
 use Rattle.format.specs.Layout.{table_size, unsatisfied_at, mark_size}
 use Rattle.stamps.specs.Stamps.{Stamped, unstamped}

@@ -1,9 +1,11 @@
 // One call of the walk (Algorithm 1): tries, each with its start and its flips.
+// The buffers to write come one by one: one is read while another is written, which a struct of them would not let be proved.
+// So do the numbers, what is spent of them and the settings: each turn goes on from what the one before it has spent.
 #![tactic(auto)]
 
 ghost use Rattle.std.specs.Prelude.{◌≡◌, [], ◌+◌, ◌/◌, ◌≤◌, length};
 ghost use Rattle.plpb.specs.Search.{flipping, try, call as called};
-ghost use Rattle.format.specs.Tables.{plan_of_tables};
+ghost use Rattle.recount.specs.Plans.{plan};
 ghost use Rattle.settings.specs.Settings.{settings_of};
 ghost use Rattle.tries.specs.Steps.{Startable, Tries, stopped_at};
 ghost use Rattle.moves.specs.Moves.{Prepared, Walking, try_in};
@@ -15,6 +17,7 @@ use locks::hold_locks;
 use moves::{Unmoved, make_move};
 use numbers::start;
 use preparing::prepare;
+use recount::tables::Tables;
 use settings::Settings;
 use stamps::clear_stamps;
 use words::{index, word};
@@ -45,8 +48,7 @@ fn stopped(why: Unmoved, flips: usize) -> Unreached
 
 // "for each of the allowed flips: if no clause is unsatisfied, return; .. flip". No variable is stamped at first.
 fn make_flips(
-    tables: &[u8],
-    terms: &[u8],
+    t: &Tables<'_>,
     numbers: &[u8],
     begun: Spent,
     s: Settings,
@@ -54,12 +56,12 @@ fn make_flips(
     tallies: &mut [u8],
     marks: &mut [u8],
 ) -> Result<Spent, Unreached>
-    requires { Walking tables.now terms.now (work assignment.old tallies.old marks.old) × (begun.used ≤ length numbers.now / 4)
-        × (begun.flips ≤ begun.used) × Stamped (plan_of_tables tables.now terms.now).variables [] marks.old }
+    requires { Walking t.now.tables.now t.now.terms.now (work assignment.old tallies.old marks.old) × (begun.used ≤ length numbers.now / 4)
+        × (begun.flips ≤ begun.used) × Stamped (plan t.now).variables [] marks.old }
     ensures { Tries
-        (flipping (settings_of s) (plan_of_tables tables.now terms.now) s.flips
-        (try_in tables.now terms.now [] (work assignment.old tallies.old marks.old)))
-        tables.now terms.now numbers.now begun.used begun.flips begun.used result
+        (flipping (settings_of s) (plan t.now) s.flips
+        (try_in t.now.tables.now t.now.terms.now [] (work assignment.old tallies.old marks.old)))
+        t.now.tables.now t.now.terms.now numbers.now begun.used begun.flips begun.used result
         (work assignment.old tallies.old marks.old)
         (work assignment.new tallies.new marks.new) }
 {
@@ -68,9 +70,7 @@ fn make_flips(
         if word(tallies, format::UNSATISFIED) == 0 {
             return Ok(spent);
         }
-        match make_move(
-            tables, terms, numbers, spent.used, s, turn, assignment, tallies, marks,
-        ) {
+        match make_move(t, numbers, spent.used, s, turn, assignment, tallies, marks) {
             Ok(used) => {
                 spent = Spent {
                     used,
@@ -85,8 +85,7 @@ fn make_flips(
 
 // One try: its start, in which locked variables take their value, the tallies of that, no flip of any variable yet, its flips.
 fn try_once(
-    tables: &[u8],
-    terms: &[u8],
+    t: &Tables<'_>,
     numbers: &[u8],
     begun: Spent,
     s: Settings,
@@ -94,23 +93,22 @@ fn try_once(
     tallies: &mut [u8],
     marks: &mut [u8],
 ) -> Result<Spent, Unreached>
-    requires { Startable tables.now terms.now (work assignment.old tallies.old marks.old) × (begun.used ≤ length numbers.now / 4)
-        × (begun.flips ≤ begun.used) × Prepared tables.now terms.now (work assignment.old tallies.old marks.old) }
-    ensures { Tries (try (settings_of s) (plan_of_tables tables.now terms.now)) tables.now terms.now
+    requires { Startable t.now.tables.now t.now.terms.now (work assignment.old tallies.old marks.old) × (begun.used ≤ length numbers.now / 4)
+        × (begun.flips ≤ begun.used) × Prepared t.now.tables.now t.now.terms.now (work assignment.old tallies.old marks.old) }
+    ensures { Tries (try (settings_of s) (plan t.now)) t.now.tables.now t.now.terms.now
         numbers.now begun.used begun.flips (begun.used + 1) result (work assignment.old tallies.old marks.old)
         (work assignment.new tallies.new marks.new) }
 {
-    let n = index(tables, 0);
+    let n = index(t.tables, 0);
     let Ok(used) = start(numbers, begun.used, n, assignment) else {
         return Err(Unreached::Short(begun));
     };
-    hold_locks(tables, n, assignment);
-    open_kept(tables, terms, assignment, tallies);
+    hold_locks(t.tables, n, assignment);
+    open_kept(t, assignment, tallies);
     clear_stamps(marks);
     let flips = begun.flips;
     make_flips(
-        tables,
-        terms,
+        t,
         numbers,
         Spent { used, flips },
         s,
@@ -122,8 +120,7 @@ fn try_once(
 
 // Tries until one reaches an assignment that satisfies the plan.
 fn make_tries(
-    tables: &[u8],
-    terms: &[u8],
+    t: &Tables<'_>,
     numbers: &[u8],
     begun: Spent,
     s: Settings,
@@ -131,15 +128,15 @@ fn make_tries(
     tallies: &mut [u8],
     marks: &mut [u8],
 ) -> Result<Spent, Unreached>
-    requires { Startable tables.now terms.now (work assignment.old tallies.old marks.old) × (begun.used ≤ length numbers.now / 4)
-        × (begun.flips ≤ begun.used) × Prepared tables.now terms.now (work assignment.old tallies.old marks.old) }
-    ensures { Tries (called (settings_of s) (plan_of_tables tables.now terms.now)) tables.now terms.now
+    requires { Startable t.now.tables.now t.now.terms.now (work assignment.old tallies.old marks.old) × (begun.used ≤ length numbers.now / 4)
+        × (begun.flips ≤ begun.used) × Prepared t.now.tables.now t.now.terms.now (work assignment.old tallies.old marks.old) }
+    ensures { Tries (called (settings_of s) (plan t.now)) t.now.tables.now t.now.terms.now
         numbers.now begun.used begun.flips (begun.used + 1) result (work assignment.old tallies.old marks.old)
         (work assignment.new tallies.new marks.new) }
 {
     let mut spent = begun;
     for _try in 0..s.tries {
-        match try_once(tables, terms, numbers, spent, s, assignment, tallies, marks) {
+        match try_once(t, numbers, spent, s, assignment, tallies, marks) {
             Ok(found) => return Ok(found),
             Err(Unreached::Short(gone)) => return Err(Unreached::Short(gone)),
             Err(Unreached::Failed(after)) => spent = after,
@@ -150,8 +147,7 @@ fn make_tries(
 
 // One call. What is kept of the plan is worked out at its beginning, because the tables may have another last clause than at the call before.
 pub fn call(
-    tables: &[u8],
-    terms: &[u8],
+    t: &Tables<'_>,
     numbers: &[u8],
     begun: Spent,
     s: Settings,
@@ -159,12 +155,12 @@ pub fn call(
     tallies: &mut [u8],
     marks: &mut [u8],
 ) -> Result<Spent, Unreached>
-    requires { Startable tables.now terms.now (work assignment.old tallies.old marks.old) × (begun.used ≤ length numbers.now / 4)
+    requires { Startable t.now.tables.now t.now.terms.now (work assignment.old tallies.old marks.old) × (begun.used ≤ length numbers.now / 4)
         × (begun.flips ≤ begun.used) }
-    ensures { Tries (called (settings_of s) (plan_of_tables tables.now terms.now)) tables.now terms.now
+    ensures { Tries (called (settings_of s) (plan t.now)) t.now.tables.now t.now.terms.now
         numbers.now begun.used begun.flips (begun.used + 1) result (work assignment.old tallies.old marks.old)
         (work assignment.new tallies.new marks.new) }
 {
-    prepare(tables, terms, tallies, marks);
-    make_tries(tables, terms, numbers, begun, s, assignment, tallies, marks)
+    prepare(t, tallies, marks);
+    make_tries(t, numbers, begun, s, assignment, tallies, marks)
 }

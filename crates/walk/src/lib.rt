@@ -1,4 +1,6 @@
 // The search of tables that are known to fit: the first call with the plan alone, then the tightening.
+// The buffers to write come one by one: one is read while another is written, which a struct of them would not let be proved.
+// The numbers and the settings stay two: a struct of them would be made at the top only to be taken apart at the bottom.
 #![tactic(auto)]
 
 ghost use Rattle.std.specs.Prelude.{◌≡◌, drop};
@@ -37,7 +39,7 @@ fn from_call(
         Ok(spent) => from_find(
             numbers, s, spent, assignment, tables, terms, tried, tallies, marks,
         ),
-        Err(why) => nothing(why),
+        Err(_) => nothing(t),
     }
 }
 

@@ -11,6 +11,9 @@ pub set_bound-requires : goal.set_bound-requires
 set_bound-requires c =
     (bounded_long c.requires.0.bounded, bounded_rules c.requires.0.bounded, rw (to_z-of_z c.ranges.bound) c.requires.2)
 
+pub invariant_of-t : goal.invariant_of-t
+invariant_of-t c = record { laid = (under_startable c.requires.0 c.args.bound c.requires.2 c.set_bound.ensures).ready.laid }
+
 pub call-requires : goal.call-requires
 call-requires c = (
   under_startable c.requires.0 c.args.bound c.requires.2 c.set_bound.ensures,

@@ -1,5 +1,4 @@
 -- The goals that the search leaves.
-use mathlib.Core.Path.{◌∙◌}
 use Rattle.progress.proofs.Concluding.{cost_low, floor_low, test_above, test_floor, bound_read, bound_small, since_first, room_here, tracks_here, descent_ends, descent_falls, descent_again, descent_stops, handed_on}
 use Rattle.descent.proofs.descend.Goals as goal
 

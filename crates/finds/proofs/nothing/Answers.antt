@@ -1,12 +1,12 @@
 -- `nothing` meets its contract, case by case.
 -- Assumes nothing.
+use mathlib.Core.Path.{subst, sym}
 use Rattle.finds.specs.Whole.{Empty}
 use Rattle.finds.proofs.nothing.Goals as goal
 
-pub returns-in-Failed : goal.returns-in-Failed
+pub returns-in-Ok : goal.returns-in-Ok
 unfolding Empty
-returns-in-Failed c = rw c.in-Failed.is c.empty.ensures
+returns-in-Ok c = rw c.in-Ok.is c.empty.ensures
 
-pub returns-in-Short : goal.returns-in-Short
-unfolding Empty
-returns-in-Short c = rw c.in-Short.is c.empty-in-Short.ensures
+pub returns-in-Err : goal.returns-in-Err
+returns-in-Err c = subst (λ x. Empty x c.without.result) (sym c.in-Err.is) c.without.ensures

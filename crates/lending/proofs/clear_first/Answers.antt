@@ -1,6 +1,6 @@
 -- `clear_first` meets its contract: the bytes lent out are as many as are cleared.
 -- Assumes nothing.
-use mathlib.Core.Path.{sym, ap, ◌∙◌}
+use mathlib.Core.Path.{ap, ◌∙◌}
 use mathlib.Core.List.{◌++◌}
 use lib.ListN.{drop, replicate}
 use lib.Seq.{length-take-le}

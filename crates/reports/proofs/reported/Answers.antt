@@ -9,15 +9,15 @@ use Rattle.reports.proofs.reported.Goals as goal
 pub repeat_runs-sums-requires : goal.repeat_runs-sums-requires
 repeat_runs-sums-requires c =
     let p = passed _ _ c.requires in
-    (p.ready, omega (arith, p.few, c.counted.ensures), omega (arith, p.short, c.counted-2.ensures))
+    (p.ready, omega (arith, p.few), omega (arith, p.short))
 
-pub clear_front-requires : goal.clear_front-requires
-clear_front-requires c =
+pub clear_first-requires : goal.clear_first-requires
+clear_first-requires c =
     let p = passed _ _ c.requires in
     omega (arith, p.ready.numbers, c.numbers-1.given)
 
-pub clear_front-requires-2 : goal.clear_front-requires-2
-clear_front-requires-2 c =
+pub clear_first-requires-2 : goal.clear_first-requires-2
+clear_first-requires-2 c =
     let p = passed _ _ c.requires in
     omega (arith, p.ready.searchable.room, c.assignment-1.given)
 
@@ -34,16 +34,16 @@ clear_work-requires c =
 pub figures_of-requires : goal.figures_of-requires
 figures_of-requires c =
     let p = passed _ _ c.requires in
-    (omega (arith, p.some, c.wide.ensures), c.repeat_runs-sums.ensures.most)
+    (omega (arith, p.some, c.from.ensures), c.repeat_runs-sums.ensures.most)
 
 pub returns : goal.returns
 returns c =
     let q = c.clear_work.ensures in
-    reporting _ _ c.requires c.counted-2.ensures c.counted.ensures c.wide.ensures
+    reporting _ _ c.requires c.from.ensures
     c.repeat_runs-sums.ensures
     c.figures_of.ensures
-    c.clear_front.ensures
-    c.clear_front-2.ensures
+    c.clear_first.ensures
+    c.clear_first-2.ensures
     q.tables_after
     q.terms_after
     q.tried_after

@@ -5,10 +5,10 @@ use Rattle.search.proofs.Refusing.{refused, refused_hands}
 use Rattle.search.proofs.search.Goals as goal
 
 pub returns-then-refusal-ne0 : goal.returns-then-refusal-ne0
-returns-then-refusal-ne0 c = record { searches = refused _ _ _ c.search_refusal-refusal.ensures c.if-refusal-ne0.true; hands_out = refused_hands _ _ _ }
+returns-then-refusal-ne0 c = record { searches = refused _ _ _ c.refusal-refusal.ensures c.if-refusal-ne0.true; hands_out = refused_hands _ _ _ }
 
 pub searched-requires : goal.searched-requires
-searched-requires c = sym c.search_refusal-refusal.ensures ∙ c.if-refusal-ne0.false
+searched-requires c = sym c.refusal-refusal.ensures ∙ c.if-refusal-ne0.false
 
 pub returns : goal.returns
 returns c = c.searched.ensures

@@ -16,13 +16,13 @@ returns-then-is_outside-2 c =
     count_43 _ _ c.all_zero.ensures c.if-all_zero.false c.is_outside.ensures c.if-is_outside.false
     c.is_outside-2.ensures c.if-is_outside-2.true
 
-pub returns-then-numbers-lt-NUMBERS : goal.returns-then-numbers-lt-NUMBERS
-returns-then-numbers-lt-NUMBERS c =
+pub returns-then-lent-lt-NUMBERS : goal.returns-then-lent-lt-NUMBERS
+returns-then-lent-lt-NUMBERS c =
     room_21 _ _ c.all_zero.ensures c.if-all_zero.false c.is_outside.ensures c.if-is_outside.false
     c.is_outside-2.ensures c.if-is_outside-2.false (omega arith)
 
 pub returns : goal.returns
 returns c =
-    c.search_refusal.ensures
+    c.refusal.ensures
     ∙ by_search _ _ c.all_zero.ensures c.if-all_zero.false c.is_outside.ensures c.if-is_outside.false
     c.is_outside-2.ensures c.if-is_outside-2.false (omega arith)

@@ -4,7 +4,7 @@ use Rattle.tries.proofs.Trying.{prepared_start, prepared_now, tried_prepared}
 use Rattle.tries.proofs.call.Goals as goal
 
 pub prepare-requires : goal.prepare-requires
-prepare-requires c = let k = c.requires.0 in (k.ready.laid, k.room, k.columns)
+prepare-requires c = let k = c.requires.0 in (k.room, k.columns)
 
 pub make_tries-requires : goal.make_tries-requires
 make_tries-requires c =

@@ -1,6 +1,6 @@
 -- The goals that the search leaves.
 use native.Mathlib.Omega.{arith}
-use mathlib.Core.Path.{refl, ◌∙◌}
+use mathlib.Core.Path.{◌∙◌}
 use Rattle.moves.proofs.Moving.{tally_room}
 use Rattle.tries.proofs.Trying.{flips_begin, flips_found, flips_more, flips_stopped, flips_end}
 use Rattle.tries.proofs.make_flips.Goals as goal

@@ -6,5 +6,5 @@ use Rattle.tries.proofs.make_flips.Given as goal
 
 abbrev pub invariant-loop-turn : goal.invariant-loop-turn
 invariant-loop-turn l =
-    Flipping (settings_of l.s) l.tables l.terms l.numbers l.fn.begun (record { assignment = l.initial.assignment; tallies = l.initial.tallies; marks = l.initial.marks }) l.spent l.turn
+    Flipping (settings_of l.s) l.t.tables.now l.t.terms.now l.numbers l.fn.begun (record { assignment = l.initial.assignment; tallies = l.initial.tallies; marks = l.initial.marks }) l.spent l.turn
     (record { assignment = l.assignment; tallies = l.tallies; marks = l.marks })

@@ -1,6 +1,4 @@
 -- The goals that the search leaves.
-use native.Mathlib.Omega.{arith}
-use mathlib.Core.Path.{◌∙◌}
 use Rattle.tries.proofs.Trying.{calls_begin, calls_more, calls_found, calls_gone, calls_end}
 use Rattle.tries.proofs.make_tries.Goals as goal
 

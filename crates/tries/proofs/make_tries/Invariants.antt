@@ -6,5 +6,5 @@ use Rattle.tries.proofs.make_tries.Given as goal
 
 abbrev pub invariant-loop-try : goal.invariant-loop-try
 invariant-loop-try l =
-    Calling (settings_of l.s) l.tables l.terms l.numbers l.fn.begun (record { assignment = l.initial.assignment; tallies = l.initial.tallies; marks = l.initial.marks }) l.spent l._try
+    Calling (settings_of l.s) l.t.tables.now l.t.terms.now l.numbers l.fn.begun (record { assignment = l.initial.assignment; tallies = l.initial.tallies; marks = l.initial.marks }) l.spent l._try
     (record { assignment = l.assignment; tallies = l.tallies; marks = l.marks })

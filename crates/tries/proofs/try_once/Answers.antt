@@ -23,8 +23,8 @@ hold_locks-requires c =
 
 pub open_kept-requires : goal.open_kept-requires
 open_kept-requires c = (
-  started_ready _ c.requires.0 c.requires.2 c.requires.3 c.index-n.ensures c.start.ensures c.in-Ok.is c.hold_locks.ensures c.assignment-2-1.given
-      c.assignment-1.given,
+  (started_ready _ c.requires.0 c.requires.2 c.requires.3 c.index-n.ensures c.start.ensures c.in-Ok.is c.hold_locks.ensures c.assignment-2-1.given
+      c.assignment-1.given).bytes,
   c.requires.3.sized,
 )
 

@@ -2,13 +2,13 @@
 -- Assumes nothing.
 use native.Mathlib.Omega.{arith}
 use Rattle.lending.proofs.Tests.{small_first, small_tallies, small_marks}
-use Rattle.lending.proofs.work_small.Goals as goal
+use Rattle.lending.proofs.Lent.work_small.Goals as goal
 
 pub returns-then-tables_small : goal.returns-then-tables_small
 returns-then-tables_small c = small_first _ _ _ c.tables_small.ensures c.if-tables_small.true
 
-pub returns-then-tallies-lt-KEPT : goal.returns-then-tallies-lt-KEPT
-returns-then-tallies-lt-KEPT c = small_tallies _ _ _ c.tables_small.ensures c.if-tables_small.false (omega arith)
+pub returns-then-self-lt-KEPT : goal.returns-then-self-lt-KEPT
+returns-then-self-lt-KEPT c = small_tallies _ _ _ c.tables_small.ensures c.if-tables_small.false (omega arith)
 
 pub returns : goal.returns
 returns c = small_marks _ _ _ c.tables_small.ensures c.if-tables_small.false (omega arith)

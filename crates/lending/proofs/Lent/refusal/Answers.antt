@@ -1,9 +1,9 @@
--- `search_refusal` meets its contract: each test answers what the definition asks next.
+-- `refusal` meets its contract: each test answers what the definition asks next.
 -- Assumes nothing.
 use borrow.Author.Tests.{not-true, not-false}
 use mathlib.Core.Path.{sym, ◌∙◌}
 use Rattle.lending.proofs.Tests.{tables_21, work_21, tables_22, settings_last}
-use Rattle.lending.proofs.search_refusal.Goals as goal
+use Rattle.lending.proofs.Lent.refusal.Goals as goal
 
 pub returns-then-tables_small : goal.returns-then-tables_small
 returns-then-tables_small c = tables_21 _ _ c.tables_small.ensures c.if-tables_small.true
