@@ -6,7 +6,8 @@ ghost use Rattle.std.specs.Prelude.{◌≡◌, ◌+◌, ◌*◌, ◌/◌, ◌≤
 ghost use Rattle.division.specs.Split.{sum, whole_parts, one_each, parts};
 ghost use Rattle.division.specs.Eight.{bad_at, bad_from, extra_at, refusal_number, lawful_parts, divided};
 
-// How many races there are, 9 for more than 8, and their stakes, 0 where there is no race.
+// How many races there are, 9 for more than 8, and their stakes, 0 where there is no race. There is no heap, so that a list of 8 at most is an array with
+// a count.
 #[derive(Clone, Copy)]
 pub struct Stakes {
     pub count: usize,
@@ -20,7 +21,7 @@ pub struct Part {
     pub length: usize,
 }
 
-// How many parts there are, and the parts.
+// How many parts there are, and the parts, in an array for the same reason.
 #[derive(Clone, Copy)]
 pub struct Parts {
     pub count: usize,
@@ -35,7 +36,7 @@ pub enum Refusal {
     WrongStake,
 }
 
-// A refusal's number, as it is handed out.
+// A refusal's number, as the C interface hands it out.
 pub fn number_of(refusal: Refusal) -> u32
     ensures { result ≡ refusal_number refusal }
 {
@@ -51,17 +52,6 @@ fn bad_at(count: usize, i: usize, s: usize) -> bool
     ensures { result ≡ bad_at count i s }
 {
     if i < count { s < 1 || 100 < s } else { s != 0 }
-}
-
-fn bad(count: usize, s: [usize; 8]) -> bool
-    ensures { result ≡ bad_from count 0 s }
-{
-    for (i, x) in s.iter().enumerate() {
-        if bad_at(count, i, *x) {
-            return true;
-        }
-    }
-    false
 }
 
 fn total(s: [usize; 8]) -> usize
@@ -97,10 +87,7 @@ fn whole_parts(n: usize, t: usize, s: [usize; 8]) -> [usize; 8]
 fn extra(i: usize, r: usize) -> usize
     ensures { (result ≡ extra_at i r) × (result ≤ r) }
 {
-    if i < r {
-        return 1;
-    }
-    0
+    usize::from(i < r)
 }
 
 fn topped(r: usize, b: [usize; 8]) -> [usize; 8]
@@ -133,18 +120,32 @@ fn placed(l: [usize; 8]) -> [Part; 8]
     parts
 }
 
-// The parts of lawful stakes.
-fn lawful_parts(count: usize, s: [usize; 8], numbers: usize) -> Parts
-    requires { (0 < sum s) × (sum s ≤ 800) }
-    ensures { result ≡ lawful_parts count s numbers }
-{
-    let t = total(s);
-    let w = whole_parts(numbers, t, s);
-    let u = total(w);
-    let l = topped(numbers - u, w);
-    Parts {
-        count,
-        parts: placed(l),
+impl Stakes {
+    // Whether one of them is bad.
+    fn any_bad(self) -> bool
+        ensures { result ≡ bad_from self.count 0 self.stakes }
+    {
+        for (i, x) in self.stakes.iter().enumerate() {
+            if bad_at(self.count, i, *x) {
+                return true;
+            }
+        }
+        false
+    }
+
+    // The parts of lawful stakes.
+    fn parts(self, numbers: usize) -> Parts
+        requires { (0 < sum self.stakes) × (sum self.stakes ≤ 800) }
+        ensures { result ≡ lawful_parts self.count self.stakes numbers }
+    {
+        let t = total(self.stakes);
+        let w = whole_parts(numbers, t, self.stakes);
+        let u = total(w);
+        let l = topped(numbers - u, w);
+        Parts {
+            count: self.count,
+            parts: placed(l),
+        }
     }
 }
 
@@ -152,16 +153,14 @@ fn lawful_parts(count: usize, s: [usize; 8], numbers: usize) -> Parts
 pub fn divide(s: Stakes, numbers: usize) -> Result<Parts, Refusal>
     ensures { result ≡ divided s numbers }
 {
-    let count = s.count;
-    let stakes = s.stakes;
-    if count == 0 {
+    if s.count == 0 {
         return Err(Refusal::WrongCount);
     }
-    if 8 < count {
+    if 8 < s.count {
         return Err(Refusal::WrongCount);
     }
-    if bad(count, stakes) {
+    if s.any_bad() {
         return Err(Refusal::WrongStake);
     }
-    Ok(lawful_parts(count, stakes, numbers))
+    Ok(s.parts(numbers))
 }

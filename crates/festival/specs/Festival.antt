@@ -6,6 +6,7 @@ use Rattle.words.specs.Writes.{put, front}
 use Rattle.format.specs.Assignment.{assignment_size}
 use Rattle.division.specs.declared.Part.{Part}
 use Rattle.exchange.specs.Exchange.{settings_size, answer_size, settings_at, answer_bytes}
+use Rattle.festival.specs.declared.Given.{Given as Slices}
 use Rattle.festival.specs.Own.{Works, Entry, own, leaves, accepts, clear}
 
 -- What is read: the list of numbers, the settings, and the plans' tables and terms in the races' order.
@@ -17,6 +18,10 @@ pub record Given : Type 0 where
 
 abbrev pub given : (numbers settings : List ℕ) (tables terms : List (List ℕ)) → Given
 given numbers settings tables terms = record { numbers = numbers; settings = settings; tables = tables; terms = terms }
+
+-- What the slices hold that the code has of it.
+abbrev pub given_in : Slices → Given
+given_in g = given g.numbers.now g.settings.now (map (λ s. s.now) g.tables) (map (λ s. s.now) g.terms)
 
 -- What is written: an assignment and an answer for each race, one behind the other, and the work tables.
 pub record Buffers : Type 0 where

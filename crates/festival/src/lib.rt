@@ -1,5 +1,6 @@
 // Up to 8 races searched one after another, each with its part of one list of numbers. Each answer and assignment goes to its race's place in a buffer
 // that has one for each race; the work tables serve every race.
+// The buffers to write come one by one: one is read while another is written, which a struct of them would not let be proved.
 #![tactic(auto)]
 
 ghost use Rattle.std.specs.Prelude.{◌≡◌, cond, List, [], ◌∷◌, ℕ, ◌+◌, ◌*◌, ◌/◌, ◌≤◌, ◌<◌, length, get_or, map};
@@ -9,7 +10,7 @@ ghost use Rattle.division.specs.Eight.{kept, laid, refusal_in, parts_in};
 ghost use Rattle.exchange.specs.Exchange.{settings_size, answer_size};
 ghost use Rattle.races.specs.Races.{stakes_in, parts_put};
 ghost use Rattle.festival.specs.Own.{works};
-ghost use Rattle.festival.specs.Festival.{given, buffers, place, race_once, race_next, raced, room_refusal, Fits};
+ghost use Rattle.festival.specs.Festival.{given, given_in, buffers, place, race_once, race_next, raced, room_refusal, Fits};
 
 use division::{Part, Parts, Refusal, Stakes, divide, number_of};
 use exchange::{put_answer, settings_at};
@@ -25,6 +26,15 @@ const ALL_SETTINGS: usize = RACES * exchange::SETTINGS;
 const ALL_ASSIGNMENTS: usize = RACES * format::ASSIGNMENT;
 
 const ALL_ANSWERS: usize = RACES * exchange::ANSWER;
+
+// What is read: the list of numbers, the settings, and the plans' tables and terms in the races' order.
+#[derive(Clone, Copy)]
+pub struct Given<'a> {
+    pub numbers: &'a [u8],
+    pub settings: &'a [u8],
+    pub tables: [&'a [u8]; RACES],
+    pub terms: [&'a [u8]; RACES],
+}
 
 // Whether each of these lengths is enough for 8 races.
 fn has_room(settings: usize, assignments: usize, answers: usize) -> bool
@@ -51,6 +61,7 @@ fn one_of<'a>(i: usize, slices: [&'a [u8]; RACES]) -> &'a [u8]
 }
 
 // One race: its search, whose assignment and answer go to the race's places.
+// What it reads comes one by one, as its search takes it.
 fn race_one(
     i: usize,
     tables: &[u8],
@@ -100,13 +111,10 @@ fn race_one(
 }
 
 // Race i, from 0, with its part of the numbers.
-fn race_at<'a>(
+fn race_at(
     i: usize,
     part: Part,
-    numbers: &[u8],
-    settings: &[u8],
-    tables: [&'a [u8]; RACES],
-    terms: [&'a [u8]; RACES],
+    g: &Given<'_>,
     assignments: &mut [u8],
     answers: &mut [u8],
     work_tables: &mut [u8],
@@ -115,27 +123,24 @@ fn race_at<'a>(
     work_tallies: &mut [u8],
     work_marks: &mut [u8],
 )
-    requires { Fits i part.first part.length (length numbers.now) (length settings.now) (length assignments.old) (length answers.old) }
+    requires { Fits i part.first part.length (length g.now.numbers.now) (length g.now.settings.now) (length assignments.old) (length answers.old) }
     ensures { buffers assignments.new answers.new
         (works work_tables.new work_terms.new work_assignment.new work_tallies.new work_marks.new)
-        ≡ race_next
-        (given numbers.now settings.now
-        (map (λ s. s.now) tables.entry) (map (λ s. s.now) terms.entry))
-        i part
+        ≡ race_next (given_in g.now) i part
         (buffers assignments.old answers.old
         (works work_tables.old work_terms.old work_assignment.old
         work_tallies.old work_marks.old)) }
 {
-    let tables = one_of(i, tables);
-    let terms = one_of(i, terms);
-    let s = settings_at(settings, i);
+    let tables = one_of(i, g.tables);
+    let terms = one_of(i, g.terms);
+    let s = settings_at(g.settings, i);
     let from = 4 * part.first;
     let end = from + 4 * part.length;
     race_one(
         i,
         tables,
         terms,
-        &numbers[from..end],
+        &g.numbers[from..end],
         s,
         assignments,
         answers,
@@ -148,12 +153,9 @@ fn race_at<'a>(
 }
 
 // All races that have a part.
-fn race_all<'a>(
+fn race_all(
     p: Parts,
-    numbers: &[u8],
-    settings: &[u8],
-    tables: [&'a [u8]; RACES],
-    terms: [&'a [u8]; RACES],
+    g: &Given<'_>,
     assignments: &mut [u8],
     answers: &mut [u8],
     work_tables: &mut [u8],
@@ -163,14 +165,11 @@ fn race_all<'a>(
     work_marks: &mut [u8],
 )
     requires { (none : Part) (i : ℕ) → i < p.count
-        → Fits i (get_or p.parts i none).first (get_or p.parts i none).length (length numbers.now) (length settings.now) (length assignments.old)
-        (length answers.old) }
+        → Fits i (get_or p.parts i none).first (get_or p.parts i none).length (length g.now.numbers.now) (length g.now.settings.now)
+        (length assignments.old) (length answers.old) }
     ensures { buffers assignments.new answers.new
         (works work_tables.new work_terms.new work_assignment.new work_tallies.new work_marks.new)
-        ≡ raced
-        (given numbers.now settings.now
-        (map (λ s. s.now) tables.entry) (map (λ s. s.now) terms.entry))
-        (laid p)
+        ≡ raced (given_in g.now) (laid p)
         (buffers assignments.old answers.old
         (works work_tables.old work_terms.old work_assignment.old
         work_tallies.old work_marks.old)) }
@@ -181,10 +180,7 @@ fn race_all<'a>(
         race_at(
             i,
             parts[i],
-            numbers,
-            settings,
-            tables,
-            terms,
+            g,
             assignments,
             answers,
             work_tables,
@@ -197,12 +193,9 @@ fn race_all<'a>(
 }
 
 // A festival of the races with these stakes: 21, 61 or 62 and nothing written, or each race's part, answer and assignment.
-pub fn plan_all<'a>(
+pub fn plan_all(
     stakes: Stakes,
-    numbers: &[u8],
-    settings: &[u8],
-    tables: [&'a [u8]; RACES],
-    terms: [&'a [u8]; RACES],
+    g: &Given<'_>,
     assignments: &mut [u8],
     answers: &mut [u8],
     work_tables: &mut [u8],
@@ -212,32 +205,26 @@ pub fn plan_all<'a>(
     work_marks: &mut [u8],
 ) -> Result<Parts, Refusal>
     ensures by_index { (ss : List ℕ) → stakes ≡ kept ss
-        → (refusal_in result ≡ refusal_after (room_refusal (length settings.now) (length assignments.old) (length answers.old)) ss)
+        → (refusal_in result ≡ refusal_after (room_refusal (length g.now.settings.now) (length assignments.old) (length answers.old)) ss)
         × (parts_in result
-        ≡ parts_after (room_refusal (length settings.now) (length assignments.old) (length answers.old))
-        (length numbers.now / 4) ss) }
+        ≡ parts_after (room_refusal (length g.now.settings.now) (length assignments.old) (length answers.old))
+        (length g.now.numbers.now / 4) ss) }
     ensures work_marks_after { buffers assignments.new answers.new
         (works work_tables.new work_terms.new work_assignment.new work_tallies.new work_marks.new)
-        ≡ raced
-        (given numbers.now settings.now
-        (map (λ s. s.now) tables.entry) (map (λ s. s.now) terms.entry))
-        (parts_in result)
+        ≡ raced (given_in g.now) (parts_in result)
         (buffers assignments.old answers.old
         (works work_tables.old work_terms.old work_assignment.old
         work_tallies.old work_marks.old)) }
 {
-    if !has_room(settings.len(), assignments.len(), answers.len()) {
+    if !has_room(g.settings.len(), assignments.len(), answers.len()) {
         return Err(Refusal::NoRoom);
     }
-    match divide(stakes, numbers.len() / 4) {
+    match divide(stakes, g.numbers.len() / 4) {
         Err(refusal) => Err(refusal),
         Ok(p) => {
             race_all(
                 p,
-                numbers,
-                settings,
-                tables,
-                terms,
+                g,
                 assignments,
                 answers,
                 work_tables,
@@ -252,11 +239,11 @@ pub fn plan_all<'a>(
 }
 
 // The call: the races stand in the list as records of three numbers, stake, first place and length.
-// Each plan's slices come by themselves, because the C interface hands over a pointer and a length for each.
+// Each plan's slices come by themselves, because the C interface hands over a pointer and a length for each, and the refusal goes out as its number.
 pub fn plan_races<'a>(
     races: &mut [usize],
-    numbers: &[u8],
-    settings: &[u8],
+    numbers: &'a [u8],
+    settings: &'a [u8],
     t1: &'a [u8],
     e1: &'a [u8],
     t2: &'a [u8],
@@ -300,12 +287,15 @@ pub fn plan_races<'a>(
         work_tallies.old work_marks.old)) }
 {
     let stakes = stakes_in(races);
-    let planned = plan_all(
-        stakes,
+    let g = Given {
         numbers,
         settings,
-        [t1, t2, t3, t4, t5, t6, t7, t8],
-        [e1, e2, e3, e4, e5, e6, e7, e8],
+        tables: [t1, t2, t3, t4, t5, t6, t7, t8],
+        terms: [e1, e2, e3, e4, e5, e6, e7, e8],
+    };
+    let planned = plan_all(
+        stakes,
+        &g,
         assignments,
         answers,
         work_tables,

@@ -1,11 +1,12 @@
 // The planner's C interface: numbers and byte slices in, numbers out. include/planner.h declares it.
 // Each function promises what the function that it calls promises.
+// The C interface hands over a pointer and a length for each slice and a word for each number: so they come one by one, and a refusal goes out as its number.
 #![tactic(auto)]
 
 ghost use Rattle.std.specs.Prelude.{◌≡◌, [], ◌∷◌, ◌/◌, length};
 ghost use Rattle.counting.specs.Count.{count_words, marked_words};
-ghost use Rattle.tallies.specs.Calls.{open_refusal, open_tallies, call_refusal, flip_refusal, flip_rules, flip_assignment, flip_tallies, counts_break, counts_make};
-ghost use Rattle.tallies.specs.Calls.{lent};
+ghost use Rattle.tallies.specs.Calls.{lent, open_refusal, open_tallies, call_refusal, counts_break, counts_make};
+ghost use Rattle.tallies.specs.Calls.{flip_refusal, flip_rules, flip_assignment, flip_tallies};
 ghost use Rattle.search.specs.Calls.{Searches, HandsOut};
 ghost use Rattle.lending.specs.Lent.{lent_all};
 ghost use Rattle.reports.specs.Calls.{Reports};
@@ -31,6 +32,7 @@ use search::search;
 use settings::Settings;
 use squeeze::{Squeezed, squeeze};
 use tables::load;
+use trials::Trial;
 use verdict::Loaded;
 use writer::{Written, write_opb};
 use xorwow::Xorwow;
@@ -195,23 +197,25 @@ pub extern "C" fn planner_runs(
     report(
         tables,
         terms,
-        Xorwow {
-            x,
-            y,
-            z,
-            w,
-            v,
-            counter,
-        },
-        runs,
-        count,
-        Settings {
-            noise,
-            tries,
-            flips,
-            mode,
-            heuristic,
-            chance,
+        Trial {
+            settings: Settings {
+                noise,
+                tries,
+                flips,
+                mode,
+                heuristic,
+                chance,
+            },
+            state: Xorwow {
+                x,
+                y,
+                z,
+                w,
+                v,
+                counter,
+            },
+            runs,
+            count,
         },
         numbers,
         assignment,

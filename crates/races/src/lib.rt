@@ -82,7 +82,7 @@ fn put_parts(races: &mut [Race], p: Parts)
 }
 
 // The split alone, for any length of the list: each race's part is written into its record, and no number is read. 61 and 62 are answered, and then nothing
-// is written.
+// is written. The answer is the number that the C interface has, 0 for no refusal.
 pub fn planner_share(races: &mut [Race], numbers: usize) -> u32
     ensures { (result ≡ refusal_after 0 (stakes_of races.old))
         × (races.new ≡ placed (parts_after 0 numbers (stakes_of races.old)) races.old) }

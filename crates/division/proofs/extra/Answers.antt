@@ -1,14 +1,19 @@
--- `division::extra` meets its contract.
+-- `division::extra` meets its contract, by whether a number remains for the race.
 -- Assumes nothing.
+use Prim.Native.Nat.{ℕ, ◌≤◌}
 use native.Mathlib.Omega.{arith}
-use borrow.Author.Tests.{lt-ltb, le-ltb}
+use mathlib.Core.Bool.{Bool, true, false, cond}
+use mathlib.Core.Path.{◌≡◌, refl}
+use mir.Val.{bool_byte}
+use lib.Dec.{ltb}
+use borrow.Author.Tests.{ltb-true}
 use Rattle.division.specs.Eight.{extra_at}
 use Rattle.division.proofs.extra.Goals as goal
 
-pub returns-then-i-r : goal.returns-then-i-r
-unfolding extra_at
-returns-then-i-r c = (simp (lt-ltb _ _ c.if-i-r.true), omega (arith, c.if-i-r.true))
+given : (i r x : ℕ) (b : Bool) → ltb i r ≡ b → x ≡ bool_byte b → (x ≡ cond b 1 0) × (x ≤ r)
+given i r x true h e = (e, omega (arith, e, ltb-true i r h))
+given i r x false h e = (e, omega (arith, e))
 
 pub returns : goal.returns
 unfolding extra_at
-returns c = (simp (le-ltb _ _ c.if-i-r.false), omega arith)
+returns c = given _ _ _ _ refl c.from.ensures

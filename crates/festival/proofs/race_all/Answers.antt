@@ -2,11 +2,10 @@
 use borrow.Author.Rules.{rules}
 use native.Mathlib.Omega.{arith}
 use mathlib.Core.Path.{◌≡◌, refl, ◌∙◌}
-use Rattle.std.proofs.Common.{ℕ, List, Bor, map}
 use lib.ListN.{length}
 use Rattle.division.specs.Eight.{laid}
 use Rattle.festival.specs.Own.{works}
-use Rattle.festival.specs.Festival.{given, buffers}
+use Rattle.festival.specs.Festival.{given_in, buffers}
 use Rattle.festival.proofs.Racing.{race_first, race_turn, race_last}
 use Rattle.festival.proofs.race_all.Goals as goal
 
@@ -14,7 +13,7 @@ pub loop-i-init : goal.loop-i-init
 loop-i-init c =
     let a = c.args in
     let p = a.p in (
-      race_first (given a.numbers.now a.settings.now (map (λ (s : Bor (List ℕ)). s.now) a.tables) (map (λ (s : Bor (List ℕ)). s.now) a.terms))
+      race_first (given_in a.g.now)
           p.count p.parts (buffers a.assignments.now a.answers.now
           (works a.work_tables.now a.work_terms.now a.work_assignment.now a.work_tallies.now a.work_marks.now)),
       refl,
@@ -53,7 +52,7 @@ loop-i-preserved c =
     let k = c.race_at.auto in
     let f = c.requires (record { first = 0; length = 0 }) l.i h in
     let n : length p.parts ≡ 8 = search rules in (
-      race_turn (given a.numbers.now a.settings.now (map (λ (s : Bor (List ℕ)). s.now) a.tables) (map (λ (s : Bor (List ℕ)). s.now) a.terms))
+      race_turn (given_in a.g.now)
           p.count p.parts (buffers a.assignments.now a.answers.now
           (works a.work_tables.now a.work_terms.now a.work_assignment.now a.work_tallies.now a.work_marks.now)) _ l.i h (omega (arith, n, f.race)) f.assignment l.invariant.0
           c.race_at.ensures,
@@ -93,6 +92,6 @@ returns c =
     let p = a.p in
     let l = c.loop-i in
     unfold laid in
-    race_last (given a.numbers.now a.settings.now (map (λ (s : Bor (List ℕ)). s.now) a.tables) (map (λ (s : Bor (List ℕ)). s.now) a.terms))
+    race_last (given_in a.g.now)
     p.count p.parts (buffers a.assignments.now a.answers.now
     (works a.work_tables.now a.work_terms.now a.work_assignment.now a.work_tallies.now a.work_marks.now)) l.i c.loop-i-test.false l.invariant.0

@@ -2,9 +2,8 @@
 -- Assumes nothing.
 use borrow.Author.Rules.{rules}
 use native.Mathlib.Omega.{arith}
-use Rattle.std.proofs.Common.{ℕ, List, Bor, map}
 use Rattle.festival.specs.Own.{works}
-use Rattle.festival.specs.Festival.{given, buffers}
+use Rattle.festival.specs.Festival.{given_in, buffers}
 use Rattle.festival.proofs.Racing.{part_is, race_is}
 use Rattle.festival.proofs.race_at.Goals as goal
 
@@ -27,9 +26,9 @@ pub returns : goal.returns
 returns c =
     let a = c.args in
     race_is
-    (given a.numbers.now a.settings.now (map (λ (s : Bor (List ℕ)). s.now) a.tables) (map (λ (s : Bor (List ℕ)). s.now) a.terms)) a.i
+    (given_in a.g.now) a.i
     a.part
     (buffers a.assignments.now a.answers.now
     (works a.work_tables.now a.work_terms.now a.work_assignment.now a.work_tallies.now a.work_marks.now))
-    c.one_of-tables.ensures c.one_of-terms.ensures (part_is a.numbers.now a.part) c.settings_at-s.ensures
+    c.one_of-tables.ensures c.one_of-terms.ensures (part_is a.g.now.numbers.now a.part) c.settings_at-s.ensures
     c.race_one.ensures
