@@ -1,8 +1,8 @@
 -- Pieces put one after another by a loop: what is left from piece i on makes the whole.
 -- Assumes nothing.
-use Prim.Native.Nat.{ℕ, suc, ◌+◌, ◌≤◌, ◌<◌, zero-le}
+use Prim.Native.Nat.{ℕ, suc, ◌≤◌, ◌<◌, zero-le}
 use native.Mathlib.Omega.{arith}
-use mathlib.Core.Path.{◌≡◌, refl, sym, ◌∙◌}
+use mathlib.Core.Path.{◌≡◌}
 use mathlib.Core.List.{List, [], ◌++◌}
 use Rattle.spelling.specs.Overlay.{Puts, Room}
 use Rattle.spelling.proofs.Puts.{Left, left_start, left_more, left_room, left_done}

@@ -1,18 +1,16 @@
 -- A clause's rules and new variables, one after another.
 -- Assumes nothing.
-use Prim.Native.Nat.{ℕ, zero, suc, ◌+◌, ◌*◌, ◌-◌, ◌≤◌, ◌<◌}
+use Prim.Native.Nat.{ℕ, suc, ◌+◌, ◌*◌, ◌-◌, ◌<◌}
 use native.Mathlib.Nat.{add-zero}
 use native.Mathlib.Omega.{arith}
-use mathlib.Core.Path.{◌≡◌, refl, sym, ap, ap₂, ◌∙◌}
-use mathlib.Core.Bool.{true, false, cond}
-use mathlib.Core.List.{List, [], ◌∷◌, ◌++◌, map, append_assoc}
-use lib.Dec.{eqb}
+use mathlib.Core.Path.{◌≡◌, refl, ap, ap₂, ◌∙◌}
+use mathlib.Core.Bool.{false}
+use mathlib.Core.List.{List, [], ◌∷◌, ◌++◌, append_assoc}
 use lib.IntN.{pos}
 use lib.ListN.{length}
 use Rattle.plpb.specs.Lists.{row}
 use Rattle.plpb.specs.Plan.{Clause}
-use Rattle.format.specs.Tables.{rule_of, clause_of}
-use Rattle.format.specs.Layout.{clause_first_at, clause_count_at}
+use Rattle.format.specs.Tables.{rule_of}
 use Rattle.format.proofs.Lists.{length_spread}
 use Rattle.opb.specs.Tau.{weighted, geq, rule_atoms, rules_lines, rule_lines, or_lines}
 use Rattle.constraints.specs.Bytes.{sum_bytes, end_bytes, lines_bytes}

@@ -1,2 +1,3 @@
 -- What writing the clauses' lines needs.
 pub mod Clauses
+pub mod Several

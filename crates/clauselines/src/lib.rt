@@ -1,4 +1,5 @@
-// The lines of the clauses, put into a lent buffer.
+// The lines of the clauses, put into a lent buffer. The buffer and the place in it stay two parameters, as in spelling.
+// So do the two tables: each function here needs another fact about them, and none needs that they hold a whole plan.
 #![tactic(auto)]
 
 ghost use Rattle.std.specs.Prelude.{◌≡◌, ◌+◌, ◌*◌, ◌<◌, ◌≤◌, length};
@@ -8,63 +9,56 @@ ghost use Rattle.format.specs.Tables.{clause_of};
 ghost use Rattle.opb.specs.Tau.{rules_lines, or_lines, clause_lines, clauses_lines};
 ghost use Rattle.spelling.specs.Overlay.{Puts, Room};
 ghost use Rattle.constraints.specs.Bytes.{sum_bytes, lines_bytes};
-ghost use Rattle.clauselines.specs.Clauses.{atom_terms, atom_count, rules_in, RulesFit, clauses_in, ClauseFits, ClausesFit};
+ghost use Rattle.clauselines.specs.Clauses.{atom_terms, atom_count, clauses_in, ClauseFits, ClausesFit};
+ghost use Rattle.clauselines.specs.Several.{several};
 
-use constraints::{put_end, put_term};
+mod several;
+
+use constraints::{Relation, put_end, put_term};
 use rulelines::{put_rule, put_straight};
+use several::Several;
 use words::index;
 
-// The sum of (15).
-fn put_atoms(out: &mut [u8], at: usize, count: usize, k: usize) -> usize
-    requires { (k + 3 * count < 4_294_967_296) × Room at (sum_bytes (atom_terms k count)) }
-    ensures { Puts (sum_bytes (atom_terms k count)) at out.old out.new result }
-{
-    let mut next = at;
-    for i in 0..count {
-        next = put_term(out, next, 1, k + 3 * i + 3);
+impl Several<'_> {
+    // The sum of (15).
+    fn put_atoms(&self, out: &mut [u8], at: usize) -> usize
+        requires { Room at (sum_bytes (atom_terms self.now.before self.now.count)) }
+        ensures { Puts (sum_bytes (atom_terms self.now.before self.now.count)) at out.old out.new result }
+    {
+        let mut next = at;
+        for i in 0..self.count {
+            next = put_term(out, next, 1, self.before + 3 * i + 3);
+        }
+        next
     }
-    next
-}
 
-fn put_rules(
-    out: &mut [u8],
-    at: usize,
-    tables: &[u8],
-    terms: &[u8],
-    first: usize,
-    count: usize,
-    k: usize,
-) -> usize
-    requires rules_fit { RulesFit tables.now terms.now first count k }
-    requires room { Room at (lines_bytes (rules_lines k (rules_in (word_at tables.now) (word_at terms.now) first count))) }
-    ensures { Puts (lines_bytes (rules_lines k (rules_in (word_at tables.now) (word_at terms.now) first count))) at
-        out.old out.new result }
-{
-    let mut next = at;
-    for i in 0..count {
-        next = put_rule(out, next, tables, terms, first + i, k + 3 * i);
+    fn put_rules(&self, out: &mut [u8], at: usize) -> usize
+        requires { Room at (lines_bytes (rules_lines self.now.before (several self.now))) }
+        ensures { Puts (lines_bytes (rules_lines self.now.before (several self.now))) at out.old out.new result }
+    {
+        let mut next = at;
+        for i in 0..self.count {
+            next = put_rule(
+                out,
+                next,
+                self.tables,
+                self.terms,
+                self.first + i,
+                self.before + 3 * i,
+            );
+        }
+        next
     }
-    next
-}
 
-// A clause with several rules: (15), then the rules' lines.
-fn put_or(
-    out: &mut [u8],
-    at: usize,
-    tables: &[u8],
-    terms: &[u8],
-    first: usize,
-    count: usize,
-    k: usize,
-) -> usize
-    requires rules_fit { RulesFit tables.now terms.now first count k }
-    requires room { Room at (lines_bytes (or_lines k (rules_in (word_at tables.now) (word_at terms.now) first count))) }
-    ensures { Puts (lines_bytes (or_lines k (rules_in (word_at tables.now) (word_at terms.now) first count))) at
-        out.old out.new result }
-{
-    let a = put_atoms(out, at, count, k);
-    let b = put_end(out, a, false, 1);
-    put_rules(out, b, tables, terms, first, count, k)
+    // (15), then the rules' lines.
+    fn put(&self, out: &mut [u8], at: usize) -> usize
+        requires { Room at (lines_bytes (or_lines self.now.before (several self.now))) }
+        ensures { Puts (lines_bytes (or_lines self.now.before (several self.now))) at out.old out.new result }
+    {
+        let a = self.put_atoms(out, at);
+        let b = put_end(out, a, Relation::AtLeast, 1);
+        self.put_rules(out, b)
+    }
 }
 
 // Clause c, with k variables before those that it takes.
@@ -79,7 +73,14 @@ fn put_clause(out: &mut [u8], at: usize, tables: &[u8], terms: &[u8], c: usize, 
     if count == 1 {
         return put_straight(out, at, tables, terms, first);
     }
-    put_or(out, at, tables, terms, first, count, k)
+    let rules = Several {
+        tables,
+        terms,
+        first,
+        count,
+        before: k,
+    };
+    rules.put(out, at)
 }
 
 // How many new variables clause c takes: three for each of its rules, none where it has one.

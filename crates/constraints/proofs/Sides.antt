@@ -1,20 +1,19 @@
 -- Constraints of a rule's terms with one more, at least or at most a bound; locks and new variables.
 -- Assumes nothing.
-use Prim.Native.Nat.{ℕ, zero, suc, ◌+◌, ◌<◌}
-use native.Mathlib.Omega.{arith}
-use mathlib.Core.Path.{◌≡◌, refl, sym, ap, ap₂, ◌∙◌}
+use Prim.Native.Nat.{ℕ, ◌+◌}
+use mathlib.Core.Path.{◌≡◌, refl, sym, ap, ◌∙◌}
 use mathlib.Core.Bool.{Bool, true, false, cond}
 use mathlib.Core.List.{List, [], ◌∷◌, ◌++◌, map, append_assoc, append-nil}
-use lib.IntN.{ℤ, pos, negsuc, nat_abs, neg_ℤ, ◌-ℤ◌}
+use lib.IntN.{ℤ, pos, negsuc}
 use mir.Facts.{to_z-of_z}
 use mir.Syntax.{w32}
 use mir.Val.{SFits, to_z, of_z}
 use Rattle.plpb.specs.Lists.{keep, concat}
 use Rattle.plpb.specs.Plan.{Term}
 use Rattle.opb.specs.Spell.{spell_line}
-use Rattle.opb.specs.Tau.{weighted, has_weight, negated, geq, leq, fixed, lock_line, both_lines, plus_atom, minus_atom, rule_atom}
+use Rattle.opb.specs.Tau.{weighted, has_weight, negated, geq, leq, fixed, lock_line, both_lines}
 use Rattle.constraints.specs.Bytes.{sum_bytes, end_bytes, lines_bytes, turned, turned_term, sided}
-use Rattle.constraints.proofs.Bytes.{sum_append, sum_cons, zero_term, line_bytes, geq_bytes, lines_cons, lines_one}
+use Rattle.constraints.proofs.Bytes.{sum_append, sum_cons, zero_term, line_bytes, geq_bytes, lines_one}
 
 map_same : (ts : List Term) → map (turned_term false) ts ≡ ts
 unfolding turned_term

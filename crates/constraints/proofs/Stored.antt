@@ -7,11 +7,10 @@ use mathlib.Core.Path.{◌≡◌, refl, sym, ap, ap₂, ◌∙◌}
 use mathlib.Core.Bool.{Bool, true, false}
 use mathlib.Core.List.{List, [], ◌∷◌, ◌++◌, map}
 use lib.IntN.{ℤ, pos, negsuc, nat_abs}
-use lib.ListN.{length}
 use mir.Syntax.{w32}
 use mir.Val.{SFits, to_z, of_z}
 use mir.Facts.{to_z-of_z}
-use Rattle.plpb.specs.Lists.{◌and◌, all, row}
+use Rattle.plpb.specs.Lists.{all, row}
 use Rattle.plpb.specs.Plan.{Term}
 use Rattle.words.specs.Words.{word_at, signed}
 use Rattle.format.specs.Limits.{weight_lawful}

@@ -1,2 +1,3 @@
 -- Constraints as the code puts them.
 pub mod Bytes
+pub mod Sides

@@ -1,7 +1,7 @@
 // A race's settings are read from, and its answer is written to, its place in a buffer that has one for each race.
 #![tactic(auto)]
 
-ghost use Rattle.std.specs.Prelude.{◌≡◌, ◌+◌, ◌*◌, ◌/◌, ◌%◌, ◌≤◌, length};
+ghost use Rattle.std.specs.Prelude.{◌≡◌, ◌+◌, ◌*◌, ◌≤◌, length};
 ghost use Rattle.words.specs.Writes.{front, put_words};
 ghost use Rattle.exchange.specs.Exchange.{settings_size, answer_size, settings_at, bits_of64, halves, answer_bytes};
 
@@ -36,24 +36,12 @@ fn bits(v: i64) -> u64
     v.cast_unsigned()
 }
 
-fn low(v: u64) -> u32
-    ensures { result ≡ v % 4_294_967_296 }
-{
-    (v % 4294967296) as u32
-}
-
-fn high(v: u64) -> u32
-    ensures { result ≡ v / 4_294_967_296 }
-{
-    (v / 4294967296) as u32
-}
-
-// Writes a number's two words from an index on.
+// Writes a number's bytes, which are two words, from an index on.
 fn put_number(s: &mut [u8], i: usize, v: u64)
     requires { 4 * i + 8 ≤ length s.old }
     ensures { s.new ≡ put_words i (halves v) s.old }
 {
-    write_two(s, i, low(v), high(v));
+    s[4 * i..4 * i + 8].copy_from_slice(&v.to_le_bytes());
 }
 
 // Writes what a search answers over the first bytes of a slice.

@@ -1,13 +1,13 @@
 -- Laws of terms in a table of words.
 -- Assumes nothing.
-use Prim.Native.Nat.{ℕ, zero, suc, ◌+◌, ◌*◌, ◌≤◌, ◌<◌}
+use Prim.Native.Nat.{ℕ, zero, suc, ◌+◌, ◌≤◌, ◌<◌}
 use native.Mathlib.Nat.{not-suc-le-zero, add-zero}
 use native.Mathlib.Omega.{arith}
 use mathlib.Core.Path.{◌≡◌, refl, sym, ap, ◌∙◌}
-use mathlib.Core.Bool.{Bool, true, false}
-use mathlib.Core.List.{List, [], ◌∷◌}
+use mathlib.Core.Bool.{Bool, true}
+use mathlib.Core.List.{[], ◌∷◌}
 use lib.IntN.{nat_abs}
-use Rattle.plpb.specs.Lists.{◌and◌, all, row}
+use Rattle.plpb.specs.Lists.{all, row}
 use Rattle.plpb.specs.Plan.{Term}
 use Rattle.format.specs.Limits.{weight_lawful}
 use Rattle.format.specs.Tables.{term_of}

@@ -1,2 +1,3 @@
 -- Terms in a table of words.
 pub mod Terms
+pub mod Sums

@@ -3,7 +3,7 @@
 use Prim.Native.Nat.{ℕ, suc, ◌+◌, ◌*◌, ◌-◌, ◌≤◌, ◌<◌, zero-le}
 use native.Mathlib.Nat.{le_refl, mul-suc}
 use native.Mathlib.Omega.{arith}
-use mathlib.Core.Path.{◌≡◌, refl, subst}
+use mathlib.Core.Path.{◌≡◌, subst}
 
 -- Of n things those from `left` on are counted, each at most `most`.
 pub record Down (Is : ℕ → ℕ → Type 0) (most n left m : ℕ) : Type 0 where

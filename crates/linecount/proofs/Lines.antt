@@ -1,17 +1,19 @@
 -- How many lines rules and clauses have, and how many words are not 0.
 -- Assumes nothing.
 use Prim.Native.Nat.{ℕ, zero, suc, ◌+◌, ◌*◌, ◌-◌, ◌≤◌, ◌<◌, zero-le}
-use native.Mathlib.Nat.{add_assoc}
 use native.Mathlib.Omega.{arith}
+use native.Mathlib.Numerals.{add-one}
 use mathlib.Core.Path.{◌≡◌, refl, sym, ap, ap₂, ◌∙◌}
-use mathlib.Core.Bool.{Bool, true, false, cond}
+use mathlib.Core.Bool.{Bool, true, false, cond, not}
 use mathlib.Core.List.{List, [], ◌∷◌, ◌++◌, map}
 use lib.Dec.{eqb, ltb}
 use lib.IntN.{ℤ, pos, negsuc, nat_abs}
-use lib.ListN.{length, length-append}
-use borrow.Author.Tests.{eq-eqb, ne_eqb, lt-ltb, ltb-true}
-use Rattle.plpb.specs.Lists.{keep, row, sum_by}
-use Rattle.plpb.specs.Plan.{Bound, absent, present, Term, Rule, Clause}
+use lib.ListN.{length, length-append, length-map}
+use Rattle.std.specs.List.{filter, range_with_len}
+use borrow.Author.Tests.{ne_eqb, lt-ltb}
+use Rattle.plpb.specs.Lists.{keep, count, row, sum_by}
+use Rattle.plpb.proofs.Lists.{count_le, length_row}
+use Rattle.plpb.specs.Plan.{Bound, absent, present, Term, Rule}
 use Rattle.words.specs.Words.{signed}
 use Rattle.format.specs.File.{bound_of}
 use Rattle.format.specs.Layout.{clause_first_at, clause_count_at, rule_mode_at}
@@ -180,34 +182,35 @@ tested (suc v) = some_word (suc v) none ∙ sym (rw (ne_eqb (suc v) 0 none) refl
     none : suc v ≡ 0 → ⊥
     none e = omega (arith, e)
 
-abbrev pub WordsAre : (ℕ → ℤ) → ℕ → ℕ → ℕ → Type 0
-WordsAre h n left m = m ≡ length (sparse h left (n - left))
+module _ (f : ℕ → ℕ) (base : ℕ) where
+  abbrev term : ℕ → Term
+  term = named (λ x. signed (f (base + x)))
 
-module _ (f : ℕ → ℕ) (base n : ℕ) where
-  abbrev h : ℕ → ℤ
-  h x = signed (f (base + x))
+  kept : (b : Bool) (x : ℕ) (t : Term) (xs : List ℕ) (ts : List Term) → length xs ≡ length ts
+      → length (cond (not b) (x ∷ xs) xs) ≡ length (cond (cond b false true) (t ∷ ts) ts)
+  kept true x t xs ts e = e
+  kept false x t xs ts e = ap suc e
 
-  pub words_start : WordsAre (λ x. signed (f (base + x))) n n 0
-  unfolding sparse row keep
-  words_start = let e : n - n ≡ 0 = omega arith in rw e refl
+  counted : (xs : List ℕ) → length (filter (λ x. not (eqb (f (base + x)) 0)) xs) ≡ length (keep is_some (map term xs))
+  unfolding keep is_some named
+  counted [] = refl
+  counted (x ∷ xs) = rw (tested (f (base + x))) (kept (eqb (f (base + x)) 0) x (term x) _ _ (counted xs))
 
-  pub words_next :
-      {left m r : ℕ} → 0 < left → left ≤ n → r ≡ cond (eqb (f (base + 1 + (left - 1))) 0) m (1 + m) → WordsAre (λ x. signed (f (base + x))) n left m
-      → WordsAre (λ x. signed (f (base + x))) n (left - 1) r
-  unfolding sparse row keep is_some named
-  words_next {left} {m} {r} k l e is =
-      let more : n - (left - 1) ≡ suc (n - left) = omega arith in
-      let next : suc (left - 1) ≡ left = omega arith in
-      let here : base + 1 + (left - 1) ≡ base + left = omega arith in
-      rw (more, next, tested (f (base + left))) (rw here at e ∙ by (eqb (f (base + left)) 0))
-    where
-      rest : List Term
-      rest = keep is_some (map (named (λ x. signed (f (base + x)))) (row (suc left) (n - left)))
+  range_row : (i k : ℕ) → range_with_len i k ≡ row i k
+  unfolding row
+  range_row i zero = refl
+  range_row i (suc k) = rw (add-one i) (ap (λ l. i ∷ l) (range_row (suc i) k))
 
-      by : (b : Bool) → cond b m (1 + m) ≡ length (cond (cond b false true) (named (λ x. signed (f (base + x))) left ∷ rest) rest)
-      by true = is
-      by false = omega (arith, is)
+  count_keep : (p : Term → Bool) (ts : List Term) → length (keep p ts) ≤ length ts
+  unfolding count
+  count_keep p ts = count_le p ts
 
-pub word_room : (r m : ℕ) (b : Bool) → r ≡ cond b m (1 + m) → r ≤ 1 + m
-word_room r m true e = omega (arith, e)
-word_room r m false e = omega (arith, e)
+  pub words_counted :
+      (n : ℕ) {m : ℕ} → m ≡ length (filter (λ x. not (eqb (f (base + x)) 0)) (range_with_len 1 (n + 1 - 1)))
+      → (m ≡ length (sparse (λ x. signed (f (base + x))) 0 n)) × (m ≤ n)
+  unfolding sparse
+  words_counted n {m} e =
+      let k : n + 1 - 1 ≡ n = omega arith in
+      let is : m ≡ length (keep is_some (map term (row 1 n))) =
+      e ∙ ap (λ j. length (filter (λ x. not (eqb (f (base + x)) 0)) (range_with_len 1 j))) k ∙ ap (λ l. length (filter (λ x. not (eqb (f (base + x)) 0)) l)) (range_row 1 n) ∙ counted (row 1 n) in
+      (is, omega (arith, is, count_keep is_some (map term (row 1 n)), length-map (row 1 n) term, length_row 1 n))

@@ -1,7 +1,7 @@
 // How many variables and how many constraints a plan's text has. Neither depends on the terms of a rule.
 #![tactic(auto)]
 
-ghost use Rattle.std.specs.Prelude.{◌≡◌, cond, ℕ, ◌+◌, ◌*◌, ◌≤◌, ◌<◌, length};
+ghost use Rattle.std.specs.Prelude.{◌≡◌, ℕ, ◌+◌, ◌*◌, ◌≤◌, ◌<◌, length};
 ghost use Rattle.plpb.specs.Lists.{sum_by};
 ghost use Rattle.words.specs.Words.{word_at, signed};
 ghost use Rattle.format.specs.Layout.{clause_first_at, clause_count_at, rule_first_at};
@@ -26,6 +26,9 @@ fn bounds(tables: &[u8], r: usize) -> usize
 }
 
 // Three loops here add up from the last to the first. One function over a closure would need clauses on its calls that are longer than the loops.
+// The rules of a clause and the words of a section are told by the first and how many they are: a part of the slice would shift the indices of the
+// format's layout, in which the definitions speak.
+
 // How many lines the rules of a clause with several have: of each, one for a bound that is there and one for each of (20) to (22) and both sides.
 fn rules_lines(tables: &[u8], first: usize, count: usize) -> usize
     requires { (4 * rule_first_at (first + count) ≤ length tables.now) × (count ≤ 1_024) }
@@ -81,17 +84,5 @@ pub fn some_words(tables: &[u8], base: usize, n: usize) -> usize
     requires { (4 * (base + n) + 4 ≤ length tables.now) × (n < 4_294_967_296) }
     ensures { (result ≡ length (sparse (λ x. signed (word_at tables.now (base + x))) 0 n)) × (result ≤ n) }
 {
-    let mut some = 0;
-    for i in (0..n).rev() {
-        some = plus_if(word(tables, base + 1 + i) == 0, some);
-    }
-    some
-}
-
-// A count, and one more where a word is not 0.
-fn plus_if(zero: bool, n: usize) -> usize
-    requires { n < 4_294_967_296 }
-    ensures { result ≡ cond zero n (1 + n) }
-{
-    if zero { n } else { 1 + n }
+    (1..n + 1).filter(|&x| word(tables, base + x) != 0).count()
 }

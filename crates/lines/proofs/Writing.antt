@@ -1,6 +1,6 @@
 -- Laws of items written one behind the other into a buffer.
 -- Assumes nothing.
-use Prim.Native.Nat.{ℕ, ◌+◌, ◌/◌, ◌%◌, ◌≤◌, ◌<◌}
+use Prim.Native.Nat.{ℕ, ◌+◌, ◌≤◌, ◌<◌}
 use native.Mathlib.Omega.{arith}
 use mathlib.Core.Path.{◌≡◌, refl, sym, ap, ◌∙◌}
 use mathlib.Core.Bool.{cond}
@@ -12,8 +12,7 @@ use Rattle.words.specs.Writes.{front, put}
 use Rattle.words.proofs.Writes.{put_sets, front_put, put_put, length_put}
 use Rattle.numbers.proofs.Keep.{get_d_map}
 use Rattle.numbers.proofs.Taking.{write_more}
-use Rattle.lines.specs.Text.{digit, decimal}
-use Rattle.texts.proofs.Decimal.{decimal_small, decimal_large, length_large}
+use Rattle.lines.specs.Text.{digit}
 
 -- One byte stored is one written.
 pub stored : (s : List ℕ) (at b : ℕ) → at < length s → set s at b ≡ put at (b ∷ []) s
@@ -32,28 +31,6 @@ put_more o {t} at xs last b e l h =
     ∙ stored t (at + length xs) b (omega arith)
     ∙ ap (put (at + length xs) (b ∷ [])) e
     ∙ put_put at xs (b ∷ []) o (omega arith)
-
--- The digits of a number: one alone, or the last behind the others.
-module _ (o : List ℕ) (at n : ℕ) (room : at + length (decimal n) ≤ length o) where
-  pub digit_room : n < 10 → at < length o
-  digit_room h = let e : length (decimal n) ≡ 1 = ap length (decimal_small n h) in omega (arith, e, room)
-
-  pub one_digit : (b : ℕ) → n < 10 → b ≡ digit n → (set o at b ≡ put at (decimal n) o) × (at + 1 ≡ at + length (decimal n))
-  one_digit b h e =
-      let d = decimal_small n h in
-      (stored o at b (digit_room h) ∙ ap (λ (l : List ℕ). put at l o) (ap (λ (x : ℕ). x ∷ []) e ∙ sym d), sym (ap (λ (l : List ℕ). at + length l) d))
-
-  pub tenth_room : 10 ≤ n → at + length (decimal (n / 10)) < length o
-  tenth_room h = omega (arith, room, length_large n h)
-
-  pub last_digit :
-      {t : List ℕ} (last b : ℕ) → 10 ≤ n → t ≡ put at (decimal (n / 10)) o → last ≡ at + length (decimal (n / 10)) → b ≡ digit (n % 10)
-      → (set t last b ≡ put at (decimal n) o) × (last + 1 ≡ at + length (decimal n))
-  last_digit last b h e l d = (
-    put_more o at (decimal (n / 10)) last b e l (tenth_room h)
-        ∙ ap (λ (x : List ℕ). put at x o) (ap (λ (x : ℕ). decimal (n / 10) ++ (x ∷ [])) d ∙ sym (decimal_large n h)),
-    omega (arith, l, length_large n h),
-  )
 
 -- A buffer over which the first i bytes of a list are written.
 pub record Copied (xs o t : List ℕ) (i : ℕ) : Type 0 where

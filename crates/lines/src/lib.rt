@@ -1,4 +1,4 @@
-// The lines that the program prints, written into a lent buffer from its front.
+// The lines that the program prints, written into a lent buffer from its front. The buffer and the place in it stay two parameters, as in spelling.
 #![tactic(auto)]
 
 ghost use Rattle.std.specs.Prelude.{◌≡◌, ◌+◌, ◌≤◌, ◌<◌, cond, [], ◌∷◌, ◌++◌, map, eqb, length, IfSome};
@@ -6,35 +6,21 @@ ghost use Rattle.std.specs.Option.{option_copied};
 ghost use Rattle.words.specs.Writes.{front, put};
 ghost use Rattle.lines.specs.Text.{digit as digitOf, decimal, signed_decimal, ending_of, ending_word, result_line, bits_line, refusal_line};
 
-use texts::digit;
+use spelling::put_decimal;
 
-const SPACE: u8 = 32;
+const SPACE: u8 = b' ';
 
-const LINE_FEED: u8 = 10;
+const LINE_FEED: u8 = b'\n';
 
 // A line's first item, and what ends it. Answers the next place.
 fn put_word(out: &mut [u8], word: &[u8], end: u8) -> usize
     requires { length word.now < length out.old }
     ensures { (out.new ≡ front (word.now ++ (end ∷ [])) out.old) × (result ≡ length word.now + 1) }
 {
-    words::copy(word, out, word.len());
+    words::copy(word, out);
     let at = word.len();
     out[at] = end;
     at + 1
-}
-
-// A number's digits from a place on. Answers the next place.
-fn put_decimal(out: &mut [u8], at: usize, n: u64) -> usize
-    requires { at + length (decimal n) ≤ length out.old }
-    ensures { (out.new ≡ put at (decimal n) out.old) × (result ≡ at + length (decimal n)) }
-{
-    if n < 10 {
-        out[at] = digit(n);
-        return at + 1;
-    }
-    let last = put_decimal(out, at, n / 10);
-    out[last] = digit(n % 10);
-    last + 1
 }
 
 // A number of 20 digits at most, and what ends it. Answers the next place.
@@ -102,9 +88,10 @@ pub fn result_line(
 fn bit_digit(b: u8) -> u8
     ensures { result ≡ cond (eqb b 0) (digitOf 0) (digitOf 1) }
 {
-    if b == 0 { b'0' } else { b'1' }
+    b'0' + u8::from(b != 0)
 }
 
+// The library has no method that maps one slice over another, so that this is a loop.
 fn put_bits(out: &mut [u8], bits: &[u8])
     requires { length bits.now ≤ length out.old }
     ensures { out.new ≡ front (map (λ b. cond (eqb b 0) (digitOf 0) (digitOf 1)) bits.now) out.old }

@@ -1,27 +1,27 @@
 -- "Each assignment that satisfies plan and locks has exactly one extension that satisfies the text, and no other has any." (document 02, T-02; paper 004,
 -- Theorem 3)
 -- Assumes nothing.
-use Prim.Native.Nat.{ℕ, zero, suc, ◌+◌, ◌*◌, ◌≤◌, ◌<◌}
-use native.Mathlib.Nat.{add-zero, zero-add, add_assoc, not-suc-le-zero}
+use Prim.Native.Nat.{ℕ, suc, ◌+◌, ◌*◌, ◌≤◌, ◌<◌}
+use native.Mathlib.Nat.{zero-add}
 use native.Mathlib.Omega.{arith}
 use mathlib.Core.Path.{◌≡◌, refl, sym, ap, ap₂, ◌∙◌, subst}
-use mathlib.Core.Bool.{Bool, true, false, not, cond, true≢false}
+use mathlib.Core.Bool.{Bool, true, false, cond}
 use mathlib.Core.List.{List, [], ◌∷◌, ◌++◌, map, append_assoc, append-nil}
 use lib.Dec.{T, eqb, leb, ltb}
-use lib.IntN.{ℤ, pos}
+use lib.IntN.{pos}
 use lib.Signed.{le_z}
 use lib.ListN.{length, get_or, take, drop, length-append, length-drop, take-append-drop}
 use lib.Seq.{length-take-le, take_at, drop_at}
-use borrow.Author.Tests.{leb-true, ltb-true, lt-ltb, le-ltb, eqb-true, eq-eqb, ne_eqb}
-use Rattle.plpb.specs.Lists.{◌and◌, ◌or◌, any, all, concat, sum_by, row}
+use borrow.Author.Tests.{leb-true, ltb-true, lt-ltb, eqb-true, eq-eqb, ne_eqb}
+use Rattle.plpb.specs.Lists.{◌and◌, ◌or◌, any, all, concat, sum_by}
 use Rattle.plpb.specs.Plan.{Bound, absent, present, Term, Rule, Clause, Lock, Plan, Assignment, value, is_variable, lock_among, lock_of, agrees, obeys, total, at_least, at_most, rule_holds, clause_holds, satisfies, rising_above, rising}
-use Rattle.format.specs.Limits.{lawful, lock_term, lock_terms, rule_lawful}
+use Rattle.format.specs.Limits.{lock_term, lock_terms, rule_lawful}
 use Rattle.format.proofs.Lawful.{term_within, clause_lawful, clause_rules, rule_parts, Within, plan_parts}
-use Rattle.plpb.proofs.Lists.{T_true, is_true, false_T, and_left, and_right, and_both, and_true, or_false, all_append, same_test}
-use Rattle.plpb.proofs.Locks.{all_in_row, variable_range, obeyed}
+use Rattle.plpb.proofs.Lists.{T_true, is_true, and_left, and_right, and_both, and_true, or_false, all_append, same_test}
+use Rattle.plpb.proofs.Locks.{all_in_row, obeyed}
 use Rattle.opb.specs.Opb.{Line, meets, Text, solves, line_rule, plan_of}
-use Rattle.opb.specs.Tau.{weighted, geq, straight, rule_lines, rules_lines, rule_atoms, or_lines, is_single, clause_lines, new_atoms, clauses_lines, lock_line, tau, rule_values, clause_values, extension}
-use Rattle.models.specs.Claims.{Extends, ExactlyOne, SameSolutions}
+use Rattle.opb.specs.Tau.{geq, straight, rule_lines, rules_lines, rule_atoms, or_lines, is_single, clause_lines, new_atoms, clauses_lines, lock_line, tau, rule_values, clause_values, extension}
+use Rattle.models.specs.Claims.{ExactlyOne, SameSolutions}
 use Rattle.models.proofs.Sums.{value_front, total_front}
 use Rattle.models.proofs.Rules.{same, rule_says, straight_says, lock_says, some_rule, some_says}
 

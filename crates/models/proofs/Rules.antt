@@ -1,18 +1,18 @@
 -- Paper 004, section 4: (16) and (17) say W⁻ ≡ [w₁a₁, .., wₘaₘ]u, (18) and (19) say W⁺ ≡ l[w₁a₁, .., wₘaₘ], (20) to (22) say W ≡ W⁺ ∧ W⁻, and (15) says
 -- that some W is true.
 -- Assumes nothing.
-use Prim.Native.Nat.{ℕ, zero, suc, ◌+◌, ◌≤◌, ◌<◌, zero-le}
+use Prim.Native.Nat.{ℕ, zero, suc, ◌+◌, zero-le}
 use native.Mathlib.Omega.{arith}
 use mathlib.Core.Path.{◌≡◌, refl, sym, ap, ap₂, ◌∙◌}
-use mathlib.Core.Bool.{Bool, true, false, not, cond, true≢false}
-use mathlib.Core.List.{List, [], ◌∷◌, ◌++◌, map}
-use lib.Dec.{T, leb-suc-zero, le→leb}
-use lib.IntN.{ℤ, pos, negsuc, neg_ℤ, ◌+ℤ◌, ◌-ℤ◌, +ℤ_idl, +ℤ_idr, +ℤ_assoc, +ℤ_comm, +ℤ_invr, -ℤ-+ℤ_cancel, +ℤ-neg_ℤ_cancel}
+use mathlib.Core.Bool.{Bool, true, false, not, cond}
+use mathlib.Core.List.{List, [], ◌∷◌, ◌++◌}
+use lib.Dec.{leb-suc-zero, le→leb}
+use lib.IntN.{ℤ, pos, negsuc, neg_ℤ, ◌+ℤ◌, ◌-ℤ◌, +ℤ_idl, +ℤ_idr, +ℤ_assoc, +ℤ_comm, +ℤ_invr, -ℤ-+ℤ_cancel}
 use lib.Signed.{le_z}
 use borrow.Author.Tests.{lt-ltb}
-use Rattle.plpb.specs.Lists.{◌and◌, ◌or◌, any, all}
+use Rattle.plpb.specs.Lists.{◌and◌, ◌or◌, all}
 use Rattle.plpb.specs.Plan.{Bound, absent, present, Term, Rule, Clause, Lock, Assignment, value, agrees, total, at_least, at_most, rule_holds, least_total, greatest_total}
-use Rattle.plpb.proofs.Lists.{is_true, and_assoc, and_true, true_and, not_not, all_append}
+use Rattle.plpb.proofs.Lists.{is_true, and_true, true_and, not_not, all_append}
 use Rattle.plpb.proofs.Integers.{le_z_shift}
 use Rattle.plpb.proofs.Costs.{least_total_lem, greatest_total_lem}
 use Rattle.opb.specs.Opb.{Line, meets}

@@ -1,21 +1,21 @@
 -- Sums over what is written: zero coefficients change nothing, changed signs turn a sum over, and one term more adds to it.
 -- Assumes nothing.
-use Prim.Native.Nat.{ℕ, zero, suc, ◌+◌, ◌≤◌, ◌<◌}
+use Prim.Native.Nat.{ℕ, zero, suc, ◌≤◌, ◌<◌}
 use native.Mathlib.Nat.{not-suc-le-zero}
 use native.Mathlib.Omega.{arith}
-use mathlib.Core.Path.{◌≡◌, refl, sym, ap, ap₂, ◌∙◌, subst}
-use mathlib.Core.Bool.{Bool, true, false, not, cond, true≢false}
+use mathlib.Core.Path.{◌≡◌, refl, sym, ap, ap₂, ◌∙◌}
+use mathlib.Core.Bool.{Bool, true, false, cond, true≢false}
 use mathlib.Core.List.{List, [], ◌∷◌, ◌++◌, map}
-use lib.Dec.{T, ltb, leb}
-use lib.IntN.{ℤ, pos, negsuc, nat_abs, neg_ℤ, suc_ℤ, ◌+ℤ◌, ◌-ℤ◌, +ℤ_idl, +ℤ_idr, +ℤ_assoc, +ℤ_comm, neg_ℤ-+ℤ, +ℤ-neg_ℤ_cancel}
+use lib.Dec.{ltb, leb}
+use lib.IntN.{ℤ, pos, negsuc, nat_abs, neg_ℤ, ◌+ℤ◌, +ℤ_idl, +ℤ_assoc, +ℤ_comm, neg_ℤ-+ℤ, +ℤ-neg_ℤ_cancel}
 use lib.ListN.{length, get_or}
-use lib.Signed.{le_z, lt_z}
+use lib.Signed.{le_z}
 use borrow.Author.Tests.{ltb-false, leb-true}
 use Rattle.plpb.specs.Lists.{◌and◌, all, keep}
 use Rattle.plpb.specs.Plan.{Term, Assignment, value, total}
 use Rattle.plpb.proofs.Integers.{le_z_shift}
-use Rattle.opb.specs.Opb.{Line, meets}
-use Rattle.opb.specs.Tau.{weighted, has_weight, negated, geq, leq}
+use Rattle.opb.specs.Opb.{meets}
+use Rattle.opb.specs.Tau.{has_weight, negated, geq, leq}
 
 -- ---- what is written
 

@@ -1,23 +1,22 @@
 -- The first line, the objective and the locks as bytes.
 -- Assumes nothing.
-use Prim.Native.Nat.{ℕ, zero, suc, ◌+◌, ◌*◌, ◌-◌, ◌≤◌, ◌<◌, zero-le}
-use native.Mathlib.Nat.{not-suc-le-zero}
+use Prim.Native.Nat.{ℕ, zero, suc, ◌+◌, ◌-◌, ◌≤◌, ◌<◌}
 use native.Mathlib.Numerals.{add-one}
 use native.Mathlib.Omega.{arith}
 use mathlib.Core.Path.{◌≡◌, refl, sym, ap, ap₂, ◌∙◌}
 use mathlib.Core.Bool.{Bool, true, false, cond}
-use mathlib.Core.List.{List, [], ◌∷◌, ◌++◌, map, append_assoc}
+use mathlib.Core.List.{List, [], ◌∷◌, ◌++◌, map}
 use lib.Dec.{ltb}
-use lib.IntN.{ℤ, pos, negsuc, nat_abs}
+use lib.IntN.{ℤ, nat_abs}
 use lib.ListN.{length}
-use borrow.Author.Tests.{lt-ltb, le-ltb}
+use borrow.Author.Tests.{lt-ltb}
 use Rattle.plpb.specs.Lists.{keep, concat, row}
-use Rattle.plpb.specs.Plan.{Term, Lock}
+use Rattle.plpb.specs.Plan.{Term}
 use Rattle.words.specs.Words.{word_at, signed}
 use Rattle.format.specs.Layout.{objective_at, lock_at}
 use Rattle.format.specs.Tables.{named, is_some, sparse, term_lock, objective_of}
 use Rattle.texts.specs.Texts.{text, decimal, line}
-use Rattle.opb.specs.Spell.{sum_items, term_items, coefficient, spell_line, spell_first, spell_objective}
+use Rattle.opb.specs.Spell.{sum_items, term_items, spell_line, spell_first, spell_objective}
 use Rattle.opb.specs.Tau.{weighted, has_weight, lock_line}
 use Rattle.constraints.specs.Bytes.{term_bytes, sum_bytes, lines_bytes}
 use Rattle.constraints.proofs.Bytes.{sum_none, sum_cons, line_terms, lines_none, lines_one, lines_append}
@@ -93,10 +92,10 @@ module _ (tables : List ℕ) {m n : ℕ} (c : m ≡ length (sparse (λ x. signed
   pub objective_none : m ≡ 0 → [] ≡ spell_objective (objective_of (word_at tables))
   objective_none z = objective_empty (objective_of (word_at tables)) (sym counted ∙ z)
 
-  pub objective_some : (m ≡ 0 → ⊥) → spell_objective (objective_of (word_at tables)) ≡ text "min: " ++ (sum_bytes (dense_terms tables 0 n) ++ text ";\n")
+  pub objective_some : (m ≡ 0 → ⊥) → spell_objective (objective_of (word_at tables)) ≡ text "min: " ++ (sum_bytes (dense_terms tables 0 (word_at tables 0)) ++ text ";\n")
   objective_some h =
       objective_full (objective_of (word_at tables)) (λ z. h (counted ∙ z))
-      ∙ ap (λ l. text "min: " ++ (l ++ text ";\n")) (objective_terms tables ∙ ap (λ k. sum_bytes (dense_terms tables 0 k)) (sym i))
+      ∙ ap (λ l. text "min: " ++ (l ++ text ";\n")) (objective_terms tables)
 
 -- ---- the locks
 

@@ -1,15 +1,14 @@
 -- The whole text as bytes: its parts, one behind the other.
 -- Assumes nothing.
 use Prim.Native.Nat.{ℕ, ◌+◌}
-use mathlib.Core.Path.{◌≡◌, refl, sym, ap, ap₂, ◌∙◌}
-use mathlib.Core.List.{List, [], ◌∷◌, ◌++◌, map}
+use mathlib.Core.Path.{◌≡◌, refl, ap, ap₂, ◌∙◌}
+use mathlib.Core.List.{List, ◌++◌, map}
 use lib.ListN.{length, length-append, length-map}
-use Rattle.plpb.specs.Lists.{concat, row, sum_by}
-use Rattle.plpb.specs.Plan.{Clause}
+use Rattle.plpb.specs.Lists.{sum_by}
 use Rattle.words.specs.Words.{word_at, signed}
-use Rattle.format.specs.Tables.{clause_of, sparse, term_lock, locks_of, objective_of, plan_in, plan_of_tables}
+use Rattle.format.specs.Tables.{sparse, term_lock, locks_of, objective_of, plan_in, plan_of_tables}
 use Rattle.opb.specs.Opb.{Line}
-use Rattle.opb.specs.Spell.{spell_line, spell_first, spell_objective, spell}
+use Rattle.opb.specs.Spell.{spell_first, spell_objective, spell}
 use Rattle.opb.specs.Tau.{new_atoms, lock_line, clauses_lines, tau}
 use Rattle.constraints.specs.Bytes.{lines_bytes}
 use Rattle.constraints.proofs.Bytes.{lines_append}

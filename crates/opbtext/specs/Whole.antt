@@ -1,6 +1,6 @@
 -- The tables of a plan whose text is written, and the parts of that text.
 -- Assumes nothing.
-use Rattle.std.specs.Prelude.{ℕ, suc, ◌*◌, ◌≤◌, ◌<◌, List, map, ℤ, length}
+use Rattle.std.specs.Prelude.{ℕ, suc, ◌≤◌, ◌<◌, List, map, length}
 use Rattle.plpb.specs.Lists.{row}
 use Rattle.plpb.specs.Plan.{Term}
 use Rattle.words.specs.Words.{word_at, signed}

@@ -3,17 +3,17 @@
 use Prim.Native.Nat.{ℕ, zero, suc, ◌+◌, ◌-◌, ◌≤◌, ◌<◌}
 use native.Mathlib.Omega.{arith}
 use mathlib.Core.Path.{◌≡◌, refl, sym, ap, ap₂, ◌∙◌}
-use mathlib.Core.Bool.{Bool, true, false, not, cond}
+use mathlib.Core.Bool.{Bool, true, false}
 use mathlib.Core.List.{List, [], ◌∷◌, ◌++◌, map, append_assoc, append-nil}
 use lib.Dec.{leb, ltb, eqb}
-use lib.IntN.{ℤ, pos, negsuc, neg_ℤ}
+use lib.IntN.{ℤ, pos, negsuc}
 use lib.ListN.{length, get_or, length-append}
 use borrow.Author.Tests.{lt-ltb, le-ltb, eq-eqb, ne_eqb, lt-leb}
-use Rattle.plpb.specs.Lists.{◌and◌, ◌or◌, all, concat}
+use Rattle.plpb.specs.Lists.{◌and◌, all, concat}
 use Rattle.plpb.proofs.Lists.{T_true, is_true, and_left, and_false}
 use Rattle.plpb.specs.Plan.{Term}
 use Rattle.texts.specs.Texts.{text, decimal, signed_decimal}
-use Rattle.tokens.specs.Tokens.{is_blank, is_digit, blanks_end, digits_end, number_at, word_end}
+use Rattle.tokens.specs.Tokens.{is_blank, is_digit, blanks_end, digits_end, word_end}
 use Rattle.tokens.proofs.Numbers.{digit_range}
 use Rattle.statements.specs.Grammar.{unsigned_from, integer_end, is_integer, with_sign, integer_at, letter_at, index_from, index_end, term_end, is_term, term_at, terms_from, end_from}
 use Rattle.statements.proofs.Parts.{sign_plus, sign_minus, sign_other}

@@ -1,31 +1,31 @@
 -- A line as it is spelled: where it ends, and what it says.
 -- Assumes nothing.
-use Prim.Native.Nat.{ℕ, zero, suc, ◌+◌, ◌-◌, ◌≤◌, ◌<◌}
+use Prim.Native.Nat.{ℕ, suc, ◌+◌, ◌-◌, ◌≤◌, ◌<◌}
 use native.Mathlib.Omega.{arith}
-use mathlib.Core.Path.{◌≡◌, refl, sym, ap, ap₂, ◌∙◌}
-use mathlib.Core.Bool.{Bool, true, false, not, cond}
-use mathlib.Core.List.{List, [], ◌∷◌, ◌++◌, map, append_assoc, append-nil}
-use lib.Dec.{leb, ltb, eqb}
+use mathlib.Core.Path.{◌≡◌, refl, sym, ap, ◌∙◌}
+use mathlib.Core.Bool.{Bool, true, false}
+use mathlib.Core.List.{List, [], ◌∷◌, ◌++◌, append_assoc, append-nil}
+use lib.Dec.{ltb, eqb}
 use lib.IntN.{ℤ, pos, negsuc}
 use lib.ListN.{length, get_or, drop, length-append, length-drop}
 use borrow.Author.Tests.{lt-ltb, eq-eqb, ne_eqb}
 use Rattle.plpb.specs.Lists.{◌and◌, all, concat}
 use Rattle.plpb.proofs.Lists.{T_true, is_true, and_left, and_right, and_both, all_append}
-use Rattle.plpb.specs.Plan.{Bound, absent, present, Term, Rule}
+use Rattle.plpb.specs.Plan.{Term}
 use Rattle.texts.specs.Texts.{text, decimal, signed_decimal, line}
 use Rattle.tokens.specs.Tokens.{is_blank, is_digit, is_inside, blanks_end, line_end, word_end}
 use Rattle.tokens.proofs.Numbers.{digit_range}
-use Rattle.statements.specs.Grammar.{integer_end, is_integer, integer_at, sum_at, sum_end, terms_in, sum_from, min_word, is_comment, is_objective, is_exact, relation_end, bound_from, bound_end, is_bounded, closes, objective_formed, constraint_formed, bound_at, rule_at}
+use Rattle.statements.specs.Grammar.{integer_end, integer_at, sum_at, sum_end, terms_in, sum_from, min_word, is_comment, is_objective, is_exact, relation_end, bound_from, bound_end, is_bounded, closes, objective_formed, constraint_formed, bound_at, rule_at}
 use Rattle.statements.proofs.Parts.{relation_equal, relation_other}
 use Rattle.opb_lines.specs.ReadText.{starts}
 use Rattle.opb_lines.specs.Lines.{lines_from}
 use Rattle.opb_lines.proofs.Lines.{lines_here, lines_behind, next_found}
 use Rattle.opb.specs.Opb.{Line, line_rule}
 use Rattle.opb.specs.Spell.{coefficient, term_items, sum_items, relation, spell_line, spell_objective}
-use Rattle.constraints.specs.Bytes.{term_bytes, end_bytes}
+use Rattle.constraints.specs.Bytes.{term_bytes}
 use Rattle.constraints.proofs.Bytes.{line_terms, line_bytes, end_bytes_lem}
 use Rattle.reread.proofs.Places.{stops, digits, Here, past, byte_of, byte_at, within, run_ends, word_ends}
-use Rattle.reread.proofs.Items.{no_blank, blank_digit, Whole, coefficient_whole, bound_whole, coefficient_stops, bound_stops, shape, sum_text, sum_stops, sum_here, sum_size}
+use Rattle.reread.proofs.Items.{no_blank, blank_digit, bound_whole, bound_stops, shape, sum_text, sum_stops, sum_here, sum_size}
 
 -- ---- no line feed within
 

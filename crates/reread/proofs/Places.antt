@@ -3,18 +3,17 @@
 use Prim.Native.Nat.{ℕ, zero, suc, ◌+◌, ◌*◌, ◌-◌, ◌/◌, ◌%◌, ◌≤◌, ◌<◌}
 use native.Mathlib.Omega.{arith}
 use native.Mathlib.Decide.{dec_lt}
-use mathlib.Core.Path.{◌≡◌, refl, sym, ap, ap₂, ◌∙◌}
-use mathlib.Core.Bool.{Bool, true, false, not, cond}
+use mathlib.Core.Path.{◌≡◌, refl, sym, ap, ◌∙◌}
+use mathlib.Core.Bool.{Bool, true, not}
 use mathlib.Core.List.{List, [], ◌∷◌, ◌++◌}
-use lib.Dec.{T, leb, ltb, eqb}
 use lib.ListN.{length, get_or, drop, length-drop}
 use lib.Seq.{drop-drop, drop-append_seam, get_or-drop}
-use borrow.Author.Tests.{eq-eqb, ne_eqb, le-leb, not-true}
+use borrow.Author.Tests.{eq-eqb, le-leb, not-true}
 use Rattle.plpb.specs.Lists.{◌and◌, all}
 use Rattle.plpb.proofs.Lists.{T_true, is_true, and_left, and_right, and_both, all_append}
 use Rattle.texts.specs.Texts.{digit, decimal}
 use Rattle.texts.proofs.Decimal.{decimal_small, decimal_large, length_large, value_from, decimal_value}
-use Rattle.tokens.specs.Tokens.{run, run_end, is_blank, is_digit, is_inside, number, number_at, begins, word_end}
+use Rattle.tokens.specs.Tokens.{run, run_end, is_digit, number, number_at, begins, word_end}
 
 -- No such byte stands at the front of a list.
 unfoldable pub stops : (ℕ → Bool) → List ℕ → Bool

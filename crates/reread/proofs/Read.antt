@@ -1,30 +1,30 @@
 -- A text as it is spelled is read as the plan that it says; so the text of a plan of single-rule clauses, read again, has the same solutions.
 -- Assumes nothing.
-use Prim.Native.Nat.{ℕ, zero, suc, ◌+◌, ◌≤◌, ◌<◌}
+use Prim.Native.Nat.{ℕ, suc, ◌+◌, ◌≤◌, ◌<◌}
 use native.Mathlib.Omega.{arith}
 use native.Mathlib.Nat.{add-zero}
 use mathlib.Core.Path.{◌≡◌, refl, sym, ap, ap₂, ◌∙◌}
 use mathlib.Core.Bool.{Bool, true, false, not, cond}
 use mathlib.Core.List.{List, [], ◌∷◌, ◌++◌, map}
-use lib.Dec.{T, leb, ltb, eqb}
+use lib.Dec.{leb, ltb, eqb}
 use lib.IntN.{ℤ, nat_abs}
-use lib.ListN.{length, get_or, drop, length-map}
+use lib.ListN.{length, drop, length-map}
 use borrow.Author.Tests.{leb-true, le-leb, lt-leb, le-ltb, eq-eqb}
 use Rattle.plpb.specs.Lists.{◌and◌, ◌or◌, any, all, keep, concat, sum_by, is_empty}
-use Rattle.plpb.specs.Plan.{present, absent, Term, Rule, Clause, Plan, Assignment, satisfies, obeys}
+use Rattle.plpb.specs.Plan.{Term, Clause, Plan}
 use Rattle.plpb.specs.Tallies.{rules_of}
-use Rattle.format.specs.Limits.{terms_lawful, bound_lawful, is_present, rule_lawful, term_count, lawful}
+use Rattle.format.specs.Limits.{bound_lawful, rule_lawful, term_count}
 use Rattle.format.specs.File.{Reading, refused, accepted, refuse}
 use Rattle.format.proofs.Bools.{and_left, and_right}
-use Rattle.format.proofs.Lawful.{term_within, LawfulTerms, terms_whole, rule_parts, clause_lawful, clause_rules, Within, LawfulPlan, plan_parts}
+use Rattle.format.proofs.Lawful.{term_within, LawfulTerms, terms_whole, rule_parts, clause_lawful, clause_rules, LawfulPlan, plan_parts}
 use Rattle.tokens.specs.Tokens.{line_end}
-use Rattle.statements.specs.Grammar.{is_comment, is_objective, is_constraint, sum_at, sum_from, terms_in, bound_at, rule_at, constraint_formed, objective_formed}
-use Rattle.opb_lines.specs.ReadText.{passes, starts, lines_of, variables_in, constraints_in, objective_of, plan_of_text, first_formed, first_met, objective_fault, constraint_fault, fault, judging, read_text}
+use Rattle.statements.specs.Grammar.{is_constraint, sum_at, sum_from, terms_in, rule_at, objective_formed}
+use Rattle.opb_lines.specs.ReadText.{passes, lines_of, variables_in, constraints_in, objective_of, plan_of_text, first_formed, first_met, objective_fault, constraint_fault, fault, judging, read_text}
 use Rattle.opb_lines.specs.Lines.{lines_from}
 use Rattle.opb_lines.proofs.Lines.{lines_none}
 use Rattle.opb.specs.Opb.{Line, Text, line_rule, plan_of}
 use Rattle.opb.specs.Spell.{spell_line, spell_objective, spell_first, spell}
-use Rattle.opb.specs.Tau.{is_single, new_atoms, tau}
+use Rattle.opb.specs.Tau.{tau}
 use Rattle.models.proofs.Extends.{same_solutions, no_atoms}
 use Rattle.reread.specs.Claims.{ReadSpell, ReadAgain}
 use Rattle.reread.proofs.Places.{Here, past, at_end}

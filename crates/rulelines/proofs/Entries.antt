@@ -2,21 +2,41 @@
 -- Assumes nothing.
 use Prim.Native.Nat.{ℕ, ◌+◌, ◌*◌, ◌≤◌}
 use native.Mathlib.Omega.{arith}
-use mathlib.Core.List.{◌++◌}
+use mathlib.Core.Bool.{Bool, true, false, cond}
+use lib.Dec.{eqb}
+use mathlib.Core.List.{List, ◌++◌}
 use mathlib.Core.Path.{◌≡◌, refl, sym, ap, ap₂, ◌∙◌}
-use mathlib.Core.List.{List}
 use lib.IntN.{ℤ, nat_abs}
-use Rattle.plpb.specs.Lists.{row}
-use Rattle.words.specs.Words.{word_at, signed}
-use Rattle.format.specs.File.{bound_of}
+use Rattle.std.proofs.Common.{Option, Some, None, IfSome}
+use Rattle.plpb.specs.Plan.{Bound, absent, present}
+use Rattle.counting.specs.Bound.{bound_of}
+use Rattle.words.specs.Words.{word_at}
+use Rattle.format.specs.File.{bound_of as bound_in}
 use Rattle.format.specs.Tables.{rule_of}
 use Rattle.rules.specs.declared.entry.Entry.{Entry}
 use Rattle.rules.specs.Rules.{EntryAt}
-use Rattle.extremes.specs.Terms.{terms_in, TermsFit}
-use Rattle.opb.specs.Tau.{lower_line, upper_line, straight, minus_lines, plus_lines, both_lines, rule_lines}
+use Rattle.extremes.specs.Terms.{terms_in}
+use Rattle.extremes.specs.Sums.{terms_of}
+use Rattle.opb.specs.Tau.{straight, both_lines, rule_lines}
 use Rattle.constraints.specs.Bytes.{lines_bytes}
-use Rattle.rulelines.specs.Rules.{RuleFits}
+use Rattle.rulelines.specs.declared.Rule.{Rule}
+use Rattle.rulelines.specs.Rules.{bound_line, atom_lines, RuleFits}
+use Rattle.rulelines.specs.Read.{rule_in, RuleRead}
 use Rattle.rulelines.proofs.Lines.{rule_bytes, straight_bytes}
+
+-- A bound that is there is the number that was read for it, and so as small.
+size_in : Bound ℤ → ℕ
+size_in absent = 0
+size_in (present b) = nat_abs b
+
+bound_small : (o : Option ℤ) (without mode : ℕ) (v : ℤ) {n : ℕ} → bound_of o ≡ bound_in without mode v → nat_abs v ≤ n → IfSome o (λ b. nat_abs b ≤ n)
+unfolding bound_in size_in
+bound_small None without mode v e h = tt
+bound_small (Some b) without mode v {n} e h = rw (ap size_in e) (by (eqb mode without))
+  where
+    by : (t : Bool) → size_in (cond t absent (present v)) ≤ n
+    by true = omega arith
+    by false = h
 
 module _ (tables terms : List ℕ) (r : ℕ) (e : Entry) (h : EntryAt (word_at tables) (1_542 + 5 * r) e) where
   abbrev f : ℕ → ℕ
@@ -31,46 +51,53 @@ module _ (tables terms : List ℕ) (r : ℕ) (e : Entry) (h : EntryAt (word_at t
   count_is : e.count ≡ f (1_543 + 5 * r)
   count_is = let n : 1_542 + 5 * r + 1 ≡ 1_543 + 5 * r = omega arith in h.count ∙ ap f n
 
-  mode_is : e.mode ≡ f (1_544 + 5 * r)
-  mode_is = let n : 1_542 + 5 * r + 2 ≡ 1_544 + 5 * r = omega arith in h.mode ∙ ap f n
-
-  lower_is : e.lower ≡ signed (f (1_545 + 5 * r))
-  lower_is = let n : 1_542 + 5 * r + 3 ≡ 1_545 + 5 * r = omega arith in h.lower ∙ ap (λ i. signed (f i)) n
-
-  upper_is : e.upper ≡ signed (f (1_546 + 5 * r))
-  upper_is = let n : 1_542 + 5 * r + 4 ≡ 1_546 + 5 * r = omega arith in h.upper ∙ ap (λ i. signed (f i)) n
-
-  pub entry_lower : bound_of 2 e.mode e.lower ≡ (rule_of f g r).lower
+  entry_lower : bound_of e.lower ≡ (rule_of f g r).lower
   unfolding rule_of
-  entry_lower = ap₂ (bound_of 2) mode_is lower_is
+  entry_lower =
+      let mode : 1_542 + 5 * r + 2 ≡ 1_544 + 5 * r = omega arith in
+      let lower : 1_542 + 5 * r + 3 ≡ 1_545 + 5 * r = omega arith in
+      rw (mode, lower) at h.lower
 
-  pub entry_upper : bound_of 1 e.mode e.upper ≡ (rule_of f g r).upper
+  entry_upper : bound_of e.upper ≡ (rule_of f g r).upper
   unfolding rule_of
-  entry_upper = ap₂ (bound_of 1) mode_is upper_is
+  entry_upper =
+      let mode : 1_542 + 5 * r + 2 ≡ 1_544 + 5 * r = omega arith in
+      let upper : 1_542 + 5 * r + 4 ≡ 1_546 + 5 * r = omega arith in
+      rw (mode, upper) at h.upper
 
-  pub entry_terms : terms_in g e.first e.count ≡ (rule_of f g r).terms
+  entry_terms : terms_in g e.first e.count ≡ (rule_of f g r).terms
   unfolding rule_of terms_in
   entry_terms = ap₂ (terms_in g) first_is count_is
 
-  -- The rule's lines as bytes, by its entry.
+  module _ (fit : RuleFits tables terms r) where
+    lower_small : IfSome e.lower (λ b. nat_abs b ≤ 1_000_000_000)
+    unfolding rule_of
+    lower_small = bound_small e.lower 2 _ _ entry_lower fit.lower
+
+    upper_small : IfSome e.upper (λ b. nat_abs b ≤ 1_000_000_000)
+    unfolding rule_of
+    upper_small = bound_small e.upper 1 _ _ entry_upper fit.upper
+
+    read_is : (s : Rule) → s.lower ≡ e.lower → s.upper ≡ e.upper → terms_of s.sum ≡ terms_in g e.first e.count → rule_in s ≡ rule_of f g r
+    unfolding rule_of
+    read_is s a b d = rw (ap bound_of a ∙ entry_lower, ap bound_of b ∙ entry_upper, d ∙ entry_terms) refl
+
+    pub rule_read : (s : Rule) → s.lower ≡ e.lower → s.upper ≡ e.upper → terms_of s.sum ≡ terms_in g e.first e.count → RuleRead tables terms r s
+    rule_read s a b d = record {
+      is = read_is s a b d;
+      lower = rw a lower_small;
+      upper = rw b upper_small;
+    }
+
+-- The lines of a rule that was read.
+module _ {tables terms : List ℕ} {i : ℕ} {r : Rule} (h : RuleRead tables terms i r) where
   pub rule_parts :
-      (k : ℕ) → lines_bytes (rule_lines k (rule_of f g r))
-      ≡ lines_bytes (minus_lines (k + 2) (bound_of 1 e.mode e.upper) (terms_in g e.first e.count))
-      ++ (lines_bytes (plus_lines (k + 1) (bound_of 2 e.mode e.lower) (terms_in g e.first e.count)) ++ lines_bytes (both_lines k))
-  rule_parts k = rw (entry_upper, entry_lower, entry_terms) (rule_bytes k (rule_of f g r))
+      (k : ℕ) → lines_bytes (rule_lines k (rule_of (word_at tables) (word_at terms) i))
+      ≡ lines_bytes (atom_lines true (k + 2) (bound_of r.upper) (terms_of r.sum))
+      ++ (lines_bytes (atom_lines false (k + 1) (bound_of r.lower) (terms_of r.sum)) ++ lines_bytes (both_lines k))
+  rule_parts k = ap (λ q. lines_bytes (rule_lines k q)) (sym h.is) ∙ rule_bytes k (rule_in r)
 
   pub straight_parts :
-      lines_bytes (straight (rule_of f g r))
-      ≡ lines_bytes (lower_line (bound_of 2 e.mode e.lower) (terms_in g e.first e.count))
-      ++ lines_bytes (upper_line (bound_of 1 e.mode e.upper) (terms_in g e.first e.count))
-  straight_parts = rw (entry_lower, entry_upper, entry_terms) (straight_bytes (rule_of f g r))
-
-  module _ (fit : RuleFits tables terms r) where
-    pub entry_fit : TermsFit terms e.first e.count
-    entry_fit = rw (first_is, count_is) fit.body
-
-    pub entry_lower_size : nat_abs e.lower ≤ 1_000_000_000
-    entry_lower_size = rw lower_is fit.lower
-
-    pub entry_upper_size : nat_abs e.upper ≤ 1_000_000_000
-    entry_upper_size = rw upper_is fit.upper
+      lines_bytes (straight (rule_of (word_at tables) (word_at terms) i))
+      ≡ lines_bytes (bound_line false (bound_of r.lower) (terms_of r.sum)) ++ lines_bytes (bound_line true (bound_of r.upper) (terms_of r.sum))
+  straight_parts = ap (λ q. lines_bytes (straight q)) (sym h.is) ∙ straight_bytes (rule_in r)

@@ -1,2 +1,3 @@
 -- What writing a rule's lines needs.
 pub mod Rules
+pub mod Read

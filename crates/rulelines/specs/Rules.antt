@@ -1,25 +1,23 @@
 -- Rules in the tables, and what writing their lines needs.
 -- Assumes nothing.
-use Rattle.std.specs.Prelude.{ℕ, ◌+◌, ◌*◌, ◌≤◌, ◌≡◌, Bool, not, List, [], ◌∷◌, ◌++◌, ℤ, nat_abs, length}
-use Rattle.plpb.specs.Plan.{Term, least_total, greatest_total}
+use Rattle.std.specs.Prelude.{ℕ, ◌+◌, ◌*◌, ◌≤◌, Bool, cond, List, ℤ, pos, nat_abs, ◌+ℤ◌, ◌-ℤ◌, length}
+use Rattle.plpb.specs.Plan.{Bound, Term}
 use Rattle.words.specs.Words.{word_at, signed}
 use Rattle.format.specs.Limits.{max_bound}
 use Rattle.format.specs.Layout.{rule_first_at, rule_count_at, rule_lower_at, rule_upper_at}
-use Rattle.opb.specs.Spell.{spell_line}
-use Rattle.opb.specs.Tau.{weighted}
-use Rattle.extremes.specs.Terms.{TermsFit, max_total}
-use Rattle.constraints.specs.Bytes.{sided}
+use Rattle.opb.specs.Opb.{Line}
+use Rattle.opb.specs.Tau.{lower_line, upper_line, minus_lines, plus_lines}
+use Rattle.extremes.specs.Terms.{TermsFit}
 
--- The least and the greatest sum of some terms.
-pub record Extremes (low high : ℤ) (ts : List Term) : Type 0 where
-  pub least : low ≡ least_total ts
-  pub greatest : high ≡ greatest_total ts
-  pub least_size : nat_abs low ≤ max_total
-  pub greatest_size : nat_abs high ≤ max_total
+-- By whether the bound is an upper one: the first number past it, its line where it stands alone, and its lines with a new variable.
+unfoldable pub past_of : Bool → ℤ → ℤ
+past_of upper b = cond upper (b +ℤ pos 1) (b -ℤ pos 1)
 
--- Two lines, each with some terms and one more of a variable x, the second turned the other way.
-unfoldable pub two_lines : Bool → List Term → ℕ → ℤ → ℤ → ℤ → ℤ → List ℕ
-two_lines t ts x w b v c = spell_line (sided t (ts ++ (weighted w x ∷ [])) b) ++ spell_line (sided (not t) (ts ++ (weighted v x ∷ [])) c)
+unfoldable pub bound_line : Bool → Bound ℤ → List Term → List Line
+bound_line upper b ts = cond upper (upper_line b ts) (lower_line b ts)
+
+unfoldable pub atom_lines : Bool → ℕ → Bound ℤ → List Term → List Line
+atom_lines upper x b ts = cond upper (minus_lines x b ts) (plus_lines x b ts)
 
 -- Rule r stands in the tables, with lawful weights and bounds.
 pub record RuleFits (tables terms : List ℕ) (r : ℕ) : Type 0 where

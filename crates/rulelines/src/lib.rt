@@ -1,97 +1,95 @@
 // The lines of one rule, put into a lent buffer: those of a clause with no other rule, and those of the mapping τ.
+// The buffer and the place in it stay two parameters, as in spelling. So do the two tables: what is needed of them is that one rule stands there, so that
+// a struct of both would be made anew for each rule, and `Rule` is what is read from them.
 #![tactic(auto)]
 
-ghost use Rattle.std.specs.Prelude.{◌≡◌, ◌<◌, ◌≤◌, nat_abs};
+ghost use Rattle.std.specs.Prelude.{◌≡◌, ◌<◌, ◌≤◌, nat_abs, IfSome};
+ghost use Rattle.counting.specs.Bound.{bound_of};
 ghost use Rattle.words.specs.Words.{word_at};
 ghost use Rattle.format.specs.Limits.{max_bound};
-ghost use Rattle.format.specs.File.{bound_of};
 ghost use Rattle.format.specs.Tables.{rule_of};
-ghost use Rattle.opb.specs.Tau.{lower_line, upper_line, straight, minus_lines, plus_lines, rule_lines};
+ghost use Rattle.opb.specs.Tau.{straight, rule_lines};
 ghost use Rattle.spelling.specs.Overlay.{Puts, Room};
-ghost use Rattle.extremes.specs.Terms.{terms_in, TermsFit};
-ghost use Rattle.constraints.specs.Bytes.{lines_bytes, Small};
-ghost use Rattle.rulelines.specs.Rules.{Extremes, RuleFits, two_lines};
+ghost use Rattle.extremes.specs.Terms.{extreme_of, max_total};
+ghost use Rattle.extremes.specs.Sums.{terms_of};
+ghost use Rattle.constraints.specs.Bytes.{lines_bytes};
+ghost use Rattle.constraints.specs.Sides.{turns};
+ghost use Rattle.rulelines.specs.Rules.{RuleFits, past_of, bound_line, atom_lines};
+ghost use Rattle.rulelines.specs.Read.{RuleRead};
 
-use constraints::{put_both, put_constraint, put_fixed};
-use extremes::extreme;
+use constraints::{Side, put_both, put_constraint, put_fixed};
+use extremes::sum::Sum;
 use integers::{minus, plus};
-use rules::entry::{Entry, read_entry};
+use rules::entry::read_entry;
 
-// Two lines, each with a rule's terms and one more: at least a bound or, turned, at most; then the other way round.
-fn put_two(
-    out: &mut [u8],
-    at: usize,
-    terms: &[u8],
-    e: Entry,
-    turn: bool,
-    variable: usize,
-    weight: i32,
-    bound: i32,
-    second: i32,
-    other: i32,
-) -> usize
-    requires terms_fit { TermsFit terms.now e.first e.count × Small weight × Small bound × Small second × Small other }
-    requires room { Room at (two_lines turn (terms_in (word_at terms.now) e.first e.count) variable weight bound second other) }
-    ensures { Puts (two_lines turn (terms_in (word_at terms.now) e.first e.count) variable weight bound second other) at
-        out.old out.new result }
-{
-    let a = put_constraint(
-        out, at, terms, e.first, e.count, turn, weight, variable, bound,
-    );
-    put_constraint(
-        out, a, terms, e.first, e.count, !turn, second, variable, other,
-    )
+// A rule in the tables: its terms and its bounds.
+#[derive(Clone, Copy)]
+struct Rule<'a> {
+    sum: Sum<'a>,
+    lower: Option<i32>,
+    upper: Option<i32>,
 }
 
-// (16) and (17), or the one line of an absent bound. Mode 1 has no upper bound.
-// It stays apart from put_plus: one function for both would take the mode, the bound, both sums, the step and the turn.
-fn put_minus(
-    out: &mut [u8],
-    at: usize,
-    terms: &[u8],
-    e: Entry,
-    low: i32,
-    high: i32,
-    variable: usize,
-) -> usize
-    requires terms_fit { TermsFit terms.now e.first e.count × (nat_abs e.upper ≤ max_bound) }
-    requires extremes { Extremes low high (terms_in (word_at terms.now) e.first e.count) }
-    requires room { Room at (lines_bytes (minus_lines variable (bound_of 1 e.mode e.upper) (terms_in (word_at terms.now) e.first e.count))) }
-    ensures { Puts (lines_bytes (minus_lines variable (bound_of 1 e.mode e.upper) (terms_in (word_at terms.now) e.first e.count)))
-        at out.old out.new result }
+// Rule r, by its entry.
+fn read_rule<'a>(tables: &[u8], terms: &'a [u8], r: usize) -> Rule<'a>
+    requires { RuleFits tables.now terms.now r }
+    ensures { RuleRead tables.now terms.now r result }
 {
-    if e.mode == 1 {
-        return put_fixed(out, at, variable);
+    let e = read_entry(tables, format::RULES + 5 * r);
+    Rule {
+        sum: Sum {
+            terms,
+            first: e.first,
+            count: e.count,
+        },
+        lower: e.lower,
+        upper: e.upper,
     }
-    let next = plus(e.upper, 1);
-    let far = minus(high, e.upper);
-    let near = minus(next, low);
-    put_two(out, at, terms, e, true, variable, far, high, near, next)
 }
 
-// (18) and (19), or the one line of an absent bound. Mode 2 has no lower bound.
-fn put_plus(
+// The least sum for a lower bound, the greatest for an upper one: there the bound is met whatever the others are.
+fn extreme(sum: &Sum<'_>, side: Side) -> i32
+    ensures { (result ≡ extreme_of (turns side) (terms_of sum.now)) × (nat_abs result ≤ max_total) }
+{
+    match side {
+        Side::AtLeast => sum.least(),
+        Side::AtMost => sum.greatest(),
+    }
+}
+
+// The first number past a bound.
+fn past(side: Side, bound: i32) -> i32
+    requires { nat_abs bound ≤ max_bound }
+    ensures { result ≡ past_of (turns side) bound }
+{
+    match side {
+        Side::AtLeast => minus(bound, 1),
+        Side::AtMost => plus(bound, 1),
+    }
+}
+
+// (16) and (17) of an upper bound, (18) and (19) of a lower one, or the one line of an absent bound.
+fn put_atom(
     out: &mut [u8],
     at: usize,
-    terms: &[u8],
-    e: Entry,
-    low: i32,
-    high: i32,
+    sum: &Sum<'_>,
+    side: Side,
+    bound: Option<i32>,
     variable: usize,
 ) -> usize
-    requires terms_fit { TermsFit terms.now e.first e.count × (nat_abs e.lower ≤ max_bound) }
-    requires extremes { Extremes low high (terms_in (word_at terms.now) e.first e.count) }
-    requires room { Room at (lines_bytes (plus_lines variable (bound_of 2 e.mode e.lower) (terms_in (word_at terms.now) e.first e.count))) }
-    ensures { Puts (lines_bytes (plus_lines variable (bound_of 2 e.mode e.lower) (terms_in (word_at terms.now) e.first e.count)))
-        at out.old out.new result }
+    requires small { IfSome bound (λ b. nat_abs b ≤ max_bound) }
+    requires room { Room at (lines_bytes (atom_lines (turns side) variable (bound_of bound) (terms_of sum.now))) }
+    ensures { Puts (lines_bytes (atom_lines (turns side) variable (bound_of bound) (terms_of sum.now))) at out.old out.new result }
 {
-    if e.mode == 2 {
+    let Some(b) = bound else {
         return put_fixed(out, at, variable);
-    }
-    let last = minus(e.lower, 1);
-    let far = minus(low, e.lower);
-    let near = minus(last, high);
-    put_two(out, at, terms, e, false, variable, far, low, near, last)
+    };
+    let far_side = side.other();
+    let end = extreme(sum, side);
+    let far_end = extreme(sum, far_side);
+    let next = past(side, b);
+    let a = put_constraint(out, at, sum, side, minus(end, b), variable, end);
+    put_constraint(out, a, sum, far_side, minus(next, far_end), variable, next)
 }
 
 // Rule r of a clause with several, with k variables before its own.
@@ -101,36 +99,22 @@ pub fn put_rule(out: &mut [u8], at: usize, tables: &[u8], terms: &[u8], r: usize
     ensures { Puts (lines_bytes (rule_lines k (rule_of (word_at tables.now) (word_at terms.now) r))) at
         out.old out.new result }
 {
-    let e = read_entry(tables, format::RULES + 5 * r);
-    let low = extreme(terms, e.first, e.count, false);
-    let high = extreme(terms, e.first, e.count, true);
-    let a = put_minus(out, at, terms, e, low, high, k + 2);
-    let b = put_plus(out, a, terms, e, low, high, k + 1);
+    let rule = read_rule(tables, terms, r);
+    let a = put_atom(out, at, &rule.sum, Side::AtMost, rule.upper, k + 2);
+    let b = put_atom(out, a, &rule.sum, Side::AtLeast, rule.lower, k + 1);
     put_both(out, b, k)
 }
 
-fn put_lower(out: &mut [u8], at: usize, terms: &[u8], e: Entry) -> usize
-    requires terms_fit { TermsFit terms.now e.first e.count × (nat_abs e.lower ≤ max_bound) }
-    requires room { Room at (lines_bytes (lower_line (bound_of 2 e.mode e.lower) (terms_in (word_at terms.now) e.first e.count))) }
-    ensures { Puts (lines_bytes (lower_line (bound_of 2 e.mode e.lower) (terms_in (word_at terms.now) e.first e.count)))
-        at out.old out.new result }
+// The line of a bound in a clause of one rule; none where there is no bound.
+fn put_bound(out: &mut [u8], at: usize, sum: &Sum<'_>, side: Side, bound: Option<i32>) -> usize
+    requires small { IfSome bound (λ b. nat_abs b ≤ max_bound) }
+    requires room { Room at (lines_bytes (bound_line (turns side) (bound_of bound) (terms_of sum.now))) }
+    ensures { Puts (lines_bytes (bound_line (turns side) (bound_of bound) (terms_of sum.now))) at out.old out.new result }
 {
-    if e.mode == 2 {
+    let Some(b) = bound else {
         return at;
-    }
-    put_constraint(out, at, terms, e.first, e.count, false, 0, 0, e.lower)
-}
-
-fn put_upper(out: &mut [u8], at: usize, terms: &[u8], e: Entry) -> usize
-    requires terms_fit { TermsFit terms.now e.first e.count × (nat_abs e.upper ≤ max_bound) }
-    requires room { Room at (lines_bytes (upper_line (bound_of 1 e.mode e.upper) (terms_in (word_at terms.now) e.first e.count))) }
-    ensures { Puts (lines_bytes (upper_line (bound_of 1 e.mode e.upper) (terms_in (word_at terms.now) e.first e.count)))
-        at out.old out.new result }
-{
-    if e.mode == 1 {
-        return at;
-    }
-    put_constraint(out, at, terms, e.first, e.count, true, 0, 0, e.upper)
+    };
+    put_constraint(out, at, sum, side, 0, 0, b)
 }
 
 // The rule of a clause with no other: "single-rule clauses written straight", "bounds (lower first)".
@@ -140,7 +124,7 @@ pub fn put_straight(out: &mut [u8], at: usize, tables: &[u8], terms: &[u8], r: u
     ensures { Puts (lines_bytes (straight (rule_of (word_at tables.now) (word_at terms.now) r))) at
         out.old out.new result }
 {
-    let e = read_entry(tables, format::RULES + 5 * r);
-    let a = put_lower(out, at, terms, e);
-    put_upper(out, a, terms, e)
+    let rule = read_rule(tables, terms, r);
+    let a = put_bound(out, at, &rule.sum, Side::AtLeast, rule.lower);
+    put_bound(out, a, &rule.sum, Side::AtMost, rule.upper)
 }

@@ -1,12 +1,12 @@
 -- Laws of bytes put into a list as far as it goes.
 -- Assumes nothing.
-use Prim.Native.Nat.{ℕ, zero, suc, ◌+◌, ◌≤◌, ◌<◌}
-use native.Mathlib.Nat.{zero-add, add-zero, suc-add, not-suc-le-zero}
+use Prim.Native.Nat.{ℕ, zero, suc, ◌+◌, ◌≤◌}
+use native.Mathlib.Nat.{zero-add, suc-add, not-suc-le-zero}
 use native.Mathlib.Omega.{arith}
 use mathlib.Core.Path.{◌≡◌, refl, sym, ap, ◌∙◌}
 use mathlib.Core.List.{List, [], ◌∷◌, ◌++◌}
-use lib.ListN.{length, set, drop}
-use Rattle.words.specs.Writes.{front}
+use lib.ListN.{length, set}
+use Rattle.words.specs.Writes.{front, put}
 use Rattle.spelling.specs.Overlay.{overlay}
 
 pub overlay_length : (at : ℕ) (bs s : List ℕ) → length (overlay at bs s) ≡ length s
@@ -57,3 +57,10 @@ overlay_front [] [] h = refl
 overlay_front (b ∷ bs) [] h = absurd (not-suc-le-zero h)
 overlay_front [] (x ∷ s) h = refl
 overlay_front (b ∷ bs) (x ∷ s) h = ap (λ l. b ∷ l) (overlay_front bs s (omega arith))
+
+-- Where there is room for all, they are written from the place on.
+pub overlay_put : (at : ℕ) (bs s : List ℕ) → at + length bs ≤ length s → overlay at bs s ≡ put at bs s
+unfolding overlay put
+overlay_put zero bs s h = overlay_front bs s (omega (arith, h))
+overlay_put (suc at) bs [] h = absurd (not-suc-le-zero {n = at + length bs} (omega (arith, h)))
+overlay_put (suc at) bs (x ∷ s) h = ap (λ l. x ∷ l) (overlay_put at bs s (omega (arith, h)))

@@ -1,10 +1,10 @@
 -- Puts one after another are one; what room a part needs.
 -- Assumes nothing.
-use Prim.Native.Nat.{ℕ, ◌+◌, ◌≤◌, ◌<◌}
-use native.Mathlib.Nat.{add-zero, add_assoc}
+use Prim.Native.Nat.{ℕ, ◌+◌}
+use native.Mathlib.Nat.{add-zero}
 use native.Mathlib.Omega.{arith}
 use mathlib.Core.Path.{◌≡◌, refl, sym, ap, ap₂, ◌∙◌}
-use mathlib.Core.List.{List, [], ◌∷◌, ◌++◌, append-nil}
+use mathlib.Core.List.{List, [], ◌++◌}
 use lib.ListN.{length, length-append}
 use Rattle.spelling.specs.Overlay.{overlay, Puts, Room}
 use Rattle.spelling.proofs.Overlay.{overlay_length, overlay_nothing, overlay_append}

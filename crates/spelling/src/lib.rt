@@ -1,5 +1,7 @@
 // Bytes, texts and numbers put into a lent buffer from a place on, as far as it goes. Each function answers the place behind what it puts, whether or not
 // there is room: with an empty buffer it measures, and with one that is long enough it writes.
+// Here and in the crates above, the buffer and the place in it stay two parameters: a struct that held them would have to say in each contract that the
+// buffer in it is still the one that was lent, where the place is a plain number.
 #![tactic(auto)]
 
 ghost use Rattle.std.specs.Prelude.{◌≡◌, [], ◌∷◌, nat_abs};

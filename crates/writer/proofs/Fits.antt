@@ -1,20 +1,19 @@
 -- Loaded tables are fit to be written.
 -- Assumes nothing.
-use Prim.Native.Nat.{ℕ, zero, suc, ◌+◌, ◌*◌, ◌≤◌, ◌<◌, zero-le}
+use Prim.Native.Nat.{ℕ, suc, ◌+◌, ◌*◌, ◌≤◌, ◌<◌, zero-le}
 use native.Mathlib.Omega.{arith}
-use mathlib.Core.Path.{◌≡◌, refl, sym, ap, ◌∙◌}
+use mathlib.Core.Path.{◌≡◌, refl}
 use mathlib.Core.Bool.{Bool, true, false, cond}
-use mathlib.Core.List.{List, [], ◌∷◌, ◌++◌, map}
+use mathlib.Core.List.{List, [], ◌∷◌, map}
 use lib.Dec.{T, eqb}
-use lib.IntN.{nat_abs}
-use lib.ListN.{length, length-append, length-map}
-use Rattle.plpb.specs.Lists.{◌and◌, all, concat, sum_by, row}
+use lib.ListN.{length, length-append}
+use Rattle.plpb.specs.Lists.{all, concat, sum_by, row}
 use Rattle.plpb.specs.Plan.{Term, Clause, Plan, rising, rising_above}
 use Rattle.plpb.specs.Tallies.{rules_of}
-use Rattle.words.specs.Words.{word_at, signed}
+use Rattle.words.specs.Words.{word_at}
 use Rattle.format.specs.Limits.{weight_lawful, lawful}
-use Rattle.format.specs.Layout.{table_size, term_size, clause_first_at, clause_count_at, rule_first_at, rule_count_at, lock_at}
-use Rattle.format.specs.Tables.{term_of, rule_of, clause_of, plan_in, plan_of_tables, is_loaded}
+use Rattle.format.specs.Layout.{table_size, term_size, clause_first_at, clause_count_at, rule_first_at, rule_count_at}
+use Rattle.format.specs.Tables.{term_of, rule_of, plan_in, plan_of_tables, is_loaded}
 use Rattle.format.proofs.Bools.{and_left, and_right, and_join}
 use Rattle.format.proofs.Bounds.{bounds_tested}
 use Rattle.format.proofs.Lawful.{term_within, terms_short, plan_parts, room_for}
@@ -24,11 +23,10 @@ use Rattle.format.proofs.ReadBack.{holds_sections}
 use Rattle.format.proofs.PlanGood.{sections_sound}
 use Rattle.format.proofs.Sound.{Sound, clause_within, rule_within, rule_bounds, rule_sound}
 use Rattle.opb.specs.Tau.{is_single, new_atoms}
-use Rattle.extremes.specs.Terms.{terms_in, TermsFit}
+use Rattle.extremes.specs.Terms.{terms_in}
 use Rattle.rulelines.specs.Rules.{RuleFits}
-use Rattle.clauselines.specs.Clauses.{clauses_in, RulesFit, ClausesFit}
-use Rattle.linecount.specs.Counts.{CountsFit}
-use Rattle.opbtext.specs.Whole.{LocksFit, WholeFits}
+use Rattle.clauselines.specs.Clauses.{clauses_in, RulesFit}
+use Rattle.opbtext.specs.Whole.{WholeFits}
 
 pub weights_lawful : (n : ℕ) (ts : List Term) → all (term_within n) ts ≡ true → all (λ t. weight_lawful t.weight) ts ≡ true
 unfolding all term_within

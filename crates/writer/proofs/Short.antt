@@ -1,21 +1,21 @@
 -- A lawful plan's text is short: its length is a number of 64 bits.
 -- Assumes nothing.
-use Prim.Native.Nat.{ℕ, zero, suc, ◌+◌, ◌*◌, ◌^◌, ◌≤◌, ◌<◌, zero-le}
+use Prim.Native.Nat.{ℕ, suc, ◌+◌, ◌*◌, ◌≤◌, ◌<◌, zero-le}
 use native.Mathlib.Nat.{mul-suc}
 use native.Mathlib.Omega.{arith}
-use mathlib.Core.Path.{◌≡◌, refl, sym, ap, ap₂, ◌∙◌}
-use mathlib.Core.Bool.{Bool, true, false, cond, not}
+use mathlib.Core.Path.{◌≡◌, refl, ap}
+use mathlib.Core.Bool.{Bool, true, false, cond}
 use mathlib.Core.List.{List, [], ◌∷◌, ◌++◌, map}
-use lib.Dec.{T, leb, ltb, eqb}
+use lib.Dec.{T, leb}
 use lib.IntN.{ℤ, pos, negsuc, nat_abs, neg_ℤ, ◌+ℤ◌, ◌-ℤ◌}
 use lib.ListN.{length, length-append, length-map}
 use borrow.Author.Tests.{leb-true, le-leb}
-use Rattle.plpb.specs.Lists.{◌and◌, all, keep, concat, sum_by}
+use Rattle.plpb.specs.Lists.{◌and◌, all, keep, concat}
 use Rattle.plpb.specs.Plan.{Bound, absent, present, Term, Rule, Clause, Lock, Plan, rising, negative_part, least_total, positive_part, greatest_total}
 use Rattle.plpb.specs.Tallies.{rules_of}
 use Rattle.counting.proofs.Signed.{size_sum}
 use Rattle.integers.proofs.Sizes.{size_less, size_negated}
-use Rattle.format.specs.Limits.{max_bound, weight_lawful, bound_lawful, rule_lawful, lock_term, lock_terms, lawful}
+use Rattle.format.specs.Limits.{bound_lawful, rule_lawful, lock_term, lock_terms, lawful}
 use Rattle.format.proofs.Bools.{and_left, and_right, and_join}
 use Rattle.format.proofs.Lists.{all_append}
 use Rattle.format.proofs.Lawful.{term_within, weight_small, terms_short, terms_parts, clause_lawful, Within, plan_parts}
@@ -25,7 +25,7 @@ use Rattle.opb.specs.Opb.{Line, Text}
 use Rattle.opb.specs.Spell.{coefficient, relation, spell_line, spell_first, spell_objective, spell}
 use Rattle.opb.specs.Tau.{weighted, has_weight, negated, geq, leq, lower_line, upper_line, straight, fixed, minus_lines, plus_lines, both_lines, rule_lines, rules_lines, rule_atoms, or_lines, is_single, clause_lines, new_atoms, clauses_lines, lock_line, tau}
 use Rattle.constraints.specs.Bytes.{term_bytes, end_bytes, lines_bytes}
-use Rattle.constraints.proofs.Bytes.{line_bytes, end_bytes_lem, line_terms}
+use Rattle.constraints.proofs.Bytes.{line_bytes, end_bytes_lem}
 use Rattle.opbtext.proofs.Parts.{first_bytes, objective_full}
 use Rattle.plpb.proofs.Lists.{T_true}
 use Rattle.format.specs.Layout.{table_size, term_size}

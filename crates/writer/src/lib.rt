@@ -5,9 +5,9 @@ ghost use Rattle.std.specs.Prelude.{◌≡◌, MatchResult};
 ghost use Rattle.writer.specs.Calls.{write_refusal, write_length, text_after};
 ghost use Rattle.writer.specs.Refusals.{number_of, length_of};
 
-use opbtext::put_text;
+use opbtext::lent::Whole;
 
-// A refusal's number, or 0; and the text's length, with 33 too. With 21 and 22 the length is 0.
+// A refusal's number, or 0; and the text's length, with 33 too. With 21 and 22 the length is 0. The C interface hands it out as it stands.
 #[repr(C)]
 #[derive(Clone, Copy)]
 pub struct Written {
@@ -22,7 +22,7 @@ enum Refusal {
     Outgrown(usize),
 }
 
-// Writes the text where it is to be written, and answers its length.
+// Writes the text where it is to be written, and answers its length. The tables are two slices, as C lends them: nothing is known of them before the tests.
 fn write_text(tables: &[u8], terms: &[u8], text: &mut [u8]) -> Result<usize, Refusal>
     ensures answer { MatchResult result
         (λ n. (0 ≡ write_refusal tables.now terms.now text.old) × (n ≡ write_length tables.now terms.now))
@@ -38,11 +38,12 @@ fn write_text(tables: &[u8], terms: &[u8], text: &mut [u8]) -> Result<usize, Ref
     if !loaded::good(tables, terms) {
         return Err(Refusal::NotLoaded);
     }
-    let length = put_text(&mut text[..0], tables, terms);
+    let whole = Whole { tables, terms };
+    let length = whole.put_text(&mut text[..0]);
     if text.len() < length {
         return Err(Refusal::Outgrown(length));
     }
-    put_text(text, tables, terms);
+    whole.put_text(text);
     Ok(length)
 }
 

@@ -1,6 +1,5 @@
 -- `clauselines::new_atoms` meets its contract: by whether the clause has one rule.
 -- Assumes nothing.
-use native.Mathlib.Omega.{arith}
 use mathlib.Core.Path.{refl, sym}
 use borrow.Author.Tests.{eq-eqb, ne_eqb}
 use Rattle.clauselines.specs.Clauses.{atom_count}

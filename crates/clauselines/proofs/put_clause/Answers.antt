@@ -18,14 +18,11 @@ pub returns-then-count-eq1 : goal.returns-then-count-eq1
 returns-then-count-eq1 c =
     puts_same (read_single _ _ c.args.c c.args.k c.index-first.ensures c.index-count.ensures c.if-count-eq1.true) c.put_straight.ensures
 
-pub put_or-requires : goal.put_or-requires
-put_or-requires c =
-    let first = c.index-first.ensures in
-    let count = c.index-count.ensures in
-    record {
-      rules_fit = read_rules _ _ c.args.c c.args.k first count c.requires.clause_fits;
-      room = room_same _ (sym (read_several _ _ c.args.c c.args.k first count c.if-count-eq1.false)) c.requires.room;
-    }
+pub put-requires : goal.put-requires
+put-requires c = room_same _ (sym (read_several _ _ c.args.c c.args.k c.index-first.ensures c.index-count.ensures c.if-count-eq1.false)) c.requires.room
 
 pub returns : goal.returns
-returns c = puts_same (read_several _ _ c.args.c c.args.k c.index-first.ensures c.index-count.ensures c.if-count-eq1.false) c.put_or.ensures
+returns c = puts_same (read_several _ _ c.args.c c.args.k c.index-first.ensures c.index-count.ensures c.if-count-eq1.false) c.put.ensures
+
+pub invariant_of-rules : goal.invariant_of-rules
+invariant_of-rules c = record { fit = read_rules _ _ c.args.c c.args.k c.index-first.ensures c.index-count.ensures c.requires.clause_fits }

@@ -1,10 +1,9 @@
 -- The goals that the search leaves.
-use borrow.Author.Rules.{rules}
-use Prim.Native.Nat.{◌-◌, ◌<◌}
+use Prim.Native.Nat.{◌<◌}
 use native.Mathlib.Omega.{arith}
 use native.Mathlib.Numerals.{add-one}
 use Rattle.words.specs.Words.{word_at}
-use Rattle.clauselines.proofs.Clauses.{going_start, going_room, going_few, going_fits, going_more, going_done, atom_small}
+use Rattle.clauselines.proofs.Clauses.{going_room, going_few, going_fits, going_more, going_done, atom_small}
 use Rattle.clauselines.proofs.put_clauses.Goals as goal
 
 pub put_clause-next-requires : goal.put_clause-next-requires

@@ -1,6 +1,5 @@
 -- `clauselines::put_clauses` meets its contract: the clauses, one after another. The invariant: what is left makes the whole, and so do the variables. The measure is how many clauses are left.
 -- Assumes nothing.
-use Prim.Native.Nat.{◌-◌}
 use Rattle.clauselines.proofs.Clauses.{Going}
 use Rattle.clauselines.proofs.put_clauses.Given as goal
 

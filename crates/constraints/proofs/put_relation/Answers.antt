@@ -1,33 +1,29 @@
 -- `constraints::put_relation` meets its contract, by the relation.
 -- Assumes nothing.
 use mathlib.Core.Path.{◌≡◌, refl, sym}
-use mathlib.Core.Bool.{Bool, true, false}
+use mathlib.Core.Bool.{true, false}
 use mathlib.Core.List.{[], ◌∷◌, ◌++◌}
 use Rattle.texts.specs.Texts.{text}
 use Rattle.opb.specs.Spell.{relation}
 use Rattle.spelling.proofs.Puts.{puts_same, room_same}
 use Rattle.constraints.proofs.put_relation.Goals as goal
 
-exact_is : (b : Bool) → b ≡ true → 61 ∷ 32 ∷ [] ≡ relation b ++ text " "
+least_is : 62 ∷ 61 ∷ 32 ∷ [] ≡ relation false ++ text " "
 unfolding relation text
-exact_is b e = rw e refl
+least_is = refl
 
-least_is : (b : Bool) → b ≡ false → 62 ∷ 61 ∷ 32 ∷ [] ≡ relation b ++ text " "
+equal_is : 61 ∷ 32 ∷ [] ≡ relation true ++ text " "
 unfolding relation text
-least_is b e = rw e refl
+equal_is = refl
 
 pub put_bytes-requires : goal.put_bytes-requires
-put_bytes-requires c =
-    room_same c.args.at (sym (exact_is c.args.exact c.if-exact.true)) c.requires
+put_bytes-requires c = room_same c.args.at (sym least_is) (rw c.in-AtLeast.is at c.requires)
 
-pub returns-then-exact : goal.returns-then-exact
-returns-then-exact c =
-    puts_same (exact_is c.args.exact c.if-exact.true) c.put_bytes.ensures
+pub returns-in-AtLeast : goal.returns-in-AtLeast
+returns-in-AtLeast c = rw c.in-AtLeast.is (puts_same least_is c.put_bytes.ensures)
 
-pub put_bytes-requires-2 : goal.put_bytes-requires-2
-put_bytes-requires-2 c =
-    room_same c.args.at (sym (least_is c.args.exact c.if-exact.false)) c.requires
+pub put_bytes-requires-in-Equal : goal.put_bytes-requires-in-Equal
+put_bytes-requires-in-Equal c = room_same c.args.at (sym equal_is) (rw c.in-Equal.is at c.requires)
 
-pub returns : goal.returns
-returns c =
-    puts_same (least_is c.args.exact c.if-exact.false) c.put_bytes-2.ensures
+pub returns-in-Equal : goal.returns-in-Equal
+returns-in-Equal c = rw c.in-Equal.is (puts_same equal_is c.put_bytes-in-Equal.ensures)

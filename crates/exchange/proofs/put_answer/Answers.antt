@@ -1,9 +1,4 @@
 use Rattle.exchange.proofs.Laws.{written}
-use Rattle.exchange.proofs.put_answer.Reads as reads
-use Rattle.exchange.proofs.put_answer.Lts as lts
-use Rattle.exchange.proofs.bits.Reads as bits-reads
-use Rattle.exchange.proofs.put_number.Reads as put-number-reads
-use Rattle.words.proofs.write_two.Reads as write-two-reads
 use Rattle.exchange.proofs.put_answer.Goals as goal
 
 -- src/lib.rt:62:1

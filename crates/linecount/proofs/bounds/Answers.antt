@@ -1,6 +1,6 @@
 -- `linecount::bounds` meets its contract: by its mode.
 -- Assumes nothing.
-use Prim.Native.Nat.{ℕ, ◌-◌}
+use Prim.Native.Nat.{ℕ}
 use native.Mathlib.Omega.{arith}
 use mathlib.Core.Path.{◌≡◌, sym, ◌∙◌}
 use Rattle.words.specs.Words.{word_at}

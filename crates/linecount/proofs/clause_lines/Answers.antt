@@ -1,7 +1,6 @@
 -- `linecount::clause_lines` meets its contract: one rule's bounds, or (15) and the rules.
 -- Assumes nothing.
-use borrow.Author.Rules.{rules}
-use Prim.Native.Nat.{ℕ, ◌-◌}
+use Prim.Native.Nat.{ℕ}
 use native.Mathlib.Omega.{arith}
 use mathlib.Core.Path.{◌≡◌, sym, ap, ◌∙◌}
 use Rattle.words.specs.Words.{word_at}

@@ -1,13 +1,7 @@
 -- The goals that the search leaves.
-use Prim.Native.Nat.{ℕ, ◌-◌}
-use native.Mathlib.Omega.{arith}
-use mathlib.Core.Path.{◌≡◌, ap, ◌∙◌}
 use Rattle.words.specs.Words.{word_at}
-use Rattle.linecount.proofs.Down.{down_start, down_more, down_done}
+use Rattle.linecount.proofs.Down.{down_start, down_more}
 use Rattle.linecount.proofs.Lines.{ClausesAre, clauses_start, clauses_next}
-use Rattle.opb.specs.Tau.{clauses_lines}
-use Rattle.clauselines.specs.Clauses.{clauses_in}
-use lib.ListN.{length}
 use Rattle.linecount.proofs.clauses_lines.Goals as goal
 
 pub loop-c-init : goal.loop-c-init

@@ -1,14 +1,9 @@
 -- The goals that the search leaves.
-use borrow.Author.Rules.{rules}
-use Prim.Native.Nat.{ℕ, ◌+◌, ◌*◌, ◌-◌, ◌≤◌}
+use Prim.Native.Nat.{◌-◌, ◌≤◌}
 use native.Mathlib.Omega.{arith}
-use mathlib.Core.Path.{◌≡◌, ap, ◌∙◌}
 use Rattle.words.specs.Words.{word_at}
-use Rattle.plpb.specs.Lists.{sum_by}
 use Rattle.format.specs.Layout.{clause_count_at}
-use Rattle.opb.specs.Tau.{new_atoms}
-use Rattle.clauselines.specs.Clauses.{clauses_in}
-use Rattle.linecount.proofs.Down.{down_start, down_more, down_done}
+use Rattle.linecount.proofs.Down.{down_start, down_more}
 use Rattle.linecount.proofs.Lines.{AtomsAre, atoms_start, atoms_next, atoms_small}
 use Rattle.linecount.proofs.variables.Goals.{After-index, After-new_atoms-count}
 use Rattle.linecount.proofs.variables.Goals as goal

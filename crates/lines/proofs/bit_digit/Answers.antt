@@ -1,10 +1,15 @@
--- `folder::lines::bit_digit` meets its contract, by its two answers.
+-- `lines::bit_digit` meets its contract, by its two answers.
 -- Assumes nothing.
-use borrow.Author.Tests.{eq-eqb, ne_eqb}
+use Prim.Native.Nat.{◌+◌}
+use mathlib.Core.Path.{◌≡◌, refl, ap, ◌∙◌}
+use mathlib.Core.Bool.{Bool, true, false, cond, not}
+use lib.Dec.{eqb}
+use mir.Val.{bool_byte}
 use Rattle.lines.proofs.bit_digit.Goals as goal
 
-pub returns-then-b-eq0 : goal.returns-then-b-eq0
-returns-then-b-eq0 c = rw (eq-eqb _ _ c.if-b-eq0.true)
+character_of : (b : Bool) → 48 + bool_byte (not b) ≡ cond b 48 49
+character_of true = refl
+character_of false = refl
 
-pub returns-else-b-eq0 : goal.returns-else-b-eq0
-returns-else-b-eq0 c = rw (ne_eqb _ _ c.if-b-eq0.false)
+pub returns : goal.returns
+returns c = ap (λ n. 48 + n) c.from.ensures ∙ character_of (eqb c.args.b 0)

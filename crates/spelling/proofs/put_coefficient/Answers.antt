@@ -2,12 +2,12 @@
 -- Assumes nothing.
 use Prim.Native.Nat.{ℕ}
 use mathlib.Core.Path.{◌≡◌, sym, ap, ◌∙◌}
-use mathlib.Core.List.{List, [], ◌∷◌}
+use mathlib.Core.List.{List, ◌∷◌}
 use lib.IntN.{nat_abs}
 use mir.Facts.{to_z-of_z}
 use Rattle.texts.specs.Texts.{decimal}
 use Rattle.opb.specs.Spell.{coefficient}
-use Rattle.spelling.proofs.Puts.{puts_then, puts_same, room_same, room_first, room_rest}
+use Rattle.spelling.proofs.Puts.{puts_then, puts_same}
 use Rattle.spelling.proofs.put_coefficient.Goals.{After-magnitude, After-sign}
 use Rattle.spelling.proofs.put_coefficient.Goals as goal
 

@@ -1,9 +1,9 @@
 -- `writer::write_text` meets its contract: each refusal in its order, then the text, which was measured first.
 -- Assumes nothing.
-use mathlib.Core.Path.{sym, ap, ◌∙◌}
+use mathlib.Core.Path.{sym, ◌∙◌}
 use borrow.Author.Tests.{not-true, not-false}
 use Rattle.writer.proofs.Short.{ready}
-use Rattle.writer.proofs.Answers.{short_tables, short_terms, not_loaded, untouched, is_outgrown, is_written}
+use Rattle.writer.proofs.Answers.{short_tables, short_terms, not_loaded, is_outgrown, is_written}
 use Rattle.writer.proofs.write_text.Goals as goal
 
 pub returns-then-tables-lt-TABLES : goal.returns-then-tables-lt-TABLES
@@ -25,7 +25,7 @@ returns-then-not-good c =
 
 pub put_text-length-requires : goal.put_text-length-requires
 put_text-length-requires c =
-    ready c.args.tables.now c.args.terms.now c.if-tables-lt-TABLES.false c.if-terms-lt-TERMS.false (sym c.good.ensures ∙ not-false _ c.if-not-good.false-raw)
+    (ready c.args.tables.now c.args.terms.now c.if-tables-lt-TABLES.false c.if-terms-lt-TERMS.false (sym c.good.ensures ∙ not-false _ c.if-not-good.false-raw)).1
 
 pub returns-then-text-length : goal.returns-then-text-length
 returns-then-text-length c =
@@ -36,7 +36,7 @@ returns-then-text-length c =
 
 pub put_text-requires : goal.put_text-requires
 put_text-requires c =
-    ready c.args.tables.now c.args.terms.now c.if-tables-lt-TABLES.false c.if-terms-lt-TERMS.false (sym c.good.ensures ∙ not-false _ c.if-not-good.false-raw)
+    (ready c.args.tables.now c.args.terms.now c.if-tables-lt-TABLES.false c.if-terms-lt-TERMS.false (sym c.good.ensures ∙ not-false _ c.if-not-good.false-raw)).1
 
 pub returns : goal.returns
 returns c =
@@ -44,3 +44,7 @@ returns c =
     is_written c.args.tables.now c.args.terms.now c.args.text.now c.if-tables-lt-TABLES.false c.if-terms-lt-TERMS.false
     (sym c.good.ensures ∙ not-false _ c.if-not-good.false-raw) c.put_text-length.ensures c.if-text-length.false c.put_text.ensures in
     record { answer = (o.0, o.1); text_after = o.2 }
+
+pub invariant_of-whole : goal.invariant_of-whole
+invariant_of-whole c =
+    record { fits = (ready c.args.tables.now c.args.terms.now c.if-tables-lt-TABLES.false c.if-terms-lt-TERMS.false (sym c.good.ensures ∙ not-false _ c.if-not-good.false-raw)).0 }
