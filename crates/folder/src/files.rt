@@ -1,5 +1,5 @@
 // walk.bin and numbers.bin judged, and the sizes of the three files.
-ghost use Rattle.std.specs.Prelude.{◌≡◌, ◌+◌, ◌≤◌, length, MatchResult};
+ghost use Rattle.std.specs.Prelude.{◌≡◌, ◌+◌, ◌-◌, length, MatchResult};
 ghost use Rattle.plpb.specs.Lists.{◌or◌};
 ghost use Rattle.words.specs.Words.{num_at};
 ghost use Rattle.folder.specs.Files.{may_measure, if_long, walk_fault, judged, read_walk, reading, Refuses, numbers_refusal, too_long};
@@ -59,22 +59,20 @@ fn judge_settings(s: Settings) -> Result<Settings, Refusal>
     Ok(s)
 }
 
-// "length 9 means SKC"
-fn heuristic_in(file: &[u8], size: usize) -> u32
-    requires { 3 + size ≤ length file.now }
-    ensures { result ≡ if_long size (num_at 1 file.now 12) }
+// "length 9 means SKC": a file that has a head of 3 bytes and a field of 12 chooses, and one of 9 is given 0.
+fn heuristic_in(file: &[u8]) -> u32
+    ensures { result ≡ if_long (length file.now - 3) (num_at 1 file.now 12) }
 {
-    if size == 12 {
+    if file.len() == 15 {
         return words::byte_word(file[12]);
     }
     0
 }
 
-fn chance_in(file: &[u8], size: usize) -> u32
-    requires { 3 + size ≤ length file.now }
-    ensures { result ≡ if_long size (num_at 2 file.now 13) }
+fn chance_in(file: &[u8]) -> u32
+    ensures { result ≡ if_long (length file.now - 3) (num_at 2 file.now 13) }
 {
-    if size == 12 {
+    if file.len() == 15 {
         return words::read_u16(file, 13);
     }
     0
@@ -93,8 +91,8 @@ pub fn judge_walk(file: &[u8]) -> Result<Settings, Refusal>
         tries: words::read_u16(file, 5),
         flips: words::read_u32(file, 7),
         mode: words::byte_word(file[11]),
-        heuristic: heuristic_in(file, size),
-        chance: chance_in(file, size),
+        heuristic: heuristic_in(file),
+        chance: chance_in(file),
     })
 }
 

@@ -28,13 +28,16 @@ use Rattle.tables.specs.Sections.{objective_words, clause_words, rule_words, pla
 use Rattle.tables.proofs.Entered.{entries_more, terms_lent, front_long}
 use Rattle.tables.proofs.Filled.{words_lent, rest_lent}
 use Rattle.tables.proofs.Dense.{dense, lawful_range}
-use Rattle.tokens.specs.Tokens.{number_at, seen, blanks_end, word_end}
+use Rattle.tokens.specs.declared.text.Text.{Text}
+use Rattle.tokens.specs.Tokens.{number_at, seen}
+use Rattle.tokens.specs.Found.{read, Reads, Behind}
+use Rattle.tokens.proofs.Runs.{read_behind}
 use Rattle.tokens.proofs.Numbers.{seen_small}
 use Rattle.statements.specs.declared.Relation.{Relation}
 use Rattle.statements.specs.declared.Kind.{Kind}
 use Rattle.statements.specs.declared.Kind.TheVariants.{Comment, Objective, Constraint}
-use Rattle.statements.specs.Parts.{IsKind, RelationAt}
-use Rattle.statements.specs.Grammar.{min_word, unsigned_from, with_sign, integer_at, is_objective, is_constraint, sum_from, sum_at, sum_end, has_terms, is_bounded, is_exact, bound_from, bound_at, rule_at}
+use Rattle.statements.specs.Parts.{IsKind, behind_min, RelationAt}
+use Rattle.statements.specs.Grammar.{unsigned_from, with_sign, integer_at, is_objective, is_constraint, sum_from, sum_at, sum_end, has_terms, is_bounded, is_exact, bound_from, bound_at, rule_at}
 use Rattle.statements.proofs.Parts.{size_signed}
 use Rattle.statements.proofs.Sums.{sum_none, no_term}
 use Rattle.opb_lines.specs.ReadText.{variables_in, objective_of, plan_of_text}
@@ -98,18 +101,18 @@ wider n (t ∷ ts) l h =
     and_join _ _ (and_join _ _ (le-leb t.variable 512 (omega arith)) (and_right _ _ a)) (wider n ts l (and_right _ _ h))
 
 -- The word of its bound.
-module _ (s : List ℕ) (at k : ℕ) (e : k ≡ sum_end s at) (r : Relation) (h : RelationAt s k r) (small : nat_abs (bound_at s at) ≤ 1_000_000_000) where
+module _ (s : List ℕ) (at : ℕ) {k : Text} (e : Behind sum_end s at k) (r : Relation) (h : Reads RelationAt k r) (small : nat_abs (bound_at s at) ≤ 1_000_000_000) where
   size_is : r.bound.size ≡ number_at s (unsigned_from s (bound_from s (sum_end s at)))
   unfolding bound_at integer_at
   size_is =
       let n = number_at s (unsigned_from s (bound_from s (sum_end s at))) in
       h.bound.size
-      ∙ ap (λ j. seen (number_at s (unsigned_from s (bound_from s j)))) e
+      ∙ read_behind e (λ s j. seen (number_at s (unsigned_from s (bound_from s j))))
       ∙ seen_small n (omega (arith, small, size_signed (eqb (get_or s (bound_from s (sum_end s at)) 0) 45) n))
 
   pub bound_word : {d : ℕ} → d ≡ unsigned (with_sign r.bound.negative r.bound.size) → d ≡ unsigned (bound_at s at)
   unfolding bound_at integer_at
-  bound_word f = f ∙ ap₂ (λ b n. unsigned (with_sign b n)) (h.bound.negative ∙ ap (λ j. eqb (get_or s (bound_from s j) 0) 45) e) size_is
+  bound_word f = f ∙ ap₂ (λ b n. unsigned (with_sign b n)) (h.bound.negative ∙ read_behind e (λ s j. eqb (get_or s (bound_from s j) 0) 45)) size_is
 
 pub rule_entry_lem :
     (s : List ℕ) (at first : ℕ) (x : Bool) {a b c d f : ℕ} → x ≡ is_exact s (sum_end s at) → a ≡ first → b ≡ length (sum_at s at)
@@ -127,11 +130,19 @@ pub record Going (s : List ℕ) (at : ℕ) : Type 0 where
   pub right : all (λ k. rule_lawful (variables_in s) (rule_at s k)) (constraints_from s at) ≡ true
   pub stated_all : all (stated s) (constraints_from s at) ≡ true
 
-pub going_start : (s : List ℕ) (at : ℕ) → Says s → Reaches s (next_line s 0) at → Going s at
-going_start s at e r =
+-- What is reached from behind a line is reached from where the line ends.
+pub reaches_behind : {s : List ℕ} {at : ℕ} {u v : Text} → Behind next_line s at u → Reads Reaches u v → Reaches s (next_line s at) v
+reaches_behind b r = rw (sym b.at, sym b.bytes) r
+
+-- What is reached is in the text.
+pub reached : {s : List ℕ} {from : ℕ} {u : Text} → Reaches s from u → u.at ≤ length s
+reached {s} {from} {u} r = omega (arith, u.within, ap length r.bytes)
+
+pub going_start : (s : List ℕ) {u : Text} → Says s → Reaches s (next_line s 0) u → Going s u.at
+going_start s e r =
     record {
       lawful = lawful_text s (plan_of_text s) e;
-      inside = r.inside;
+      inside = reached r;
       here = r.here;
       right = ap (all (λ k. rule_lawful (variables_in s) (rule_at s k))) (r.same ∙ sym (all_constraints s)) ∙ (said s (plan_of_text s) e).1.rules;
       stated_all = ap (all (stated s)) (r.same ∙ sym (all_constraints s)) ∙ (said s (plan_of_text s) e).1.stated_all;
@@ -160,7 +171,6 @@ module _ {s : List ℕ} {at : ℕ} (g : Going s at) (l : at < length s) where
       let m : n ≤ 512 = g.lawful.high in
       let r = (rule_parts n (rule_at s at) both.0).terms in
       record {
-        inside = g.inside;
         some = and_left (has_terms s at) (is_bounded s (sum_end s at)) both_stated.0;
         bounded = and_right (has_terms s at) (is_bounded s (sum_end s at)) both_stated.0;
         bound = bound_small s at n both.0;
@@ -168,11 +178,11 @@ module _ {s : List ℕ} {at : ℕ} (g : Going s at) (l : at < length s) where
         range = wider n (sum_at s at) m r.within;
       }
 
-  pub going_more : {r : ℕ} → Reaches s (next_line s at) r → Going s r
-  going_more {r} h =
+  pub going_more : {u : Text} → Reaches s (next_line s at) u → Going s u.at
+  going_more h =
       record {
         lawful = g.lawful;
-        inside = h.inside;
+        inside = reached h;
         here = h.here;
         right = ap (all (λ k. rule_lawful (variables_in s) (rule_at s k))) h.same ∙ both.1;
         stated_all = ap (all (stated s)) h.same ∙ both_stated.1;
@@ -183,7 +193,9 @@ front_same o ws h = length_front (word_bytes ws) o (omega (arith, length_word_by
 
 -- ---- the rules
 
-pub record RuleFill (s o : List ℕ) (at rules first : ℕ) (t : List ℕ) : Type 0 where
+-- The text is the one that was lent.
+pub record RuleFill (lent s o : List ℕ) (at rules first : ℕ) (t : List ℕ) : Type 0 where
+  pub bytes : s ≡ lent
   pub going : Going s at
   pub size : length o ≡ rule_section_size
   pub words : List ℕ
@@ -193,12 +205,13 @@ pub record RuleFill (s o : List ℕ) (at rules first : ℕ) (t : List ℕ) : Typ
   pub sum : first + sum_by (λ k. length (sum_at s k)) (constraints_from s at) ≡ term_count (plan_of_text s)
   pub same : length t ≡ length o
 
-pub rule_start : (s o : List ℕ) (at : ℕ) → Says s → length o ≡ rule_section_size → Reaches s (next_line s 0) at → RuleFill s o at 0 0 o
+pub rule_start : (s o : List ℕ) {u : Text} → Says s → length o ≡ rule_section_size → Reaches s (next_line s 0) u → RuleFill s s o u.at 0 0 o
 unfolding word_bytes
-rule_start s o at e n r =
-    let same : constraints_from s at ≡ constraint_places s = r.same ∙ sym (all_constraints s) in
+rule_start s o {u} e n r =
+    let same : constraints_from s u.at ≡ constraint_places s = r.same ∙ sym (all_constraints s) in
     record {
-      going = going_start s at e r;
+      bytes = refl;
+      going = going_start s e r;
       size = n;
       words = [];
       filled = sym (front_none o);
@@ -208,7 +221,7 @@ rule_start s o at e n r =
       same = refl;
     }
 
-module _ {s o : List ℕ} {at rules first : ℕ} {t : List ℕ} (h : RuleFill s o at rules first t) where
+module _ {lent s o : List ℕ} {at rules first : ℕ} {t : List ℕ} (h : RuleFill lent s o at rules first t) where
   total : 5 * rules + 5 * length (constraints_from s at) ≡ 5 * length (rules_of (plan_of_text s))
   total =
       omega (
@@ -254,9 +267,9 @@ module _ {s o : List ℕ} {at rules first : ℕ} {t : List ℕ} (h : RuleFill s 
     rule_more_terms = omega (arith, more_sum, h.going.lawful.terms)
 
     pub rule_more :
-        (on count : ℕ) (ys : List ℕ) → Reaches s (next_line s at) on → count ≡ length (sum_at s at)
+        (on : Text) (count : ℕ) (ys : List ℕ) → Reaches s (next_line s at) on → count ≡ length (sum_at s at)
         → ys ≡ front (word_bytes (rule_entries first (rule_at s at ∷ []))) (mid_of (20 * rules) (length t - 20 * rules) t)
-        → RuleFill s o on (rules + 1) (first + count) (put_mid (20 * rules) (length t - 20 * rules) t ys)
+        → RuleFill lent s o on.at (rules + 1) (first + count) (put_mid (20 * rules) (length t - 20 * rules) t ys)
     unfolding rule_at
     rule_more on count ys r q k =
         let us = rule_entries first (rule_at s at ∷ []) in
@@ -264,6 +277,7 @@ module _ {s o : List ℕ} {at rules first : ℕ} {t : List ℕ} (h : RuleFill s 
         let f = words_lent o t h.words us (20 * rules) ys h.filled (omega (arith, h.count)) rule_space k in
         let m : length (h.words ++ us) ≡ 5 * (rules + 1) = length-append h.words us ∙ omega (arith, five, h.count) in
         record {
+          bytes = h.bytes;
           going = going_more h.going l r;
           size = h.size;
           words = h.words ++ us;
@@ -308,7 +322,8 @@ unfolding rule_at
 terms_of_lem s [] = refl
 terms_of_lem s (k ∷ ks) = ap (λ ts. sum_at s k ∷ ts) (terms_of_lem s ks)
 
-pub record TermFill (s o : List ℕ) (at end : ℕ) (t : List ℕ) : Type 0 where
+pub record TermFill (lent s o : List ℕ) (at end : ℕ) (t : List ℕ) : Type 0 where
+  pub bytes : s ≡ lent
   pub going : Going s at
   pub size : length o ≡ term_size
   pub done : List Term
@@ -317,11 +332,12 @@ pub record TermFill (s o : List ℕ) (at end : ℕ) (t : List ℕ) : Type 0 wher
   pub whole : done ++ concat (map (sum_at s) (constraints_from s at)) ≡ all_terms (plan_of_text s)
   pub same : length t ≡ length o
 
-pub term_start : (s o : List ℕ) (at : ℕ) → Says s → length o ≡ term_size → Reaches s (next_line s 0) at → TermFill s o at 0 o
+pub term_start : (s o : List ℕ) {u : Text} → Says s → length o ≡ term_size → Reaches s (next_line s 0) u → TermFill s s o u.at 0 o
 unfolding word_bytes term_entries all_terms
-term_start s o at e n r =
+term_start s o e n r =
     record {
-      going = going_start s at e r;
+      bytes = refl;
+      going = going_start s e r;
       size = n;
       done = [];
       filled = sym (front_none o);
@@ -333,7 +349,7 @@ term_start s o at e n r =
       same = refl;
     }
 
-module _ {s o : List ℕ} {at end : ℕ} {t : List ℕ} (h : TermFill s o at end t) where
+module _ {lent s o : List ℕ} {at end : ℕ} {t : List ℕ} (h : TermFill lent s o at end t) where
   term_total : length h.done + length (concat (map (sum_at s) (constraints_from s at))) ≤ 6_000
   term_total =
       omega (
@@ -381,13 +397,14 @@ module _ {s o : List ℕ} {at end : ℕ} {t : List ℕ} (h : TermFill s o at end
     term_part = omega (arith, lent_long end t, term_more_space)
 
     pub term_more :
-        (on size : ℕ) (ys : List ℕ) → Reaches s (next_line s at) on → size ≡ 8 * length (sum_at s at)
+        (on : Text) (size : ℕ) (ys : List ℕ) → Reaches s (next_line s at) on → size ≡ 8 * length (sum_at s at)
         → ys ≡ front (word_bytes (term_entries (sum_at s at))) (mid_of end (length t - end) t)
-        → TermFill s o on (end + size) (put_mid end (length t - end) t ys)
+        → TermFill lent s o on.at (end + size) (put_mid end (length t - end) t ys)
     term_more on size ys r q k =
         let us = sum_at s at in
         let f = terms_lent o t h.done us end ys h.filled h.place term_space k in
         record {
+          bytes = h.bytes;
           going = going_more h.going l r;
           size = h.size;
           done = h.done ++ us;
@@ -512,9 +529,9 @@ module _ {clauses : ℕ} {o : List ℕ} {c : ℕ} {t : List ℕ} (h : ClauseFill
 -- ---- the objective
 
 module _ (s : List ℕ) (at : ℕ) where
-  pub objective_here_lem : {r : ℕ} → at < length s → is_objective s at ≡ true → r ≡ blanks_end s (word_end min_word s at) → sum_at s r ≡ objective_of s (lines_from s at)
+  pub objective_here_lem : {u : Text} → at < length s → is_objective s at ≡ true → Behind behind_min s at u → read sum_at u ≡ objective_of s (lines_from s at)
   unfolding objective_of sum_from
-  objective_here_lem l e q = rw (line_split s at l, e) (ap (sum_at s) q)
+  objective_here_lem l e q = rw (line_split s at l, e) (read_behind q sum_at)
 
   pub objective_on : at < length s → is_objective s at ≡ false → objective_of s (lines_from s (next_line s at)) ≡ objective_of s (lines_from s at)
   unfolding objective_of
@@ -524,19 +541,19 @@ module _ (s : List ℕ) (at : ℕ) where
   unfolding objective_of
   objective_none l k = rw (lines_none s at k) (sum_none s at (no_term s at k)).0
 
-module _ (s : List ℕ) (e : Says s) (r : ℕ) (q : sum_at s r ≡ objective_of s (lines_from s (next_line s 0))) where
-  is_objective_lem : sum_at s r ≡ (plan_of_text s).objective
+module _ (s : List ℕ) (e : Says s) (ts : List Term) (q : ts ≡ objective_of s (lines_from s (next_line s 0))) where
+  is_objective_lem : ts ≡ (plan_of_text s).objective
   unfolding plan_of_text
   is_objective_lem = q ∙ ap (objective_of s) (sym (lines_of s))
 
-  pub objective_ranges : InRange (sum_at s r) × (in_range (sum_at s r) ≡ true)
+  pub objective_ranges : InRange ts × (in_range ts ≡ true)
   unfolding rising
   objective_ranges =
       let w = lawful_text s (plan_of_text s) e in
       let p = plan_of_text s in
       rw is_objective_lem (wider p.variables p.objective w.high w.objective.within, lawful_range p.variables 0 p.objective w.high w.objective.rise w.objective.within)
 
-  pub objective_done : (o t u : List ℕ) → length o ≡ 2_048 → t ≡ replicate (length o) 0 → u ≡ placed (sum_at s r) t → u ≡ word_bytes (objective_words (plan_of_text s))
+  pub objective_done : (o t u : List ℕ) → length o ≡ 2_048 → t ≡ replicate (length o) 0 → u ≡ placed ts t → u ≡ word_bytes (objective_words (plan_of_text s))
   unfolding objective_words
   objective_done o t u n c f =
       let w = lawful_text s (plan_of_text s) e in

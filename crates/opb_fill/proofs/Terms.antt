@@ -20,7 +20,10 @@ use Rattle.format.proofs.Bools.{and_left, and_right}
 use Rattle.format.proofs.Lawful.{term_within, weight_small}
 use Rattle.tables.proofs.Entered.{terms_lent, front_long}
 use Rattle.tables.proofs.Dense.{Placing, placing_more}
+use Rattle.tokens.specs.declared.text.Text.{Text}
 use Rattle.tokens.specs.Tokens.{number_at}
+use Rattle.tokens.specs.Found.{read, Reads}
+use Rattle.tokens.proofs.Runs.{read_behind}
 use Rattle.tokens.proofs.Numbers.{seen_small}
 use Rattle.statements.specs.declared.Weighted.{Weighted}
 use Rattle.statements.specs.Grammar.{unsigned_from, index_from, integer_at, with_sign, is_term, term_at, sum_at}
@@ -58,52 +61,56 @@ module _ (s : List ℕ) (at : ℕ) (t : Weighted) (h : WeightedAt s at t) (r : t
 
 -- The first of the terms to come is in range, and so are those behind it.
 module _ (s : List ℕ) (at : ℕ) (t : Weighted) (some : is_term s at ≡ true) (h : WeightedAt s at t) (r : InRange (sum_at s at)) where
-  pub here_and_rest : sum_at s at ≡ term_at s at ∷ sum_at s t.next
-  here_and_rest = (sum_some s at some).0 ∙ ap (λ k. term_at s at ∷ sum_at s k) (sym h.next)
+  pub here_and_rest : sum_at s at ≡ term_at s at ∷ read sum_at t.rest
+  here_and_rest = (sum_some s at some).0 ∙ ap (λ ts. term_at s at ∷ ts) (sym (read_behind h.rest sum_at))
 
-  range_both : (term_within 512 (term_at s at) ≡ true) × InRange (sum_at s t.next)
+  range_both : (term_within 512 (term_at s at) ≡ true) × InRange (read sum_at t.rest)
   unfolding all
-  range_both = let q : all (term_within 512) (term_at s at ∷ sum_at s t.next) ≡ true = ap (all (term_within 512)) (sym here_and_rest) ∙ r in (and_left _ _ q, and_right _ _ q)
+  range_both = let q : all (term_within 512) (term_at s at ∷ read sum_at t.rest) ≡ true = ap (all (term_within 512)) (sym here_and_rest) ∙ r in (and_left _ _ q, and_right _ _ q)
 
   pub range_here : term_within 512 (term_at s at) ≡ true
   range_here = range_both.0
 
-  pub range_rest : InRange (sum_at s t.next)
+  pub range_rest : InRange (read sum_at t.rest)
   range_rest = range_both.1
 
 -- The terms of a sum written one behind the other.
-pub record Written (s : List ℕ) (from : ℕ) (o : List ℕ) (at end : ℕ) (t : List ℕ) : Type 0 where
+pub record Written (all_of : List Term) (o : List ℕ) (text : Text) (end : ℕ) (t : List ℕ) : Type 0 where
   pub done : List Term
   pub filled : t ≡ front (word_bytes (term_entries done)) o
   pub place : end ≡ 8 * length done
-  pub rest : done ++ sum_at s at ≡ sum_at s from
-  pub range : InRange (sum_at s at)
-  pub inside : at ≤ length s
-  pub space : end + 8 * length (sum_at s at) ≤ length o
+  pub rest : done ++ read sum_at text ≡ all_of
+  pub range : InRange (read sum_at text)
+  pub space : end + 8 * length (read sum_at text) ≤ length o
   pub limit : length o ≤ term_size
   pub same : length t ≡ length o
 
 pub written_start :
-    (s : List ℕ) (from : ℕ) (o : List ℕ) → from ≤ length s → InRange (sum_at s from) → 8 * length (sum_at s from) ≤ length o → length o ≤ term_size
-    → Written s from o from 0 o
+    (text : Text) (o : List ℕ) → InRange (read sum_at text) → 8 * length (read sum_at text) ≤ length o → length o ≤ term_size
+    → Written (read sum_at text) o text 0 o
 unfolding term_entries word_bytes
-written_start s from o h r l m =
+written_start text o r l m =
     record {
       done = [];
       filled = sym (front_none o);
       place = refl;
       rest = refl;
       range = r;
-      inside = h;
       space = omega arith;
       limit = m;
       same = refl;
     }
 
-module _ {s : List ℕ} {from : ℕ} {o : List ℕ} {at end : ℕ} {t : List ℕ} (h : Written s from o at end t) where
-  module _ (x : Weighted) (some : is_term s at ≡ true) (k : WeightedAt s at x) where
+module _ {all_of : List Term} {o : List ℕ} {text : Text} {end : ℕ} {t : List ℕ} (h : Written all_of o text end t) where
+  module _ (x : Weighted) (some : read is_term text ≡ true) (k : Reads WeightedAt text x) where
+    abbrev s : List ℕ
+    s = text.bytes.now
+
+    abbrev at : ℕ
+    at = text.at
+
     abbrev rest' : List Term
-    rest' = sum_at s x.next
+    rest' = read sum_at x.rest
 
     split : sum_at s at ≡ term_at s at ∷ rest'
     split = here_and_rest s at x some k h.range
@@ -114,7 +121,7 @@ module _ {s : List ℕ} {from : ℕ} {o : List ℕ} {at end : ℕ} {t : List ℕ
     pub written_more :
         (w : ℕ) (ys : List ℕ) → w ≡ unsigned (with_sign x.weight.negative x.weight.size)
         → ys ≡ front (word_bytes (x.variable ∷ w ∷ [])) (mid_of end (length t - end) t)
-        → Written s from o x.next (end + 8) (put_mid end (length t - end) t ys)
+        → Written all_of o x.rest (end + 8) (put_mid end (length t - end) t ys)
     unfolding term_entries
     written_more w ys q e =
         let r = range_here s at x some k h.range in
@@ -128,23 +135,22 @@ module _ {s : List ℕ} {from : ℕ} {o : List ℕ} {at end : ℕ} {t : List ℕ
           place = omega (arith, n, h.place);
           rest = append_assoc h.done us rest' ∙ ap (λ l. h.done ++ l) (sym split) ∙ h.rest;
           range = range_rest s at x some k h.range;
-          inside = k.inside;
           space = omega (arith, h.space, ap length split);
           limit = h.limit;
           same = ap length f ∙ front_long o (h.done ++ us) (omega (arith, n, h.place, h.space, ap length split));
         }
 
-  pub written_end : is_term s at ≡ false → (end ≡ 8 * length (sum_at s from)) × (t ≡ front (word_bytes (term_entries (sum_at s from))) o)
+  pub written_end : read is_term text ≡ false → (end ≡ 8 * length all_of) × (t ≡ front (word_bytes (term_entries all_of)) o)
   written_end none =
-      let all_done = sym (append-nil h.done) ∙ ap (λ ts. h.done ++ ts) (sym (sum_none s at none).0) ∙ h.rest in
+      let all_done = sym (append-nil h.done) ∙ ap (λ ts. h.done ++ ts) (sym (sum_none text.bytes.now text.at none).0) ∙ h.rest in
       (h.place ∙ ap (λ ts. 8 * length ts) all_done, h.filled ∙ ap (λ ts. front (word_bytes (term_entries ts)) o) all_done)
 
 -- The same, each at its variable's place.
 pub placed_more :
-    (s : List ℕ) (from at : ℕ) (o t u : List ℕ) (x : Weighted) (some : is_term s at ≡ true) (k : WeightedAt s at x)
-    (r : InRange (sum_at s at)) (w : ℕ) → w ≡ unsigned (with_sign x.weight.negative x.weight.size) → Placing (sum_at s from) o (sum_at s at) t
-    → u ≡ put (4 * (x.variable - 1)) (bytes_of 4 w) t → Placing (sum_at s from) o (sum_at s x.next) u
-placed_more s from at o t u x some k r w q h e =
+    (s : List ℕ) (at : ℕ) (all_of : List Term) (o t u : List ℕ) (x : Weighted) (some : is_term s at ≡ true) (k : WeightedAt s at x)
+    (r : InRange (sum_at s at)) (w : ℕ) → w ≡ unsigned (with_sign x.weight.negative x.weight.size) → Placing all_of o (sum_at s at) t
+    → u ≡ put (4 * (x.variable - 1)) (bytes_of 4 w) t → Placing all_of o (read sum_at x.rest) u
+placed_more s at all_of o t u x some k r w q h e =
     let i = range_here s at x some k r in
     placing_more h _ _ (here_and_rest s at x some k r) u
     (e ∙ ap₂ (λ a b. put (4 * (a - 1)) (bytes_of 4 b) t) (variable_is s at x k i) (weight_is s at x k i q))

@@ -12,34 +12,34 @@ ghost use Rattle.tables.specs.Sections.{objective_words, clause_words, rule_word
 ghost use Rattle.statements.specs.Grammar.{sum_at, rule_at, with_sign};
 ghost use Rattle.opb_lines.specs.ReadText.{plan_of_text, objective_of};
 ghost use Rattle.opb_lines.specs.Lines.{next_line, lines_from};
+ghost use Rattle.tokens.specs.Found.{read, Reads};
 ghost use Rattle.opb_fill.specs.Fill.{Says, constraints_from, Reaches, InRange, ConstraintHere};
 
 use opb_lines::next_line;
 use statements::{Kind, Signed, kind_at, objective_sum, relation_at, sum_at, term_at};
 use tables::entries::{put_clause, put5};
+use tokens::Text;
 use words::{clear, narrow, write_two, write_u32};
 
 // The first constraint from a line on, or the end of the text.
-fn constraint_from(s: &[u8], from: usize) -> usize
-    requires { from ≤ length s.now }
-    ensures { Reaches s.now from result }
+fn constraint_from(t: Text<'_>) -> Text<'_>
+    ensures { Reads Reaches t.entry result }
 {
-    let mut at = from;
-    while at < s.len() {
-        if let Kind::Constraint = kind_at(s, at) {
-            return at;
+    let mut text = t;
+    while text.at < text.bytes.len() {
+        if let Kind::Constraint = kind_at(text.bytes, text.at) {
+            return text;
         }
-        at = next_line(s, at);
+        text = next_line(text);
     }
-    at
+    text
 }
 
 // The first constraint behind a line.
-fn constraint_behind(s: &[u8], at: usize) -> usize
-    requires { at ≤ length s.now }
-    ensures { Reaches s.now (next_line s.now at) result }
+fn constraint_behind(t: Text<'_>) -> Text<'_>
+    ensures { Reaches t.entry.bytes.now (read next_line t.entry) result }
 {
-    constraint_from(s, next_line(s, at))
+    constraint_from(next_line(t))
 }
 
 // The word of a signed number.
@@ -54,13 +54,13 @@ fn signed_word(number: Signed) -> u32
 }
 
 // A constraint's rule: `>=` has a lower bound, "`=` in mode 3"; it answers how many terms it has.
-fn put_rule(s: &[u8], at: usize, first: usize, out: &mut [u8]) -> usize
-    requires { ConstraintHere s.now at × (20 ≤ length out.old) × (first < 4_294_967_296) }
-    ensures { (result ≡ length (sum_at s.now at))
-        × (out.new ≡ front (word_bytes (rule_entries first (rule_at s.now at ∷ []))) out.old) }
+fn put_rule(t: Text<'_>, first: usize, out: &mut [u8]) -> usize
+    requires { ConstraintHere t.bytes.now t.at × (20 ≤ length out.old) × (first < 4_294_967_296) }
+    ensures { (result ≡ length (read sum_at t.entry))
+        × (out.new ≡ front (word_bytes (rule_entries first (read rule_at t.entry ∷ []))) out.old) }
 {
-    let sum = sum_at(s, at, 0).unwrap();
-    let relation = relation_at(s, sum.next).unwrap();
+    let sum = sum_at(t, 0).unwrap();
+    let relation = relation_at(sum.rest).unwrap();
     let bound = signed_word(relation.bound);
     let mode = if relation.exact { 3 } else { 1 };
     let upper = if relation.exact { bound } else { 0 };
@@ -81,14 +81,14 @@ pub fn rule_section(s: &[u8], out: &mut [u8]) -> Counted
     ensures { (result.rules ≡ length (rules_of (plan_of_text s.now))) × (result.terms ≡ term_count (plan_of_text s.now))
         × (out.new ≡ word_bytes (rule_words (plan_of_text s.now))) }
 {
-    let mut at = constraint_behind(s, 0);
+    let mut text = constraint_behind(Text { bytes: s, at: 0 });
     let mut rules = 0;
     let mut first = 0;
-    while at < s.len() {
+    while text.at < text.bytes.len() {
         let place = 20 * rules;
-        first += put_rule(s, at, first, &mut out[place..]);
+        first += put_rule(text, first, &mut out[place..]);
         rules += 1;
-        at = constraint_behind(s, at);
+        text = constraint_behind(text);
     }
     let end = 20 * rules;
     clear(&mut out[end..]);
@@ -99,6 +99,7 @@ pub fn rule_section(s: &[u8], out: &mut [u8]) -> Counted
 }
 
 // The clauses, each of one rule.
+#[tactic(auto, using(crate::proofs::Filled::clause_space, crate::proofs::Filled::clause_all_space))]
 pub fn clause_section(s: &[u8], clauses: usize, out: &mut [u8])
     requires says { Says s.now }
     requires clauses_value { (clauses ≡ length (plan_of_text s.now).clauses) × (length out.old ≡ clause_section_size) }
@@ -120,16 +121,15 @@ fn put_term(out: &mut [u8], variable: u32, weight: u32)
 }
 
 // The terms of a sum, one behind the other; it answers how many bytes they take.
-fn put_sum(s: &[u8], from: usize, out: &mut [u8]) -> usize
-    requires { (from ≤ length s.now) × InRange (sum_at s.now from) × (8 * length (sum_at s.now from) ≤ length out.old)
-        × (length out.old ≤ term_size) }
-    ensures { (result ≡ 8 * length (sum_at s.now from)) × (out.new ≡ front (word_bytes (term_entries (sum_at s.now from))) out.old) }
+fn put_sum(t: Text<'_>, out: &mut [u8]) -> usize
+    requires { InRange (read sum_at t) × (8 * length (read sum_at t) ≤ length out.old) × (length out.old ≤ term_size) }
+    ensures { (result ≡ 8 * length (read sum_at t.entry)) × (out.new ≡ front (word_bytes (term_entries (read sum_at t.entry))) out.old) }
 {
-    let mut at = from;
+    let mut text = t;
     let mut end = 0;
-    while let Some(term) = term_at(s, at) {
+    while let Some(term) = term_at(text) {
         put_term(&mut out[end..], term.variable, signed_word(term.weight));
-        at = term.next;
+        text = term.rest;
         end += 8;
     }
     end
@@ -141,11 +141,11 @@ pub fn term_section(s: &[u8], terms: &mut [u8])
     requires terms_len { length terms.old ≡ term_size }
     ensures { terms.new ≡ word_bytes (term_words (plan_of_text s.now)) }
 {
-    let mut at = constraint_behind(s, 0);
+    let mut text = constraint_behind(Text { bytes: s, at: 0 });
     let mut end = 0;
-    while at < s.len() {
-        end += put_sum(s, at, &mut terms[end..]);
-        at = constraint_behind(s, at);
+    while text.at < text.bytes.len() {
+        end += put_sum(text, &mut terms[end..]);
+        text = constraint_behind(text);
     }
     clear(&mut terms[end..]);
 }
@@ -159,30 +159,29 @@ fn put_coefficient(out: &mut [u8], variable: u32, weight: u32)
 }
 
 // The terms of a sum, each at its variable's place.
-fn put_coefficients(s: &[u8], from: usize, out: &mut [u8])
-    requires { (from ≤ length s.now) × InRange (sum_at s.now from) × (in_range (sum_at s.now from) ≡ true) × (length out.old ≡ 2_048) }
-    ensures { out.new ≡ placed (sum_at s.now from) out.old }
+fn put_coefficients(t: Text<'_>, out: &mut [u8])
+    requires { InRange (read sum_at t) × (in_range (read sum_at t) ≡ true) × (length out.old ≡ 2_048) }
+    ensures { out.new ≡ placed (read sum_at t.entry) out.old }
 {
-    let mut at = from;
-    while let Some(term) = term_at(s, at) {
+    let mut text = t;
+    while let Some(term) = term_at(text) {
         put_coefficient(out, term.variable, signed_word(term.weight));
-        at = term.next;
+        text = term.rest;
     }
 }
 
 // Where the objective's sum begins, or the end of the text.
-fn objective_begins(s: &[u8]) -> usize
-    ensures { (result ≤ length s.now)
-        × (sum_at s.now result ≡ objective_of s.now (lines_from s.now (next_line s.now 0))) }
+fn objective_begins(s: &[u8]) -> Text<'_>
+    ensures { read sum_at result ≡ objective_of s.now (lines_from s.now (next_line s.now 0)) }
 {
-    let mut at = next_line(s, 0);
-    while at < s.len() {
-        if let Kind::Objective = kind_at(s, at) {
-            return objective_sum(s, at);
+    let mut text = next_line(Text { bytes: s, at: 0 });
+    while text.at < text.bytes.len() {
+        if let Kind::Objective = kind_at(text.bytes, text.at) {
+            return objective_sum(text);
         }
-        at = next_line(s, at);
+        text = next_line(text);
     }
-    at
+    text
 }
 
 // The objective, a word for each variable.
@@ -192,5 +191,5 @@ pub fn objective_section(s: &[u8], out: &mut [u8])
     ensures { out.new ≡ word_bytes (objective_words (plan_of_text s.now)) }
 {
     clear(out);
-    put_coefficients(s, objective_begins(s), out);
+    put_coefficients(objective_begins(s), out);
 }

@@ -7,18 +7,19 @@ use mathlib.Core.Bool.{Bool, true, false, not}
 use mathlib.Core.List.{List, [], ◌∷◌}
 use lib.Dec.{leb, ltb, eqb}
 use lib.IntN.{nat_abs}
-use lib.ListN.{length, get_or, drop}
+use lib.ListN.{length, get_or}
 use borrow.Author.Tests.{le-leb, lt-leb, leb-false, ltb-false}
 use Rattle.plpb.specs.Lists.{◌or◌, is_empty}
 use Rattle.format.specs.File.{refuse}
 use Rattle.std.specs.Prelude.{Option, Some, None, is_some}
-use Rattle.tokens.specs.Tokens.{blanks_end, line_end, number_at, begins, word_end, seen}
-use Rattle.tokens.specs.Found.{Found, EndsAt}
+use Rattle.tokens.specs.Tokens.{line_end, number_at, begins, word_end, seen}
+use Rattle.tokens.specs.declared.text.Text.{Text}
+use Rattle.tokens.specs.Found.{left, Reads, Behind, takes, Found}
 use Rattle.tokens.proofs.Runs.{word_there}
 use Rattle.tokens.proofs.Numbers.{seen_ltb}
 use Rattle.statements.specs.declared.Sum.{Sum}
 use Rattle.statements.specs.Grammar.{unsigned_from, integer_at, bound_from, bound_at, is_comment, is_objective, min_word, sum_from, sum_at, sum_end, terms_in}
-use Rattle.statements.specs.Parts.{SumAt}
+use Rattle.statements.specs.Parts.{behind_min, SumAt}
 use Rattle.statements.proofs.Parts.{size_signed}
 use Rattle.opb_lines.specs.ReadText.{variables_in, first_met, objective_fault, constraint_fault, fault}
 
@@ -67,22 +68,22 @@ unfolding first_met refuse
 malformed_is b c d e h = rw h
 
 -- "min:" is there where its end is behind its place.
-pub named_is : (s : List ℕ) (at : ℕ) (r : Option ℕ) → Found (begins min_word (drop at s)) (EndsAt s (word_end min_word s at)) r → is_some r ≡ ltb at (word_end min_word s at)
-named_is s at None e = sym (word_there 109 (105 ∷ 110 ∷ 58 ∷ []) s at ∙ e)
-named_is s at (Some k) (e, h) = sym (word_there 109 (105 ∷ 110 ∷ 58 ∷ []) s at ∙ e)
+pub named_is : (t : Text) (r : Option Text) → Found (begins min_word (left t)) (Reads (Behind (word_end min_word)) t) r → is_some r ≡ takes (word_end min_word) t
+named_is t None e = sym (word_there 109 (105 ∷ 110 ∷ 58 ∷ []) t.bytes.now t.at ∙ e)
+named_is t (Some k) (e, h) = sym (word_there 109 (105 ∷ 110 ∷ 58 ∷ []) t.bytes.now t.at ∙ e)
 
 -- Where the sum of a statement begins.
 module _ (s : List ℕ) (at : ℕ) where
-  pub sum_behind : is_objective s at ≡ true → blanks_end s (word_end min_word s at) ≡ sum_from s at
+  pub sum_behind : is_objective s at ≡ true → {u : Text} → Behind behind_min s at u → Behind sum_from s at u
   unfolding sum_from
-  sum_behind h = rw h
+  sum_behind h b = record { bytes = b.bytes; at = rw h b.at }
 
   pub sum_plain : is_objective s at ≡ false → at ≡ sum_from s at
   unfolding sum_from
   sum_plain h = rw h
 
-pub sum_moved : {s : List ℕ} {x y n m : ℕ} {r : Sum} → x ≡ y → n ≡ m → SumAt s x n r → SumAt s y m r
-sum_moved e f h = rw (sym e, sym f) h
+pub sum_moved : {s s' : List ℕ} {x y n m : ℕ} {r : Sum} → s' ≡ s → x ≡ y → n ≡ m → SumAt s' x n r → SumAt s y m r
+sum_moved d e f h = rw (sym d, sym e, sym f) h
 
 -- A bound's size is judged by what is seen of it.
 pub bound_seen : (s : List ℕ) (at : ℕ) {k : ℕ} → k ≡ seen (number_at s (unsigned_from s (bound_from s (sum_end s at)))) → ltb 1_000_000_000 k ≡ ltb 1_000_000_000 (nat_abs (bound_at s at))

@@ -11,7 +11,10 @@ use borrow.Author.Tests.{eq-eqb, ne_eqb, lt-ltb, le-leb, lt-leb}
 use Rattle.plpb.specs.Lists.{◌and◌, is_empty}
 use Rattle.plpb.specs.Plan.{Plan}
 use Rattle.format.specs.File.{Reading, refuse}
+use Rattle.tokens.specs.declared.text.Text.{Text}
 use Rattle.tokens.specs.Tokens.{seen}
+use Rattle.tokens.specs.Found.{read, Behind}
+use Rattle.tokens.proofs.Runs.{read_behind}
 use Rattle.tokens.proofs.Numbers.{seen_eqb, seen_below, seen_le}
 use Rattle.statements.specs.Grammar.{is_comment, is_objective, sum_at, terms_in}
 use Rattle.verdict.specs.Answers.{Answer, Accepted, Refused, outcome}
@@ -81,12 +84,13 @@ module _ (s : List ℕ) (at : ℕ) (p : Passed) (step : Result Passed Fault) (h 
       ∙ ap outcome (g (starts at (drop at s)))
 
   pub judged_go :
-      (q : Passed) → step ≡ Ok q → {k : ℕ} → k ≡ next_line s at
-      → (outcome (judging s q.free q.constraints q.terms (lines_from s k)) ≡ outcome now)
+      (q : Passed) → step ≡ Ok q → {u : Text} → Behind next_line s at u
+      → (outcome (judging u.bytes.now q.free q.constraints q.terms (read lines_from u)) ≡ outcome now)
       × (p.constraints ≤ 512 → q.constraints ≤ 512)
-  judged_go q e {k} f =
+  judged_go q e f =
       let g = subst (Steps s at p) e h in (
-        ap (λ ats. outcome (judging s q.free q.constraints q.terms ats)) (ap (lines_from s) f ∙ sym (lines_behind s at (omega arith)))
+        read_behind f (λ s k. outcome (judging s q.free q.constraints q.terms (lines_from s k)))
+            ∙ ap (λ ats. outcome (judging s q.free q.constraints q.terms ats)) (sym (lines_behind s at (omega arith)))
             ∙ ap outcome (sym (g.0 (starts at (drop at s))))
             ∙ ap (λ ats. outcome (judging s p.free p.constraints p.terms ats)) (sym (lines_here s at l)),
         g.1,

@@ -1,21 +1,23 @@
 // A whole OPB text judged, line by line: "the first statement at fault deciding".
 #![tactic(auto)]
 
-ghost use Rattle.std.specs.Prelude.{◌≡◌, true, false, not, ◌+◌, ◌≤◌, ◌<◌, leb, ltb, length};
-ghost use Rattle.plpb.specs.Lists.{◌or◌};
-ghost use Rattle.tokens.specs.Tokens.{run_end, is_inside, seen};
+ghost use Rattle.std.specs.Prelude.{◌≡◌, true, false, not, ◌+◌, ◌≤◌, length};
+ghost use Rattle.tokens.specs.Tokens.{line_end, seen};
+ghost use Rattle.tokens.specs.Found.{read};
 ghost use Rattle.statements.specs.Grammar.{is_objective, sum_from, closes, sum_at};
 ghost use Rattle.statements.specs.Parts.{SumAt};
 ghost use Rattle.verdict.specs.Answers.{Refused, outcome};
 ghost use Rattle.opb_lines.specs.ReadText.{variables_in, constraints_in, starts, first_met, judging, read_text};
 ghost use Rattle.opb_judge.specs.Steps.{objective_line, constraint_line, number_of, Finds, OnFault, Steps};
 
+use faults::rules_full;
 use opb_lines::{first_line, next_line};
 use statements::{Kind, Sum, kind_at, objective_sum, relation_at, sum_at};
-use tokens::{byte, line_end, past_word};
+use tokens::{Text, byte};
 use verdict::Refusal;
 
 // What the lines passed have: whether an objective may still stand, how many constraints there are, and how many terms these have.
+// Whether one may stand is a fact of its own: the two counts go on beside it.
 #[derive(Clone, Copy)]
 pub struct Passed {
     pub free: bool,
@@ -53,25 +55,19 @@ impl Fault {
 // A line of a text of n variables, and where it ends.
 #[derive(Clone, Copy)]
 pub struct Line<'a> {
-    pub text: &'a [u8],
-    pub at: usize,
+    pub text: Text<'a>,
     pub end: usize,
     pub n: u32,
-    ghost inside: { at ≤ length text.now },
-    ghost ends: { end ≡ run_end is_inside text.now at },
-    ghost named: { n ≡ variables_in text.now },
+    ghost ends: { end ≡ read line_end text },
+    ghost named: { n ≡ variables_in text.bytes.now },
     ghost few: { n ≤ 512 },
 }
 
 // ";" and the line feed that ends the line.
-fn closed(s: &[u8], at: usize, end: usize) -> bool
-    requires { at ≤ length s.now }
-    ensures { result ≡ closes s.now at end }
+fn closed(t: Text<'_>, end: usize) -> bool
+    ensures { result ≡ closes t.entry.bytes.now t.entry.at end }
 {
-    if byte(s, at) != b';' {
-        return false;
-    }
-    at + 1 == end
+    byte(t.bytes, t.at) == b';' && t.at + 1 == end
 }
 
 // "32 for a variable above n, then 4 to 6 as in a plan": the first that a formed statement meets.
@@ -94,42 +90,30 @@ fn first_met(above: bool, full: bool, wide: bool, lawful: bool) -> Result<(), Fa
     }
 }
 
-fn objective_fault(line: Line<'_>, sum: Sum, free: bool) -> Result<(), Fault>
-    requires { SumAt line.text.now (sum_from line.text.now line.at) (variables_in line.text.now) sum }
-    ensures { Finds (objective_line line.entry.text.now free line.entry.at) result }
+fn objective_fault(line: Line<'_>, sum: Sum<'_>, free: bool) -> Result<(), Fault>
+    requires { SumAt line.text.bytes.now (read sum_from line.text) (variables_in line.text.bytes.now) sum }
+    ensures { Finds (objective_line line.entry.text.bytes.now free line.entry.text.at) result }
 {
-    let named = past_word(line.text, line.at, b"min:").is_some();
-    let formed = free & (named & closed(line.text, sum.next, line.end));
+    let named = line.text.past_word(b"min:").is_some();
+    let formed = free & (named & closed(sum.rest, line.end));
     if !formed {
         return Err(Fault::Malformed);
     }
     first_met(sum.above, false, false, sum.lawful)
 }
 
-// "4: [..] the 513th clause, [..] or a field that brings terms of rules above 6,000."
-fn full(constraints: usize, terms: usize, more: usize) -> bool
-    ensures { result ≡ (leb 512 constraints or ltb 6_000 (terms + more)) }
+fn constraint_fault(line: Line<'_>, sum: Sum<'_>, passed: Passed) -> Result<(), Fault>
+    requires { SumAt line.text.bytes.now line.text.at (variables_in line.text.bytes.now) sum × (read is_objective line.text ≡ false) }
+    ensures { Finds (constraint_line line.entry.text.bytes.now passed.constraints passed.terms line.entry.text.at) result }
 {
-    if 512 <= constraints {
-        return true;
-    }
-    if 6000 < terms {
-        return true;
-    }
-    6000 - terms < more
-}
-
-fn constraint_fault(line: Line<'_>, sum: Sum, passed: Passed) -> Result<(), Fault>
-    requires { SumAt line.text.now line.at (variables_in line.text.now) sum × (is_objective line.text.now line.at ≡ false) }
-    ensures { Finds (constraint_line line.entry.text.now passed.constraints passed.terms line.entry.at) result }
-{
-    let Some(relation) = relation_at(line.text, sum.next) else {
+    let Some(relation) = relation_at(sum.rest) else {
         return Err(Fault::Malformed);
     };
-    if !closed(line.text, relation.next, line.end) {
+    if !closed(relation.rest, line.end) {
         return Err(Fault::Malformed);
     }
-    let past = full(passed.constraints, passed.terms, sum.count);
+    // "4: [..] the 513th clause, [..] or a field that brings terms of rules above 6,000."
+    let past = rules_full::<512>(passed.constraints, passed.terms, sum.count);
     first_met(
         sum.above,
         past,
@@ -139,11 +123,11 @@ fn constraint_fault(line: Line<'_>, sum: Sum, passed: Passed) -> Result<(), Faul
 }
 
 fn objective_step(line: Line<'_>, passed: Passed) -> Result<Passed, Fault>
-    requires { is_objective line.text.now line.at ≡ true }
-    ensures { OnFault (objective_line line.entry.text.now passed.free line.entry.at)
+    requires { read is_objective line.text ≡ true }
+    ensures { OnFault (objective_line line.entry.text.bytes.now passed.free line.entry.text.at)
         (record { free = false; constraints = passed.constraints; terms = passed.terms }) result }
 {
-    let Some(sum) = sum_at(line.text, objective_sum(line.text, line.at), line.n) else {
+    let Some(sum) = sum_at(objective_sum(line.text), line.n) else {
         return Err(Fault::Malformed);
     };
     objective_fault(line, sum, passed.free)?;
@@ -155,11 +139,11 @@ fn objective_step(line: Line<'_>, passed: Passed) -> Result<Passed, Fault>
 }
 
 fn constraint_step(line: Line<'_>, passed: Passed) -> Result<Passed, Fault>
-    requires { is_objective line.text.now line.at ≡ false }
-    ensures { OnFault (constraint_line line.entry.text.now passed.constraints passed.terms line.entry.at)
-        (record { free = false; constraints = passed.constraints + 1; terms = passed.terms + length (sum_at line.entry.text.now line.entry.at) }) result }
+    requires { read is_objective line.text ≡ false }
+    ensures { OnFault (constraint_line line.entry.text.bytes.now passed.constraints passed.terms line.entry.text.at)
+        (record { free = false; constraints = passed.constraints + 1; terms = passed.terms + length (read sum_at line.entry.text) }) result }
 {
-    let Some(sum) = sum_at(line.text, line.at, line.n) else {
+    let Some(sum) = sum_at(line.text, line.n) else {
         return Err(Fault::Malformed);
     };
     constraint_fault(line, sum, passed)?;
@@ -170,21 +154,16 @@ fn constraint_step(line: Line<'_>, passed: Passed) -> Result<Passed, Fault>
     })
 }
 
-fn judge_line(s: &[u8], at: usize, n: u32, passed: Passed) -> Result<Passed, Fault>
-    requires { (at ≤ length s.now) × (n ≡ variables_in s.now) × (n ≤ 512) }
-    ensures { Steps s.now at passed result }
+fn judge_line(text: Text<'_>, n: u32, passed: Passed) -> Result<Passed, Fault>
+    requires { (n ≡ variables_in text.bytes.now) × (n ≤ 512) }
+    ensures { Steps text.entry.bytes.now text.entry.at passed result }
 {
-    let end = line_end(s, at);
-    if end == s.len() {
+    let end = text.line_end().at;
+    if end == text.bytes.len() {
         return Err(Fault::Malformed);
     }
-    let line = Line {
-        text: s,
-        at,
-        end,
-        n,
-    };
-    match kind_at(s, at) {
+    let line = Line { text, end, n };
+    match kind_at(text.bytes, text.at) {
         Kind::Comment => Ok(passed),
         Kind::Objective => objective_step(line, passed),
         Kind::Constraint => constraint_step(line, passed),
@@ -204,18 +183,18 @@ fn judge_lines(s: &[u8], n: u32, constraints: u32) -> Result<(), Refusal>
     requires { (n ≡ variables_in s.now) × (n ≤ 512) × (constraints ≡ seen (constraints_in s.now)) }
     ensures { result ≡ outcome (judging s.now true 0 0 (starts 0 s.now)) }
 {
-    let mut at = next_line(s, 0);
+    let mut text = next_line(Text { bytes: s, at: 0 });
     let mut passed = Passed {
         free: true,
         constraints: 0,
         terms: 0,
     };
-    while at < s.len() {
-        match judge_line(s, at, n, passed) {
+    while text.at < s.len() {
+        match judge_line(text, n, passed) {
             Ok(behind) => passed = behind,
-            Err(fault) => return refused(fault, at),
+            Err(fault) => return refused(fault, text.at),
         }
-        at = next_line(s, at);
+        text = next_line(text);
     }
     if passed.constraints == constraints as usize {
         Ok(())

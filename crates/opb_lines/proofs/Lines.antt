@@ -11,6 +11,8 @@ use lib.Seq.{drop-drop}
 use borrow.Author.Tests.{lt-ltb, le-ltb, ltb-true, ltb-false}
 use Rattle.plpb.specs.Lists.{◌and◌, is_empty}
 use Rattle.tokens.specs.Tokens.{run, run_end, is_inside, line_end}
+use Rattle.tokens.specs.declared.text.Text.{Text}
+use Rattle.tokens.specs.Found.{Behind}
 use Rattle.tokens.proofs.Runs.{here, run_from}
 use Rattle.opb_lines.specs.ReadText.{starts}
 use Rattle.opb_lines.specs.Lines.{next_line, lines_from}
@@ -71,10 +73,6 @@ module _ (s : List ℕ) (at : ℕ) (h : at ≤ length s) where
   unfolding next_line
   next_found {e} q k = let r : line_end s at < length s = rw (sym q) k in rw (lt-ltb _ _ r) (ap (λ x. x + 1) q)
 
-  pub next_none : {e : ℕ} → e ≡ line_end s at → e ≤ length s → length s ≤ e → e ≡ next_line s at
-  unfolding next_line
-  next_none {e} q m k = let r : length s ≤ line_end s at = rw (sym q) k in rw (le-ltb _ _ r) (omega arith)
-
   -- The lines behind a line are those from the next on.
   pub lines_behind : starts at (drop at s) ≡ lines_from s (next_line s at)
   unfolding next_line run_end
@@ -92,6 +90,20 @@ module _ (s : List ℕ) (at : ℕ) (h : at ≤ length s) where
       go : (t : Bool) → ltb end (length s) ≡ t → at < cond t (end + 1) (length s)
       go true e = omega (arith, run_from is_inside s at)
       go false e = k
+
+-- The line behind a line feed, or the end of the text.
+module _ {s : List ℕ} {at : ℕ} {end : Text} (b : Behind line_end s at end) where
+  pub behind_feed : end.at < length end.bytes.now → {r : Text} → r.bytes.now ≡ end.bytes.now → r.at ≡ end.at + 1 → Behind next_line s at r
+  unfolding next_line
+  behind_feed k p q =
+      let e : line_end s at < length s = omega (arith, b.at, ap length b.bytes) in
+      record { bytes = p ∙ b.bytes; at = q ∙ rw (lt-ltb _ _ e) (ap (λ x. x + 1) b.at) }
+
+  pub next_none : length end.bytes.now ≤ end.at → Behind next_line s at end
+  unfolding next_line
+  next_none k =
+      let e : length s ≤ line_end s at = omega (arith, b.at, ap length b.bytes) in
+      record { bytes = b.bytes; at = rw (le-ltb _ _ e) (omega (arith, k, end.within, ap length b.bytes)) }
 
 -- All lines behind the first.
 pub lines_of : (s : List ℕ) → starts 0 s ≡ lines_from s (next_line s 0)

@@ -1,15 +1,15 @@
 -- What the code answers of a first line that is formed, and how it goes from line to line.
 -- Assumes nothing.
-use Rattle.std.specs.Prelude.{ℕ, ◌+◌, ◌≤◌, ◌≡◌, cond, List, [], ◌∷◌, ltb, length, drop}
+use Rattle.std.specs.Prelude.{ℕ, ◌+◌, ◌≡◌, cond, List, [], ◌∷◌, ltb, length, drop}
 use Rattle.tokens.specs.Tokens.{line_end, number_at, seen}
+use Rattle.tokens.specs.Found.{Behind}
 use Rattle.tokens.specs.declared.Number.{Number}
 use Rattle.opb_lines.specs.declared.First.{First}
 use Rattle.opb_lines.specs.ReadText.{named_from, named_end, variables_in, constraints_in, starts}
 
 pub record NamedAt (name s : List ℕ) (at : ℕ) (r : Number) : Type 0 where
   pub value : r.value ≡ seen (number_at s (named_from name s at))
-  pub next : r.next ≡ named_end name s at
-  pub inside : r.next ≤ length s
+  pub rest : Behind (named_end name) s at r.rest
 
 pub record FirstOf (s : List ℕ) (r : First) : Type 0 where
   pub variables : r.variables ≡ seen (variables_in s)

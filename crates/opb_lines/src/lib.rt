@@ -1,22 +1,22 @@
 // The first line of an OPB text, and the way from line to line.
 #![tactic(auto)]
 
-ghost use Rattle.std.specs.Prelude.{◌≡◌, ◌≤◌, length, drop, ltb};
+ghost use Rattle.std.specs.Prelude.{◌≡◌, ltb};
 ghost use Rattle.plpb.specs.Lists.{◌and◌};
 ghost use Rattle.tokens.specs.Tokens.{begins};
-ghost use Rattle.tokens.specs.Found.{Found};
+ghost use Rattle.tokens.specs.Found.{left, read, Reads, Behind, Found};
 ghost use Rattle.opb_lines.specs.ReadText.{named_from, named_end, first_formed};
 ghost use Rattle.opb_lines.specs.Lines.{NamedAt, FirstOf, next_line};
 
-use tokens::{Number, byte, line_end, past_blanks, past_some_blanks, past_word, read_number};
+use tokens::{Number, Text, byte};
 
 // A number behind its name.
-fn named_at(s: &[u8], at: usize, name: &[u8]) -> Option<Number>
-    requires { at ≤ length s.now }
-    ensures { Found (begins name.now (drop at s.now) and ltb (named_from name.now s.now at) (named_end name.now s.now at)) (NamedAt name.now s.now at) result }
+fn named_at<'a>(t: Text<'a>, name: &[u8]) -> Option<Number<'a>>
+    ensures { Found (begins name.now (left t.entry) and ltb (read (named_from name.now) t.entry) (read (named_end name.now) t.entry))
+        (Reads (NamedAt name.now) t.entry) result }
 {
-    let behind = past_word(s, at, name)?;
-    read_number(s, past_blanks(s, behind))
+    let behind = t.past_word(name)?;
+    behind.past_blanks().number()
 }
 
 // "a first line `* #variable= n #constraint= m`"
@@ -29,12 +29,12 @@ pub struct First {
 pub fn first_line(s: &[u8]) -> Option<First>
     ensures { Found (first_formed s.now) (FirstOf s.now) result }
 {
-    let behind = past_word(s, 0, b"*")?;
-    let variables = named_at(s, past_blanks(s, behind), b"#variable=")?;
-    let second = past_some_blanks(s, variables.next)?;
-    let constraints = named_at(s, second, b"#constraint=")?;
-    let end = past_blanks(s, constraints.next);
-    if byte(s, end) != b'\n' {
+    let behind = Text { bytes: s, at: 0 }.past_word(b"*")?;
+    let variables = named_at(behind.past_blanks(), b"#variable=")?;
+    let second = variables.rest.past_some_blanks()?;
+    let constraints = named_at(second, b"#constraint=")?;
+    let end = constraints.rest.past_blanks();
+    if byte(end.bytes, end.at) != b'\n' {
         return None;
     }
     Some(First {
@@ -44,10 +44,15 @@ pub fn first_line(s: &[u8]) -> Option<First>
 }
 
 // The next line, or the end of the text.
-pub fn next_line(s: &[u8], at: usize) -> usize
-    requires { at ≤ length s.now }
-    ensures { (result ≡ next_line s.now at) × (result ≤ length s.now) }
+pub fn next_line(t: Text<'_>) -> Text<'_>
+    ensures { Reads (Behind next_line) t.entry result }
 {
-    let end = line_end(s, at);
-    if end < s.len() { end + 1 } else { end }
+    let end = t.line_end();
+    if end.at == end.bytes.len() {
+        return end;
+    }
+    Text {
+        bytes: end.bytes,
+        at: end.at + 1,
+    }
 }

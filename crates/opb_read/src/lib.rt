@@ -17,12 +17,12 @@ use opb_lines::first_line;
 use tables::entries::put_head;
 use verdict::Refusal;
 
-// No variable is locked.
+// No variable is locked. Written out at its one call, it would leave the part's length to be shown wherever what it wrote is used; here a clause states it.
 fn put_no_locks(out: &mut [u8])
     requires { length out.old ≡ 2_048 }
     ensures { out.new ≡ replicate 2_048 0 }
 {
-    words::clear(out);
+    out.fill(0);
 }
 
 // The table of counts, objective, clauses, rules and locks of an accepted text: all but the order of the terms.

@@ -17,7 +17,8 @@ use lines::refusal_line;
 use search::search;
 use settings::Settings;
 
-// The search of a plan that was loaded, with settings that are lawful. Answers the length of what it writes, as each function here does.
+// The search of a plan that was loaded, with settings that are lawful. Answers the length of what it writes, as each function here does. The two tables go on
+// to the search as the C interface lends them: it judges them anew, so that a struct of both would be taken apart at once.
 fn search_plan(tables: &[u8], terms: &[u8], numbers: &[u8], s: Settings, out: &mut [u8]) -> usize
     requires { T (is_loaded tables.now terms.now) × (table_size ≤ length tables.now) × (term_size ≤ length terms.now)
         × (settings_refusal s ≡ 0) × (2_048 ≤ length out.old) }

@@ -16,7 +16,7 @@ pub struct Settings {
     pub chance: u32,
 }
 
-// The chance is judged under either choice.
+// The chance is judged under either choice. Its number is one of those that the C interface gives out.
 fn choice_refusal(s: Settings) -> u32
     ensures { result ≡ choice_refusal s }
 {

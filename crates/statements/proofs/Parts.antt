@@ -2,7 +2,7 @@
 -- Assumes nothing.
 use Prim.Native.Nat.{ℕ, zero, suc, ◌+◌, ◌≤◌, ◌<◌}
 use native.Mathlib.Omega.{arith}
-use mathlib.Core.Path.{◌≡◌, refl, sym, ap, subst, ◌∙◌}
+use mathlib.Core.Path.{◌≡◌, refl, sym, ap, ◌∙◌}
 use mathlib.Core.Bool.{Bool, true, false, cond}
 use mathlib.Core.List.{List, [], ◌∷◌}
 use lib.Dec.{leb, ltb, eqb}
@@ -11,15 +11,18 @@ use lib.ListN.{length, get_or, drop, drop_of_length-le, get_or-eq_default}
 use borrow.Author.Tests.{eq-eqb, ne_eqb, lt-ltb, le-ltb, lt-leb, leb-true, ltb-true, ltb-false}
 use Rattle.plpb.specs.Lists.{◌and◌, ◌or◌}
 use Rattle.plpb.proofs.Lists.{and_false}
-use Rattle.std.specs.Prelude.{Option}
+use Rattle.std.specs.Prelude.{Option, Some, None}
 use Rattle.format.proofs.Bools.{and_join}
 use Rattle.format.specs.Limits.{weight_lawful}
 use Rattle.bodies.specs.Terms.{term_lawful}
-use Rattle.tokens.specs.Tokens.{blanks_end, digits_end, begins, word_end, most, seen}
-use Rattle.tokens.specs.Found.{Found, EndsAt}
-use Rattle.tokens.proofs.Runs.{word_there}
+use Rattle.tokens.specs.Tokens.{blanks_end, digits_end, number_at, begins, word_end, most, seen}
+use Rattle.tokens.specs.declared.text.Text.{Text}
+use Rattle.tokens.specs.Found.{left, read, Reads, Behind, takes, Found}
+use Rattle.tokens.proofs.Runs.{word_there, read_behind, behind}
 use Rattle.tokens.proofs.Numbers.{seen_small, seen_ltb, seen_leb}
-use Rattle.statements.specs.Grammar.{unsigned_from, integer_end, is_integer, with_sign, letter_at, index_from, index_end, term_end, is_term, is_exact, relation_end, bound_from, is_bounded}
+use Rattle.statements.specs.declared.Signed.{Signed}
+use Rattle.statements.specs.Parts.{SignedAt}
+use Rattle.statements.specs.Grammar.{unsigned_from, integer_end, is_integer, with_sign, letter_at, index_from, index_end, term_end, is_term, is_exact, relation_end, bound_from, bound_end, is_bounded}
 
 -- A part that is not there, before those behind it or behind those before it.
 pub left_false : {a : Bool} (b : Bool) → a ≡ false → a and b ≡ false
@@ -29,88 +32,99 @@ left_false b e = rw e
 pub last_false : (a : Bool) {b : Bool} → b ≡ false → a and b ≡ false
 last_false a e = ap (λ b. a and b) e ∙ and_false a
 
--- A term by its parts, each at the place where the code found it.
-module _ (s : List ℕ) (at : ℕ) where
-  pub no_weight : is_integer s at ≡ false → is_term s at ≡ false
-  unfolding is_term
-  no_weight e = left_false _ (left_false _ (left_false _ (left_false _ e)))
+-- A term by its parts, each read from the text behind the one before.
+pub no_weight : (s : List ℕ) (at : ℕ) → is_integer s at ≡ false → is_term s at ≡ false
+unfolding is_term
+no_weight s at e = left_false _ (left_false _ (left_false _ (left_false _ e)))
 
-  module _ {w : ℕ} (p : w ≡ integer_end s at) where
-    letter_by : {b : Bool} → ltb w (blanks_end s w) ≡ b → ltb (integer_end s at) (letter_at s at) ≡ b
+module _ {s : List ℕ} {at : ℕ} where
+  module _ {w : Text} (p : Behind integer_end s at w) where
+    letter_by : {b : Bool} → takes blanks_end w ≡ b → ltb (integer_end s at) (letter_at s at) ≡ b
     unfolding letter_at
-    letter_by {b} e = subst (λ k. ltb k (blanks_end s k) ≡ b) p e
+    letter_by e = sym (read_behind p (λ s k. ltb k (blanks_end s k))) ∙ e
 
-    pub no_letter : ltb w (blanks_end s w) ≡ false → is_term s at ≡ false
+    pub no_letter : takes blanks_end w ≡ false → is_term s at ≡ false
     unfolding is_term
     no_letter e = left_false _ (left_false _ (left_false _ (last_false _ (letter_by e))))
 
-    module _ {l : ℕ} (q : l ≡ blanks_end s w) where
-      letter_is : l ≡ letter_at s at
+    module _ {l : Text} (q : Reads (Behind blanks_end) w l) where
+      letter_is : Behind letter_at s at l
       unfolding letter_at
-      letter_is = q ∙ ap (blanks_end s) p
+      letter_is = behind p q
 
-      x_by : {b : Bool} → begins (120 ∷ []) (drop l s) ≡ b → ltb (letter_at s at) (index_from s at) ≡ b
+      x_by : {b : Bool} → begins (120 ∷ []) (left l) ≡ b → ltb (letter_at s at) (index_from s at) ≡ b
       unfolding index_from
-      x_by {b} e = word_there 120 [] s (letter_at s at) ∙ subst (λ k. begins (120 ∷ []) (drop k s) ≡ b) letter_is e
+      x_by e = word_there 120 [] s (letter_at s at) ∙ sym (read_behind letter_is (λ s k. begins (120 ∷ []) (drop k s))) ∙ e
 
-      pub no_x : begins (120 ∷ []) (drop l s) ≡ false → is_term s at ≡ false
+      pub no_x : begins (120 ∷ []) (left l) ≡ false → is_term s at ≡ false
       unfolding is_term
       no_x e = left_false _ (left_false _ (last_false _ (x_by e)))
 
-      module _ {f : ℕ} (r : f ≡ word_end (120 ∷ []) s l) where
-        pub from_is : f ≡ index_from s at
+      module _ {f : Text} (r : Reads (Behind (word_end (120 ∷ []))) l f) where
+        pub from_is : Behind index_from s at f
         unfolding index_from
-        from_is = r ∙ ap (word_end (120 ∷ []) s) letter_is
+        from_is = behind letter_is r
 
-        index_by : {b : Bool} → ltb f (digits_end s f) ≡ b → ltb (index_from s at) (index_end s at) ≡ b
+        index_by : {b : Bool} → takes digits_end f ≡ b → ltb (index_from s at) (index_end s at) ≡ b
         unfolding index_end
-        index_by {b} e = subst (λ k. ltb k (digits_end s k) ≡ b) from_is e
+        index_by e = sym (read_behind from_is (λ s k. ltb k (digits_end s k))) ∙ e
 
-        pub no_index : ltb f (digits_end s f) ≡ false → is_term s at ≡ false
+        pub no_index : takes digits_end f ≡ false → is_term s at ≡ false
         unfolding is_term
         no_index e = left_false _ (last_false _ (index_by e))
 
-        module _ {i : ℕ} (t : i ≡ digits_end s f) where
-          index_is : i ≡ index_end s at
+        module _ {i : Text} (t : Reads (Behind digits_end) f i) where
+          index_is : Behind index_end s at i
           unfolding index_end
-          index_is = t ∙ ap (digits_end s) from_is
+          index_is = behind from_is t
 
-          last_by : {b : Bool} → ltb i (blanks_end s i) ≡ b → ltb (index_end s at) (term_end s at) ≡ b
+          last_by : {b : Bool} → takes blanks_end i ≡ b → ltb (index_end s at) (term_end s at) ≡ b
           unfolding term_end
-          last_by {b} e = subst (λ k. ltb k (blanks_end s k) ≡ b) index_is e
+          last_by e = sym (read_behind index_is (λ s k. ltb k (blanks_end s k))) ∙ e
 
-          pub no_last : ltb i (blanks_end s i) ≡ false → is_term s at ≡ false
+          pub no_last : takes blanks_end i ≡ false → is_term s at ≡ false
           unfolding is_term
           no_last e = last_false _ (last_by e)
 
-          pub end_is : {k : ℕ} → k ≡ blanks_end s i → k ≡ term_end s at
+          pub end_is : {k : Text} → Reads (Behind blanks_end) i k → Behind term_end s at k
           unfolding term_end
-          end_is e = e ∙ ap (blanks_end s) index_is
+          end_is e = behind index_is e
 
           pub all_there :
-              is_integer s at ≡ true → ltb w (blanks_end s w) ≡ true → begins (120 ∷ []) (drop l s) ≡ true → ltb f (digits_end s f) ≡ true
-              → ltb i (blanks_end s i) ≡ true → is_term s at ≡ true
+              is_integer s at ≡ true → takes blanks_end w ≡ true → begins (120 ∷ []) (left l) ≡ true → takes digits_end f ≡ true
+              → takes blanks_end i ≡ true → is_term s at ≡ true
           unfolding is_term
           all_there a b c d e = and_join _ _ (and_join _ _ (and_join _ _ (and_join _ _ a (letter_by b)) (x_by c)) (index_by d)) (last_by e)
 
+-- A signed number behind an item.
+pub signed_behind : {end : List ℕ → ℕ → ℕ} {s : List ℕ} {at : ℕ} {u : Text} {r : Signed} → Behind end s at u → Reads SignedAt u r → SignedAt s (end s at) r
+signed_behind b h = record {
+  negative = h.negative ∙ read_behind b (λ s k. eqb (get_or s k 0) 45);
+  size = h.size ∙ read_behind b (λ s k. seen (number_at s (unsigned_from s k)));
+}
+
 -- A relation by its parts.
-module _ (s : List ℕ) (at : ℕ) where
-  pub no_relation : ltb at (relation_end s at) ≡ false → is_bounded s at ≡ false
-  unfolding is_bounded
-  no_relation e = left_false _ e
+pub no_relation : (s : List ℕ) (at : ℕ) → ltb at (relation_end s at) ≡ false → is_bounded s at ≡ false
+unfolding is_bounded
+no_relation s at e = left_false _ e
 
-  module _ {k : ℕ} (p : k ≡ relation_end s at) {f : ℕ} (q : f ≡ blanks_end s k) where
-    pub bound_is : f ≡ bound_from s at
+module _ {s : List ℕ} {at : ℕ} where
+  module _ {k : Text} (p : Behind relation_end s at k) {f : Text} (q : Reads (Behind blanks_end) k f) where
+    pub bound_is : Behind bound_from s at f
     unfolding bound_from
-    bound_is = q ∙ ap (blanks_end s) p
+    bound_is = behind p q
 
-    pub no_bound : is_integer s f ≡ false → is_bounded s at ≡ false
+    pub no_bound : read is_integer f ≡ false → is_bounded s at ≡ false
     unfolding is_bounded
-    no_bound e = last_false _ (subst (λ j. is_integer s j ≡ false) bound_is e)
+    no_bound e = last_false _ (sym (read_behind bound_is is_integer) ∙ e)
 
-    pub both_there : ltb at (relation_end s at) ≡ true → is_integer s f ≡ true → is_bounded s at ≡ true
+    pub both_there : ltb at (relation_end s at) ≡ true → read is_integer f ≡ true → is_bounded s at ≡ true
     unfolding is_bounded
-    both_there a b = and_join _ _ a (subst (λ j. is_integer s j ≡ true) bound_is b)
+    both_there a b = and_join _ _ a (sym (read_behind bound_is is_integer) ∙ b)
+
+    pub bound_ends : {i : Text} → Reads (Behind integer_end) f i → {r : Text} → Reads (Behind blanks_end) i r → Behind bound_end s at r
+    unfolding bound_end
+    bound_ends e g = behind (behind bound_is e) g
 
 -- Nothing stands beyond the end.
 none : (s : List ℕ) (at k : ℕ) → length s ≤ at → 0 < k → eqb (get_or s at 0) k ≡ false
@@ -156,12 +170,21 @@ module _ (s : List ℕ) (at : ℕ) where
   pub relation_there : get_or s at 0 ≡ 61 → ltb at (relation_end s at) ≡ true
   relation_there h = let e = relation_equal h in lt-ltb at (relation_end s at) (omega (arith, e))
 
-  pub relation_word :
-      (r : Option ℕ) → (get_or s at 0 ≡ 61 → ⊥) → Found (begins (62 ∷ 61 ∷ []) (drop at s)) (EndsAt s (word_end (62 ∷ 61 ∷ []) s at)) r
-      → Found (ltb at (relation_end s at)) (EndsAt s (relation_end s at)) r
-  relation_word r n h =
-      let e : word_end (62 ∷ 61 ∷ []) s at ≡ relation_end s at = relation_other n refl in
-      subst (λ k. Found (ltb at k) (EndsAt s k) r) e (subst (λ b. Found b (EndsAt s (word_end (62 ∷ 61 ∷ []) s at)) r) (sym (word_there 62 (61 ∷ []) s at)) h)
+-- Where no "=" stands, the relation is the word ">=".
+pub relation_word :
+    (t : Text) (r : Option Text) → (read (λ s at. get_or s at 0) t ≡ 61 → ⊥)
+    → Found (begins (62 ∷ 61 ∷ []) (left t)) (Reads (Behind (word_end (62 ∷ 61 ∷ []))) t) r → Found (takes relation_end t) (Reads (Behind relation_end) t) r
+relation_word t r n h = go r h
+  where
+    ends : word_end (62 ∷ 61 ∷ []) t.bytes.now t.at ≡ read relation_end t
+    ends = relation_other t.bytes.now t.at n refl
+
+    there : {b : Bool} → begins (62 ∷ 61 ∷ []) (left t) ≡ b → takes relation_end t ≡ b
+    there e = sym (ap (ltb t.at) ends) ∙ word_there 62 (61 ∷ []) t.bytes.now t.at ∙ e
+
+    go : (r : Option Text) → Found (begins (62 ∷ 61 ∷ []) (left t)) (Reads (Behind (word_end (62 ∷ 61 ∷ []))) t) r → Found (takes relation_end t) (Reads (Behind relation_end) t) r
+    go None e = there e
+    go (Some k) (e, b) = (there e, record { bytes = b.bytes; at = b.at ∙ ends })
 
 -- A number's size does not depend on its sign.
 pub size_signed : (b : Bool) (k : ℕ) → nat_abs (with_sign b k) ≡ k

@@ -18,8 +18,9 @@ use Rattle.format.proofs.Bools.{and_left, and_right}
 use Rattle.bodies.specs.Terms.{term_lawful, lawful_above}
 use Rattle.bodies.proofs.TermLaws.{lawful_start}
 use Rattle.tokens.specs.Tokens.{is_digit, digits_end, number_at}
-use Rattle.tokens.specs.Found.{Found}
-use Rattle.tokens.proofs.Runs.{both_is, run_end_lem}
+use Rattle.tokens.specs.declared.text.Text.{Text}
+use Rattle.tokens.specs.Found.{read, Reads, Found}
+use Rattle.tokens.proofs.Runs.{both_is, run_end_lem, read_behind}
 use Rattle.tokens.proofs.Numbers.{seen_ltb}
 use Rattle.statements.specs.declared.Weighted.{Weighted}
 use Rattle.statements.specs.Grammar.{unsigned_from, integer_end, is_integer, letter_at, index_from, index_end, integer_at, is_term, term_at, term_end, terms_from, end_from, sum_at, sum_end, has_terms}
@@ -109,63 +110,69 @@ unfolding is_empty
 some_by [] k e = ((λ n. absurd (n e)), λ z. refl)
 some_by (x ∷ xs) k e = ((λ n. refl), λ z. absurd (omega arith))
 
--- A sum of which some terms are passed: those from the present place on make the rest.
-module _ (s : List ℕ) (n from : ℕ) where
-  pub record Summing (at before count : ℕ) (above lawful : Bool) : Type 0 where
-    pub inside : at ≤ length s
-    pub few : count ≤ at
+-- A sum of which some terms are passed: those still to be read make the rest.
+module _ (t : Text) (n : ℕ) where
+  pub record Summing (rest : Text) (before count : ℕ) (above lawful : Bool) : Type 0 where
+    pub bytes : rest.bytes.now ≡ t.bytes.now
+    pub few : count ≤ rest.at
     pub small : n ≤ 512
-    pub end : sum_end s at ≡ sum_end s from
-    pub number : count + length (sum_at s at) ≡ length (sum_at s from)
-    pub over : above or passes n (sum_at s at) ≡ passes n (sum_at s from)
-    pub right : lawful and lawful_above n before (sum_at s at) ≡ terms_lawful n (sum_at s from)
+    pub end : read sum_end rest ≡ read sum_end t
+    pub number : count + length (read sum_at rest) ≡ length (read sum_at t)
+    pub over : above or passes n (read sum_at rest) ≡ passes n (read sum_at t)
+    pub right : lawful and lawful_above n before (read sum_at rest) ≡ terms_lawful n (read sum_at t)
 
-  pub summing_start : from ≤ length s → n ≤ 512 → Summing from 0 0 false true
+  pub summing_start : n ≤ 512 → Summing t 0 0 false true
   unfolding ◌and◌ ◌or◌
-  summing_start h k = record {
-    inside = h;
+  summing_start k = record {
+    bytes = refl;
     few = omega arith;
     small = k;
     end = refl;
     number = omega arith;
     over = refl;
-    right = lawful_start n (sum_at s from);
+    right = lawful_start n (read sum_at t);
   }
 
-  module _ {at before count : ℕ} {above lawful : Bool} (inv : Summing at before count above lawful) where
+  module _ {rest : Text} {before count : ℕ} {above lawful : Bool} (inv : Summing rest before count above lawful) where
+    abbrev s : List ℕ
+    s = rest.bytes.now
+
+    abbrev at : ℕ
+    at = rest.at
+
     -- No term is left.
-    module _ (none : is_term s at ≡ false) where
-      number_is : count ≡ length (sum_at s from)
+    module _ (none : read is_term rest ≡ false) where
+      number_is : count ≡ length (read sum_at t)
       number_is = sym (sym inv.number ∙ ap (λ ts. count + length ts) (sum_none s at none).0 ∙ omega arith)
 
-      pub summing_none : count ≡ 0 → has_terms s from ≡ false
+      pub summing_none : count ≡ 0 → read has_terms t ≡ false
       unfolding has_terms
-      summing_none z = (some_by (sum_at s from) count number_is).1 z
+      summing_none z = (some_by (read sum_at t) count number_is).1 z
 
-      pub summing_end : (count ≡ 0 → ⊥) → Found (has_terms s from) (SumAt s from n) (Some (record { count = count; above = above; lawful = lawful; next = at }))
+      pub summing_end :
+          (count ≡ 0 → ⊥) → Found (read has_terms t) (SumAt t.bytes.now t.at n) (Some (record { count = count; above = above; lawful = lawful; rest = rest }))
       unfolding has_terms passes any lawful_above rising_above all ◌and◌
       summing_end z =
           let (e, f) = sum_none s at none in (
-            (some_by (sum_at s from) count number_is).0 z,
+            (some_by (read sum_at t) count number_is).0 z,
             record {
-              some = (some_by (sum_at s from) count number_is).0 z;
+              some = (some_by (read sum_at t) count number_is).0 z;
               count = number_is;
               above = sym (sym inv.over ∙ ap (λ ts. above or passes n ts) e ∙ or_false above);
               lawful = sym (sym inv.right ∙ ap (λ ts. lawful and lawful_above n before ts) e ∙ and_true lawful);
-              next = sym f ∙ inv.end;
-              inside = inv.inside;
+              rest = record { bytes = inv.bytes; at = sym f ∙ inv.end };
             },
           )
 
     -- One term more is passed.
-    module _ (t : Weighted) (some : is_term s at ≡ true) (h : WeightedAt s at t) {f : Bool} (fit : f ≡ term_lawful n before (record { variable = t.variable; weight = pos t.weight.size })) where
-      abbrev rest : List Term
-      rest = sum_at s (term_end s at)
+    module _ (w : Weighted) (some : read is_term rest ≡ true) (h : Reads WeightedAt rest w) {f : Bool} (fit : f ≡ term_lawful n before (record { variable = w.variable; weight = pos w.weight.size })) where
+      abbrev those : List Term
+      those = sum_at s (term_end s at)
 
       abbrev here : Term
       here = term_at s at
 
-      parts : (sum_at s at ≡ here ∷ rest) × (sum_end s at ≡ sum_end s (term_end s at))
+      parts : (sum_at s at ≡ here ∷ those) × (sum_end s at ≡ sum_end s (term_end s at))
       parts = sum_some s at some
 
       fit_is : f ≡ term_lawful n before here
@@ -175,36 +182,39 @@ module _ (s : List ℕ) (n from : ℕ) where
           ∙ ap₂ (λ x k. term_lawful n before (record { variable = x; weight = pos k })) h.variable h.weight.size
           ∙ term_seen n before (number_at s (index_from s at)) (number_at s (unsigned_from s at)) (eqb (get_or s at 0) 45) inv.small
 
-      over_is : ltb n t.variable ≡ ltb n here.variable
+      over_is : ltb n w.variable ≡ ltb n here.variable
       unfolding term_at
       over_is = ap (ltb n) h.variable ∙ seen_ltb n (number_at s (index_from s at)) (omega (arith, inv.small))
 
-      right_by : (g : Bool) → term_lawful n before here ≡ g → lawful and g and lawful_above n t.variable rest ≡ lawful and (g and lawful_above n here.variable rest)
+      right_by : (g : Bool) → term_lawful n before here ≡ g → lawful and g and lawful_above n w.variable those ≡ lawful and (g and lawful_above n here.variable those)
       unfolding term_at ◌and◌
       right_by true e =
-          and_assoc lawful true (lawful_above n t.variable rest)
-          ∙ ap (λ x. lawful and lawful_above n x rest) (h.variable ∙ variable_seen n before (number_at s (index_from s at)) (integer_at s at) inv.small e)
-      right_by false e = and_assoc lawful false (lawful_above n t.variable rest)
+          and_assoc lawful true (lawful_above n w.variable those)
+          ∙ ap (λ x. lawful and lawful_above n x those) (h.variable ∙ variable_seen n before (number_at s (index_from s at)) (integer_at s at) inv.small e)
+      right_by false e = and_assoc lawful false (lawful_above n w.variable those)
 
-      pub summing_on : at < t.next
-      summing_on = omega (arith, h.next, term_on s at some)
+      those_are : read sum_at w.rest ≡ those
+      those_are = read_behind h.rest sum_at
 
-      pub summing_more : Summing t.next t.variable (count + 1) (above || ltb n t.variable) (lawful && f)
+      pub summing_on : at < w.rest.at
+      summing_on = omega (arith, h.rest.at, term_on s at some)
+
+      pub summing_more : Summing w.rest w.variable (count + 1) (above || ltb n w.variable) (lawful && f)
       unfolding passes any
       summing_more = record {
-        inside = h.inside;
+        bytes = h.rest.bytes ∙ inv.bytes;
         few = omega (arith, inv.few, summing_on);
         small = inv.small;
-        end = ap (sum_end s) h.next ∙ sym parts.1 ∙ inv.end;
-        number = ap (λ k. count + 1 + length (sum_at s k)) h.next ∙ omega (arith, ap length parts.0) ∙ inv.number;
+        end = read_behind h.rest sum_end ∙ sym parts.1 ∙ inv.end;
+        number = ap (λ ts. count + 1 + length ts) those_are ∙ omega (arith, ap length parts.0) ∙ inv.number;
         over =
-            ap₂ (λ g k. g or passes n (sum_at s k)) (or_is above (ltb n t.variable) ∙ ap (λ g. above or g) over_is) h.next
-            ∙ or_assoc above (ltb n here.variable) (passes n rest)
+            ap₂ (λ g ts. g or passes n ts) (or_is above (ltb n w.variable) ∙ ap (λ g. above or g) over_is) those_are
+            ∙ or_assoc above (ltb n here.variable) (passes n those)
             ∙ sym (ap (λ ts. above or passes n ts) parts.0)
             ∙ inv.over;
         right =
-            ap₂ (λ g k. g and lawful_above n t.variable (sum_at s k)) (both_is lawful f ∙ ap (λ g. lawful and g) fit_is) h.next
+            ap₂ (λ g ts. g and lawful_above n w.variable ts) (both_is lawful f ∙ ap (λ g. lawful and g) fit_is) those_are
             ∙ right_by (term_lawful n before here) refl
-            ∙ sym (ap (λ ts. lawful and lawful_above n before ts) parts.0 ∙ ap (λ g. lawful and g) (lawful_cons n before here rest))
+            ∙ sym (ap (λ ts. lawful and lawful_above n before ts) parts.0 ∙ ap (λ g. lawful and g) (lawful_cons n before here those))
             ∙ inv.right;
       }

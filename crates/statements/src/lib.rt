@@ -1,16 +1,15 @@
-// The parts of a statement of an OPB text, read from left to right by a cursor that is a place: None where one of them is not there.
+// The parts of a statement of an OPB text, read from left to right: each is answered with the text behind it, and with None where it is not there.
 #![tactic(auto)]
 
-ghost use Rattle.std.specs.Prelude.{◌≡◌, ◌≤◌, length, ltb};
-ghost use Rattle.tokens.specs.Found.{Found, EndsAt};
-ghost use Rattle.tokens.specs.Tokens.{blanks_end, word_end};
-ghost use Rattle.statements.specs.Grammar.{min_word, unsigned_from, is_integer, is_term, has_terms, relation_end, is_bounded};
-ghost use Rattle.statements.specs.Parts.{IsKind, IntegerAt, WeightedAt, SumAt, RelationAt};
+ghost use Rattle.std.specs.Prelude.{◌≡◌, ◌≤◌};
+ghost use Rattle.tokens.specs.Found.{read, Reads, takes, Behind, Found};
+ghost use Rattle.statements.specs.Grammar.{unsigned_from, is_integer, is_term, has_terms, relation_end, is_bounded};
+ghost use Rattle.statements.specs.Parts.{IsKind, behind_min, IntegerAt, WeightedAt, SumAt, RelationAt};
 
 use bodies::terms::term_fits;
-use tokens::{byte, past_blanks, past_some_blanks, past_word, read_number};
+use tokens::{Text, byte};
 
-// What a line begins with tells its kind.
+// What a line begins with tells its kind. Nothing is asked of the place where it begins, so that the place stays beside the text.
 #[derive(Clone, Copy, Debug, PartialEq, Eq)]
 pub enum Kind {
     Comment,
@@ -29,14 +28,13 @@ pub fn kind_at(s: &[u8], at: usize) -> Kind
 }
 
 // Where the sum of an objective begins: behind "min:" and blanks.
-pub fn objective_sum(s: &[u8], at: usize) -> usize
-    requires { at ≤ length s.now }
-    ensures { EndsAt s.now (blanks_end s.now (word_end min_word s.now at)) result }
+pub fn objective_sum(t: Text<'_>) -> Text<'_>
+    ensures { Reads (Behind behind_min) t.entry result }
 {
-    past_blanks(s, past_word(s, at, b"min:").unwrap_or(at))
+    t.past_word(b"min:").unwrap_or(t).past_blanks()
 }
 
-// A number with its sign.
+// A number with its sign. The two stay apart: a judge asks for the size alone, so that one signed number would be taken apart again.
 #[derive(Clone, Copy, Debug, PartialEq, Eq)]
 pub struct Signed {
     pub negative: bool,
@@ -45,91 +43,93 @@ pub struct Signed {
 
 // integer ::= unsigned_integer | "+" unsigned_integer | "-" unsigned_integer
 #[derive(Clone, Copy)]
-pub struct Integer {
+pub struct Integer<'a> {
     pub value: Signed,
-    pub next: usize,
+    pub rest: Text<'a>,
 }
 
-fn past_sign(s: &[u8], at: usize) -> usize
-    requires { at ≤ length s.now }
-    ensures { (result ≡ unsigned_from s.now at) × (result ≤ length s.now) }
+fn past_sign(t: Text<'_>) -> Text<'_>
+    ensures { Reads (Behind unsigned_from) t.entry result }
 {
-    if at == s.len() {
-        return at;
+    if t.at == t.bytes.len() {
+        return t;
     }
-    if s[at] == b'+' {
-        return at + 1;
+    if t.bytes[t.at] == b'+' {
+        return Text {
+            bytes: t.bytes,
+            at: t.at + 1,
+        };
     }
-    if s[at] == b'-' {
-        return at + 1;
+    if t.bytes[t.at] == b'-' {
+        return Text {
+            bytes: t.bytes,
+            at: t.at + 1,
+        };
     }
-    at
+    t
 }
 
-pub fn integer_at(s: &[u8], at: usize) -> Option<Integer>
-    requires { at ≤ length s.now }
-    ensures { Found (is_integer s.now at) (IntegerAt s.now at) result }
+pub fn integer_at(t: Text<'_>) -> Option<Integer<'_>>
+    ensures { Found (read is_integer t.entry) (Reads IntegerAt t.entry) result }
 {
-    let from = past_sign(s, at);
-    let number = read_number(s, from)?;
+    let number = past_sign(t).number()?;
     let value = Signed {
-        negative: byte(s, at) == b'-',
+        negative: byte(t.bytes, t.at) == b'-',
         size: number.value,
     };
     Some(Integer {
         value,
-        next: number.next,
+        rest: number.rest,
     })
 }
 
 // weightedterm ::= integer oneOrMoreSpace "x" unsigned_integer oneOrMoreSpace
 #[derive(Clone, Copy)]
-pub struct Weighted {
+pub struct Weighted<'a> {
     pub weight: Signed,
     pub variable: u32,
-    pub next: usize,
+    pub rest: Text<'a>,
 }
 
-pub fn term_at(s: &[u8], at: usize) -> Option<Weighted>
-    requires { at ≤ length s.now }
-    ensures { Found (is_term s.now at) (WeightedAt s.now at) result }
+pub fn term_at(t: Text<'_>) -> Option<Weighted<'_>>
+    ensures { Found (read is_term t.entry) (Reads WeightedAt t.entry) result }
 {
-    let weight = integer_at(s, at)?;
-    let letter = past_some_blanks(s, weight.next)?;
-    let from = past_word(s, letter, b"x")?;
-    let index = read_number(s, from)?;
-    let next = past_some_blanks(s, index.next)?;
+    let weight = integer_at(t)?;
+    let letter = weight.rest.past_some_blanks()?;
+    let from = letter.past_word(b"x")?;
+    let index = from.number()?;
+    let rest = index.rest.past_some_blanks()?;
     Some(Weighted {
         weight: weight.value,
         variable: index.value,
-        next,
+        rest,
     })
 }
 
 // sum ::= weightedterm | weightedterm sum, judged by the way: how many terms there are, whether a variable is above n, whether the terms are lawful.
 // The two flags stay apart: a statement's other faults come between theirs, so that one optional fault would be taken apart again.
 #[derive(Clone, Copy)]
-pub struct Sum {
+pub struct Sum<'a> {
     pub count: usize,
     pub above: bool,
     pub lawful: bool,
-    pub next: usize,
+    pub rest: Text<'a>,
 }
 
-pub fn sum_at(s: &[u8], from: usize, n: u32) -> Option<Sum>
-    requires { (from ≤ length s.now) × (n ≤ 512) }
-    ensures { Found (has_terms s.now from) (SumAt s.now from n) result }
+pub fn sum_at(t: Text<'_>, n: u32) -> Option<Sum<'_>>
+    requires { n ≤ 512 }
+    ensures { Found (read has_terms t.entry) (SumAt t.entry.bytes.now t.entry.at n) result }
 {
-    let mut at = from;
+    let mut rest = t;
     let mut before = 0;
     let mut count = 0;
     let mut above = false;
     let mut lawful = true;
-    while let Some(term) = term_at(s, at) {
+    while let Some(term) = term_at(rest) {
         above = above | (n < term.variable);
         lawful = lawful & term_fits(term.variable, term.weight.size, before, n);
         before = term.variable;
-        at = term.next;
+        rest = term.rest;
         count += 1;
     }
     if count == 0 {
@@ -139,40 +139,41 @@ pub fn sum_at(s: &[u8], from: usize, n: u32) -> Option<Sum>
         count,
         above,
         lawful,
-        next: at,
+        rest,
     })
 }
 
-// relational_operator zeroOrMoreSpace integer zeroOrMoreSpace
+// relational_operator zeroOrMoreSpace integer zeroOrMoreSpace. There are two operators, and all that is asked of one is whether it is "=".
 #[derive(Clone, Copy)]
-pub struct Relation {
+pub struct Relation<'a> {
     pub exact: bool,
     pub bound: Signed,
-    pub next: usize,
+    pub rest: Text<'a>,
 }
 
-fn past_relation(s: &[u8], at: usize) -> Option<usize>
-    requires { at ≤ length s.now }
-    ensures { Found (ltb at (relation_end s.now at)) (EndsAt s.now (relation_end s.now at)) result }
+fn past_relation(t: Text<'_>) -> Option<Text<'_>>
+    ensures { Found (takes relation_end t.entry) (Reads (Behind relation_end) t.entry) result }
 {
-    if at == s.len() {
+    if t.at == t.bytes.len() {
         return None;
     }
-    if s[at] == b'=' {
-        return Some(at + 1);
+    if t.bytes[t.at] == b'=' {
+        return Some(Text {
+            bytes: t.bytes,
+            at: t.at + 1,
+        });
     }
-    past_word(s, at, b">=")
+    t.past_word(b">=")
 }
 
-pub fn relation_at(s: &[u8], at: usize) -> Option<Relation>
-    requires { at ≤ length s.now }
-    ensures { Found (is_bounded s.now at) (RelationAt s.now at) result }
+pub fn relation_at(t: Text<'_>) -> Option<Relation<'_>>
+    ensures { Found (read is_bounded t.entry) (Reads RelationAt t.entry) result }
 {
-    let behind = past_relation(s, at)?;
-    let bound = integer_at(s, past_blanks(s, behind))?;
+    let behind = past_relation(t)?;
+    let bound = integer_at(behind.past_blanks())?;
     Some(Relation {
-        exact: byte(s, at) == b'=',
+        exact: byte(t.bytes, t.at) == b'=',
         bound: bound.value,
-        next: past_blanks(s, bound.next),
+        rest: bound.rest.past_blanks(),
     })
 }

@@ -15,7 +15,8 @@ use Rattle.std.proofs.lemmas.List.{take_all}
 use Rattle.plpb.specs.Lists.{◌and◌}
 use Rattle.std.specs.Prelude.{Option, Some, None}
 use Rattle.std.specs.Option.{unwrap_or}
-use Rattle.tokens.specs.Found.{Found, EndsAt}
+use Rattle.tokens.specs.Found.{left, read, Reads, Behind, Found}
+use Rattle.tokens.specs.declared.text.Text.{Text}
 use Rattle.tokens.specs.Tokens.{run, run_end, begins, word_end}
 
 -- The byte at a place and those behind it.
@@ -99,9 +100,6 @@ module _ (word s : List ℕ) (at : ℕ) where
   pub word_at : {b : Bool} → b ≡ pointwise eqb word (take (length word) (take (length s - at) (drop at s))) → begins word (drop at s) ≡ b
   word_at e = sym (e ∙ ap (λ xs. pointwise eqb word (take (length word) xs)) rest_is ∙ word_is word (drop at s))
 
-  pub word_fits : at ≤ length s → length word ≤ length (take (length s - at) (drop at s)) → at + length word ≤ length s
-  word_fits h k = omega (arith, ap length rest_is, length-drop at s)
-
   pub word_end_is : begins word (drop at s) ≡ true → at + length word ≡ word_end word s at
   unfolding word_end
   word_end_is e = rw e
@@ -115,8 +113,16 @@ word_there b word s at = go (begins (b ∷ word) (drop at s)) refl
     go true e = rw e (lt-ltb at (at + length (b ∷ word)) (omega arith))
     go false e = rw e (le-ltb at at (omega arith))
 
--- The word's end, or its place where it is not there.
-pub word_or : (word s : List ℕ) (at : ℕ) (r : Option ℕ) → Found (begins word (drop at s)) (EndsAt s (word_end word s at)) r → unwrap_or r at ≡ word_end word s at
+-- The text behind a word, or the text where it is not there.
+pub word_or : (word : List ℕ) (t : Text) (r : Option Text) → Found (begins word (left t)) (Reads (Behind (word_end word)) t) r → Reads (Behind (word_end word)) t (unwrap_or r t)
 unfolding word_end
-word_or word s at None e = rw e
-word_or word s at (Some k) (e, (q, l)) = q
+word_or word t None e = record { bytes = refl; at = rw e }
+word_or word t (Some k) (e, behind) = behind
+
+-- What is read behind an item is read from where it ends, and what is behind an item behind another is behind both.
+module _ {end : List ℕ → ℕ → ℕ} {s : List ℕ} {at : ℕ} {u : Text} (b : Behind end s at u) where
+  pub read_behind : {A : Type 0} (f : List ℕ → ℕ → A) → read f u ≡ f s (end s at)
+  read_behind f = ap₂ f b.bytes b.at
+
+  pub behind : {f : List ℕ → ℕ → ℕ} {v : Text} → Reads (Behind f) u v → Behind (λ s at. f s (end s at)) s at v
+  behind {f} c = record { bytes = c.bytes ∙ b.bytes; at = c.at ∙ read_behind f }

@@ -2,7 +2,7 @@
 use native.Mathlib.Omega.{arith}
 use mathlib.Core.Path.{refl}
 use Rattle.opb_fill.proofs.Accepted.{lawful_text}
-use Rattle.opb_fill.proofs.Filled.{clause_start, clause_space, clause_same, clause_all_space, clause_part, clause_more, clause_end}
+use Rattle.opb_fill.proofs.Filled.{clause_start, clause_same, clause_part, clause_more, clause_end}
 use Rattle.opb_fill.proofs.clause_section.Goals as goal
 
 pub loop-c-init : goal.loop-c-init
@@ -19,18 +19,6 @@ loop-c-preserved c = clause_more c.loop-c.invariant c.loop-c-test.true _ c.put_c
 
 pub returns : goal.returns
 returns c = clause_end c.loop-c.invariant _ c.requires.clauses_value.0 c.loop-c-test.false refl _ c.clear.ensures
-
-pub slice_bounds-put_clause-count : goal.slice_bounds-put_clause-count
-slice_bounds-put_clause-count c = clause_space c.loop-c.invariant
-
-pub slice_bounds-put_clause-start : goal.slice_bounds-put_clause-start
-slice_bounds-put_clause-start c = clause_space c.loop-c.invariant
-
-pub slice_bounds-clear-count : goal.slice_bounds-clear-count
-slice_bounds-clear-count c = clause_all_space c.loop-c.invariant
-
-pub slice_bounds-clear-start : goal.slice_bounds-clear-start
-slice_bounds-clear-start c = clause_all_space c.loop-c.invariant
 
 pub shape_of-out : goal.shape_of-out
 shape_of-out c = clause_same c.loop-c.invariant _ _ c.clear.ensures

@@ -3,11 +3,13 @@
 use Prim.Native.Nat.{◌-◌, ◌≤◌}
 use mathlib.Core.Path.{◌≡◌}
 use lib.ListN.{length}
+use Rattle.tokens.specs.Found.{read}
 use Rattle.opb_fill.specs.Fill.{constraints_from}
 use Rattle.opb_fill.proofs.constraint_from.Given as goal
 
-abbrev pub invariant-loop-at : goal.invariant-loop-at
-invariant-loop-at l = (l.at ≤ length l.s) × (l.from ≤ l.at) × (constraints_from l.s l.at ≡ constraints_from l.s l.from)
+abbrev pub invariant-loop-text : goal.invariant-loop-text
+invariant-loop-text l =
+    (l.text.bytes.now ≡ l.t.bytes.now) × (l.t.at ≤ l.text.at) × (read constraints_from l.text ≡ read constraints_from l.t)
 
-abbrev pub decreases-loop-at : goal.decreases-loop-at
-decreases-loop-at l = length l.s - l.at
+abbrev pub decreases-loop-text : goal.decreases-loop-text
+decreases-loop-text l = length l.text.bytes.now - l.text.at

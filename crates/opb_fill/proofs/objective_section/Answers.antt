@@ -9,10 +9,9 @@ use Rattle.opb_fill.proofs.objective_section.Goals as goal
 pub put_coefficients-requires : goal.put_coefficients-requires
 put_coefficients-requires c =
     let clear = c.clear in
-    let begin = c.objective_begins.ensures in
-    let (a, b) = objective_ranges _ c.requires.says _ begin.1 in
-    (begin.0, a, b, ap length clear.ensures ∙ length-replicate {A = ℕ} _ 0 ∙ c.requires.out_len)
+    let (a, b) = objective_ranges _ c.requires.says _ c.objective_begins.ensures in
+    (a, b, ap length clear.ensures ∙ length-replicate {A = ℕ} _ 0 ∙ c.requires.out_len)
 
 pub returns : goal.returns
 returns c =
-    objective_done _ c.requires.says _ c.objective_begins.ensures.1 c.args.out.now _ _ c.requires.out_len c.clear.ensures c.put_coefficients.ensures
+    objective_done _ c.requires.says _ c.objective_begins.ensures c.args.out.now _ _ c.requires.out_len c.clear.ensures c.put_coefficients.ensures

@@ -1,12 +1,14 @@
 -- The goals that the search leaves.
 use native.Mathlib.Omega.{arith}
+use mathlib.Core.Path.{ap}
+use lib.ListN.{length}
 use Rattle.words.proofs.Writes.{lent_long}
 use Rattle.statements.proofs.Sums.{term_on}
 use Rattle.opb_fill.proofs.Terms.{written_start, written_space, written_more, written_end}
 use Rattle.opb_fill.proofs.put_sum.Goals as goal
 
 pub loop-term-init : goal.loop-term-init
-loop-term-init c = written_start _ _ _ c.requires.0 c.requires.1 c.requires.2 c.requires.3
+loop-term-init c = written_start _ _ c.requires.0 c.requires.1 c.requires.2
 
 pub slice_bounds-put_term-count : goal.slice_bounds-put_term-count
 slice_bounds-put_term-count c =
@@ -27,8 +29,9 @@ overflow_add-end c =
 
 pub loop-term-smaller : goal.loop-term-smaller
 loop-term-smaller c =
-    let term = c.in-Some.ensures in
-    omega (arith, term.1.next, term.1.inside, term_on c.args.s.now c.loop-term.at term.0)
+    let text = c.loop-term.text in
+    let term = c.in-Some in
+    omega (arith, term.ensures.1.rest.at, ap length term.ensures.1.rest.bytes, term.term.rest.within, term_on text.bytes.now text.at term.ensures.0)
 
 pub loop-term-preserved : goal.loop-term-preserved
 loop-term-preserved c =

@@ -3,11 +3,13 @@
 -- Assumes nothing.
 use Prim.Native.Nat.{◌-◌}
 use lib.ListN.{length}
+use Rattle.tokens.specs.Found.{read}
+use Rattle.statements.specs.Grammar.{sum_at}
 use Rattle.opb_fill.proofs.Terms.{Written}
 use Rattle.opb_fill.proofs.put_sum.Given as goal
 
 abbrev pub invariant-loop-term : goal.invariant-loop-term
-invariant-loop-term l = Written l.s l.from l.initial.out l.at l.end l.out
+invariant-loop-term l = Written (read sum_at l.t) l.initial.out l.text l.end l.out
 
 abbrev pub decreases-loop-term : goal.decreases-loop-term
-decreases-loop-term l = length l.s - l.at
+decreases-loop-term l = length l.text.bytes.now - l.text.at

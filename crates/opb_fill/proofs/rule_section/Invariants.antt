@@ -6,8 +6,8 @@ use lib.ListN.{length}
 use Rattle.opb_fill.proofs.Filled.{RuleFill}
 use Rattle.opb_fill.proofs.rule_section.Given as goal
 
-abbrev pub invariant-loop-at : goal.invariant-loop-at
-invariant-loop-at l = RuleFill l.s l.initial.out l.at l.rules l.first l.out
+abbrev pub invariant-loop-text : goal.invariant-loop-text
+invariant-loop-text l = RuleFill l.s l.text.bytes.now l.initial.out l.text.at l.rules l.first l.out
 
-abbrev pub decreases-loop-at : goal.decreases-loop-at
-decreases-loop-at l = length l.s - l.at
+abbrev pub decreases-loop-text : goal.decreases-loop-text
+decreases-loop-text l = length l.text.bytes.now - l.text.at

@@ -1,45 +1,54 @@
 -- The goals that the search leaves.
 use native.Mathlib.Omega.{arith}
+use mathlib.Core.Path.{sym, ap}
+use lib.ListN.{length}
 use Rattle.opb_lines.proofs.Lines.{next_on}
 use Rattle.opb_fill.proofs.Filled.{going_here, term_start, term_space, term_same, term_part, term_limit, term_more_space, term_more, term_end_lem}
 use Rattle.opb_fill.proofs.term_section.Goals as goal
 
+pub loop-text-init : goal.loop-text-init
+loop-text-init c =
+    let first = c.constraint_behind-text.ensures in
+    rw first.bytes (term_start _ _ c.requires.says c.requires.terms_len first)
+
 pub put_sum-end-requires : goal.put_sum-end-requires
 put_sum-end-requires c =
-    let inv = c.loop-at.invariant in
-    let l = c.loop-at-test.true in
-    (inv.going.inside, (going_here inv.going l).range, term_part inv l, term_limit inv)
+    let inv = c.loop-text.invariant in
+    let l = c.loop-text-test.true in
+    ((going_here inv.going l).range, term_part inv l, term_limit inv)
 
 pub overflow_add-end : goal.overflow_add-end
-overflow_add-end c = omega (arith, c.put_sum-end.ensures.0, term_more_space c.loop-at.invariant c.loop-at-test.true)
+overflow_add-end c = omega (arith, c.put_sum-end.ensures.0, term_more_space c.loop-text.invariant c.loop-text-test.true)
 
-pub loop-at-smaller : goal.loop-at-smaller
-loop-at-smaller c =
-    let at = c.loop-at in
-    let s = c.args.s.now in
-    omega (arith, c.constraint_behind-at-in-loop-at.ensures.behind, c.constraint_behind-at-in-loop-at.ensures.inside, next_on s at.at at.invariant.going.inside c.loop-at-test.true)
+pub loop-text-smaller : goal.loop-text-smaller
+loop-text-smaller c =
+    let text = c.loop-text.text in
+    let next = c.constraint_behind-text-in-loop-text in
+    omega (arith, next.ensures.behind, ap length next.ensures.bytes, next.result.within, next_on text.bytes.now text.at text.within c.loop-text-test.true)
 
-pub loop-at-preserved : goal.loop-at-preserved
-loop-at-preserved c =
-    term_more c.loop-at.invariant c.loop-at-test.true _ _ _ c.constraint_behind-at-in-loop-at.ensures c.put_sum-end.ensures.0 c.put_sum-end.ensures.1
+pub loop-text-preserved : goal.loop-text-preserved
+loop-text-preserved c =
+    let inv = c.loop-text.invariant in
+    let put = c.put_sum-end in
+    let next = c.constraint_behind-text-in-loop-text.ensures in
+    rw next.bytes (term_more inv c.loop-text-test.true _ _ _ next put.ensures.0 put.ensures.1)
 
 pub returns : goal.returns
-returns c = term_end_lem c.loop-at.invariant c.loop-at-test.false _ c.clear.ensures
-
-pub loop-at-init : goal.loop-at-init
-loop-at-init c = term_start _ _ _ c.requires.says c.requires.terms_len c.constraint_behind-at.ensures
+returns c =
+    let inv = c.loop-text.invariant in
+    rw (sym inv.bytes) (term_end_lem inv c.loop-text-test.false _ c.clear.ensures)
 
 pub slice_bounds-put_sum-count : goal.slice_bounds-put_sum-count
-slice_bounds-put_sum-count c = term_space c.loop-at.invariant
+slice_bounds-put_sum-count c = term_space c.loop-text.invariant
 
 pub slice_bounds-put_sum-start : goal.slice_bounds-put_sum-start
-slice_bounds-put_sum-start c = term_space c.loop-at.invariant
+slice_bounds-put_sum-start c = term_space c.loop-text.invariant
 
 pub slice_bounds-clear-count : goal.slice_bounds-clear-count
-slice_bounds-clear-count c = term_space c.loop-at.invariant
+slice_bounds-clear-count c = term_space c.loop-text.invariant
 
 pub slice_bounds-clear-start : goal.slice_bounds-clear-start
-slice_bounds-clear-start c = term_space c.loop-at.invariant
+slice_bounds-clear-start c = term_space c.loop-text.invariant
 
 pub shape_of-terms : goal.shape_of-terms
-shape_of-terms c = term_same c.loop-at.invariant _ c.clear.ensures
+shape_of-terms c = term_same c.loop-text.invariant _ c.clear.ensures

@@ -6,8 +6,8 @@ use lib.ListN.{length}
 use Rattle.opb_fill.proofs.Filled.{TermFill}
 use Rattle.opb_fill.proofs.term_section.Given as goal
 
-abbrev pub invariant-loop-at : goal.invariant-loop-at
-invariant-loop-at l = TermFill l.s l.initial.terms l.at l.end l.terms
+abbrev pub invariant-loop-text : goal.invariant-loop-text
+invariant-loop-text l = TermFill l.s l.text.bytes.now l.initial.terms l.text.at l.end l.terms
 
-abbrev pub decreases-loop-at : goal.decreases-loop-at
-decreases-loop-at l = length l.s - l.at
+abbrev pub decreases-loop-text : goal.decreases-loop-text
+decreases-loop-text l = length l.text.bytes.now - l.text.at

@@ -6,10 +6,10 @@ use Rattle.plpb.specs.Lists.{◌and◌}
 use Rattle.statements.specs.Grammar.{closes}
 use Rattle.opb_judge.proofs.closed.Goals as goal
 
-pub returns-then-byte-ne59 : goal.returns-then-byte-ne59
+pub returns-then-byte-eq59 : goal.returns-then-byte-eq59
 unfolding closes ◌and◌
-returns-then-byte-ne59 c = rw (ne_eqb _ 59 (λ e. c.if-byte-ne59.true (c.byte.ensures ∙ e)))
+returns-then-byte-eq59 c = rw (eq-eqb _ 59 (sym c.byte.ensures ∙ c.if-byte-eq59.true))
 
-pub returns : goal.returns
+pub returns-else-byte-eq59 : goal.returns-else-byte-eq59
 unfolding closes ◌and◌
-returns c = rw (eq-eqb _ 59 (sym c.byte.ensures ∙ c.if-byte-ne59.false))
+returns-else-byte-eq59 c = rw (ne_eqb _ 59 c.if-byte-eq59.false, ne_eqb _ 59 (λ e. c.if-byte-eq59.false (c.byte.ensures ∙ e)))

@@ -1,13 +1,14 @@
 -- `opb_judge::constraint_fault` meets its contract.
 -- Assumes nothing.
-use mathlib.Core.Bool.{true, false}
-use mathlib.Core.Path.{◌≡◌, sym, ap, ap₂, subst, ◌∙◌}
+use mathlib.Core.Bool.{true}
+use mathlib.Core.Path.{◌≡◌, sym, ap, subst, ◌∙◌}
 use Prim.Native.Nat.{◌+◌}
 use lib.Dec.{leb, ltb}
 use Rattle.plpb.specs.Lists.{◌or◌, is_empty}
 use Rattle.format.proofs.Bools.{and_join}
 use Rattle.tokens.specs.Tokens.{number_at, seen}
-use Rattle.statements.specs.Grammar.{terms_in, has_terms, constraint_formed, is_bounded, bound_from, bound_end, closes, unsigned_from}
+use Rattle.tokens.proofs.Runs.{read_behind, behind}
+use Rattle.statements.specs.Grammar.{terms_in, has_terms, constraint_formed, is_bounded, bound_from, closes, unsigned_from}
 use Rattle.statements.proofs.Parts.{left_false, last_false}
 use Rattle.opb_lines.specs.ReadText.{constraint_fault}
 use Rattle.opb_judge.specs.Steps.{Finds}
@@ -17,27 +18,28 @@ use Rattle.opb_judge.proofs.constraint_fault.Goals as goal
 pub returns-in_default : goal.returns-in_default
 unfolding constraint_fault constraint_formed
 returns-in_default c =
-    refused_late _ (malformed_is _ _ _ _ (left_false _ (subst (λ k. is_bounded c.args.line.text.now k ≡ false) c.requires.0.next c.in_default.ensures)))
+    refused_late _ (malformed_is _ _ _ _ (left_false _ (sym (read_behind c.requires.0.rest is_bounded) ∙ c.in_default.ensures)))
 
 pub returns-then-not-closed : goal.returns-then-not-closed
 unfolding constraint_fault constraint_formed
 returns-then-not-closed c =
-    let s = c.args.line.text.now in
-    let end = c.in-Some.ensures.1.next ∙ ap (bound_end s) c.requires.0.next in
-    refused_late _ (malformed_is _ _ _ _ (last_false _ (sym (c.closed.ensures ∙ ap₂ (closes s) end c.args.line.ends) ∙ c.if-not-closed.true)))
+    let line = c.args.line in
+    let shut = c.closed.ensures ∙ read_behind (behind c.requires.0.rest c.in-Some.ensures.1.rest) (λ s k. closes s k line.end) ∙ ap (closes _ _) line.ends in
+    refused_late _ (malformed_is _ _ _ _ (last_false _ (sym shut ∙ c.if-not-closed.true)))
 
 pub returns : goal.returns
 unfolding constraint_fault constraint_formed has_terms
 returns c =
-    let s = c.args.line.text.now in
+    let line = c.args.line in
+    let s = line.text.bytes.now in
     let passed = c.args.passed in
     let sum = c.requires.0 in
     let r = c.in-Some.ensures in
-    let end = r.1.next ∙ ap (bound_end s) sum.next in
-    let bounded = subst (λ k. is_bounded s k ≡ true) sum.next r.0 in
-    let shut = sym (c.closed.ensures ∙ ap₂ (closes s) end c.args.line.ends) ∙ c.if-not-closed.false in
-    let past = c.full-past.ensures ∙ ap (λ k. leb 512 passed.constraints or ltb 6_000 (passed.terms + k)) sum.count in
-    let wide = bound_seen s c.args.line.at (r.1.bound.size ∙ ap (λ k. seen (number_at s (unsigned_from s (bound_from s k)))) sum.next) in
+    let bounded = sym (read_behind sum.rest is_bounded) ∙ r.0 in
+    let shut = c.closed.ensures ∙ read_behind (behind sum.rest r.1.rest) (λ s k. closes s k line.end) ∙ ap (closes _ _) line.ends in
+    let past = c.rules_full-past.ensures ∙ ap (λ k. leb 512 passed.constraints or ltb 6_000 (passed.terms + k)) sum.count in
+    let wide = bound_seen s line.text.at (r.1.bound.size ∙ read_behind sum.rest (λ s k. seen (number_at s (unsigned_from s (bound_from s k))))) in
     let some = subst (λ k. has_terms s k ≡ true) (sum_plain _ _ c.requires.1) sum.some in
     subst (λ k. Finds k c.first_met.result)
-    (met_same (sym (and_join _ _ bounded shut)) sum.above past wide sum.lawful ∙ refused_some (is_empty (terms_in s c.args.line.at)) _ some) c.first_met.ensures
+    (met_same (sym (and_join _ _ bounded (sym shut ∙ c.if-not-closed.false))) sum.above past wide sum.lawful
+    ∙ refused_some (is_empty (terms_in s line.text.at)) _ some) c.first_met.ensures

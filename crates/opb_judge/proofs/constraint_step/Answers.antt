@@ -9,10 +9,10 @@ use Rattle.opb_judge.proofs.constraint_step.Goals as goal
 
 pub returns-in_default : goal.returns-in_default
 unfolding has_terms
-returns-in_default c = refused_none _ _ (subst (λ k. has_terms c.args.line.text.now k ≡ false) (sum_plain _ _ c.requires) c.in_default.ensures)
+returns-in_default c = refused_none _ _ (subst (λ k. has_terms c.args.line.text.bytes.now k ≡ false) (sum_plain _ _ c.requires) c.in_default.ensures)
 
 pub constraint_fault-requires : goal.constraint_fault-requires
-constraint_fault-requires c = (sum_moved refl c.args.line.named c.in-Some.ensures.1, c.requires)
+constraint_fault-requires c = (sum_moved refl refl c.args.line.named c.in-Some.ensures.1, c.requires)
 
 pub overflow_add-result : goal.overflow_add-result
 overflow_add-result c = omega (arith, (constraint_few _ _ _ _ _ (refused_zero _ _ c.in_ok-constraint_fault.ensures).1).0)

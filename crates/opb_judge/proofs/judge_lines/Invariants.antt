@@ -6,14 +6,15 @@ use mathlib.Core.Bool.{true}
 use mathlib.Core.Path.{◌≡◌}
 use lib.ListN.{length}
 use Rattle.verdict.specs.Answers.{outcome}
+use Rattle.tokens.specs.Found.{read}
 use Rattle.opb_lines.specs.ReadText.{starts, judging}
 use Rattle.opb_lines.specs.Lines.{lines_from}
 use Rattle.opb_judge.proofs.judge_lines.Given as goal
 
-abbrev pub invariant-loop-at : goal.invariant-loop-at
-invariant-loop-at l =
-    (l.at ≤ length l.s) × (l.passed.constraints ≤ 512)
-    × (outcome (judging l.s l.passed.free l.passed.constraints l.passed.terms (lines_from l.s l.at)) ≡ outcome (judging l.s true 0 0 (starts 0 l.s)))
+abbrev pub invariant-loop-text : goal.invariant-loop-text
+invariant-loop-text l =
+    (l.text.bytes.now ≡ l.s) × (l.passed.constraints ≤ 512)
+    × (outcome (judging l.text.bytes.now l.passed.free l.passed.constraints l.passed.terms (read lines_from l.text)) ≡ outcome (judging l.s true 0 0 (starts 0 l.s)))
 
-abbrev pub decreases-loop-at : goal.decreases-loop-at
-decreases-loop-at l = length l.s - l.at
+abbrev pub decreases-loop-text : goal.decreases-loop-text
+decreases-loop-text l = length l.s - l.text.at

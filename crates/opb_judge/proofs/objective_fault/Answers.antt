@@ -3,7 +3,7 @@
 use mathlib.Core.Path.{refl, sym, ap, ap₂, subst, ◌∙◌}
 use Rattle.plpb.specs.Lists.{◌and◌, is_empty}
 use Rattle.statements.specs.Grammar.{objective_formed, closes, terms_in, has_terms}
-use Rattle.tokens.proofs.Runs.{both_is}
+use Rattle.tokens.proofs.Runs.{both_is, read_behind}
 use Rattle.opb_lines.specs.ReadText.{objective_fault}
 use Rattle.opb_judge.specs.Steps.{Finds}
 use Rattle.opb_judge.proofs.Faults.{refused_late, refused_some, met_same, malformed_is, named_is}
@@ -12,16 +12,20 @@ use Rattle.opb_judge.proofs.objective_fault.Goals as goal
 pub returns-then-not-formed : goal.returns-then-not-formed
 unfolding objective_fault objective_formed has_terms
 returns-then-not-formed c =
-    let named = c.is_some-named.ensures ∙ named_is c.args.line.text.now c.args.line.at c.past_word.result c.past_word.ensures in
-    let shut = c.closed.ensures ∙ ap₂ (closes c.args.line.text.now) c.requires.next c.args.line.ends in
+    let line = c.args.line in
+    let named = c.is_some-named.ensures ∙ named_is line.text c.past_word.result c.past_word.ensures in
+    let shut = c.closed.ensures ∙ read_behind c.requires.rest (λ s k. closes s k line.end) ∙ ap (closes _ _) line.ends in
     let formed = both_is _ _ ∙ ap (λ b. c.args.free and b) (both_is _ _ ∙ ap₂ ◌and◌ named shut) in
     refused_late _ (malformed_is _ _ _ _ (sym formed ∙ c.if-not-formed.true))
 
 pub returns : goal.returns
 unfolding objective_fault objective_formed has_terms
 returns c =
+    let line = c.args.line in
     let sum = c.requires in
-    let named = c.is_some-named.ensures ∙ named_is c.args.line.text.now c.args.line.at c.past_word.result c.past_word.ensures in
-    let shut = c.closed.ensures ∙ ap₂ (closes c.args.line.text.now) sum.next c.args.line.ends in
+    let named = c.is_some-named.ensures ∙ named_is line.text c.past_word.result c.past_word.ensures in
+    let shut = c.closed.ensures ∙ read_behind sum.rest (λ s k. closes s k line.end) ∙ ap (closes _ _) line.ends in
     let formed = both_is _ _ ∙ ap (λ b. c.args.free and b) (both_is _ _ ∙ ap₂ ◌and◌ named shut) in
-    subst (λ k. Finds k c.first_met.result) (met_same (sym c.if-not-formed.false ∙ formed) sum.above refl refl sum.lawful ∙ refused_some (is_empty (terms_in c.args.line.text.now c.args.line.at)) _ sum.some) c.first_met.ensures
+    subst (λ k. Finds k c.first_met.result)
+    (met_same (sym c.if-not-formed.false ∙ formed) sum.above refl refl sum.lawful ∙ refused_some (is_empty (terms_in line.text.bytes.now line.text.at)) _ sum.some)
+    c.first_met.ensures

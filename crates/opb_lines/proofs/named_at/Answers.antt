@@ -4,9 +4,9 @@ use Rattle.opb_lines.proofs.FirstLine.{no_name, named_by}
 use Rattle.opb_lines.proofs.named_at.Goals as goal
 
 pub returns-in_err-behind : goal.returns-in_err-behind
-returns-in_err-behind c = rw c.from_residual.ensures (no_name c.args.name.now c.args.s.now c.args.at c.in_err-behind.ensures)
+returns-in_err-behind c = rw c.from_residual.ensures (no_name c.args.name.now c.args.t.bytes.now c.args.t.at c.in_err-behind.ensures)
 
 pub returns : goal.returns
 returns c =
     let behind = c.in_ok-behind.ensures in
-    named_by _ _ _ behind.0 behind.1.0 c.past_blanks.ensures.0 c.read_number.result c.read_number.ensures
+    named_by _ behind.0 behind.1 c.past_blanks.ensures c.number.result c.number.ensures

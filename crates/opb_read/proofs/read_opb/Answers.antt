@@ -1,6 +1,6 @@
 -- `opb_read::read_opb` meets its contract, case by case of the order of checks.
 -- Assumes nothing.
-use mathlib.Core.Path.{sym, ◌∙◌}
+use mathlib.Core.Path.{◌∙◌}
 use Rattle.tables.proofs.Ordered.{order_ready, order_left}
 use Rattle.opb_fill.proofs.Accepted.{lawful_text}
 use Rattle.opb_read.proofs.Whole.{says, small_tables, small_terms_lem, kept, filled}

@@ -7,7 +7,7 @@ use Rattle.statements.proofs.Sums.{Summing}
 use Rattle.statements.proofs.sum_at.Given as goal
 
 abbrev pub invariant-loop-term : goal.invariant-loop-term
-invariant-loop-term l = Summing l.s l.n l.from l.at l.before l.count l.above l.lawful
+invariant-loop-term l = Summing l.t l.n l.rest l.before l.count l.above l.lawful
 
 abbrev pub decreases-loop-term : goal.decreases-loop-term
-decreases-loop-term l = length l.s - l.at
+decreases-loop-term l = length l.t.bytes.now - l.rest.at

@@ -1,7 +1,11 @@
 -- `folder::files::judge_walk` meets its contract: the field's faults, bytes after it, then the settings.
 -- Assumes nothing.
 use native.Mathlib.Omega.{arith}
-use mathlib.Core.Path.{◌∙◌}
+use Prim.Native.Nat.{◌-◌}
+use mathlib.Core.Path.{◌≡◌, ap, ◌∙◌}
+use lib.ListN.{length}
+use Rattle.words.specs.Words.{num_at}
+use Rattle.folder.specs.Files.{if_long}
 use Rattle.std.proofs.lemmas.Result.{err_from_is_err_and}
 use Rattle.folder.proofs.Judging.{sized, read_fault, read_more, read_settings}
 use Rattle.folder.proofs.files.judge_walk.Goals as goal
@@ -30,14 +34,12 @@ read_u32-requires c = let r = sized _ c.in_ok-size.ensures.0 _ c.in_ok-size.ensu
 pub bounds-file-11 : goal.bounds-file-11
 bounds-file-11 c = let r = sized _ c.in_ok-size.ensures.0 _ c.in_ok-size.ensures.1 in omega (arith, r.0, r.2)
 
-pub heuristic_in-requires : goal.heuristic_in-requires
-heuristic_in-requires c = let r = sized _ c.in_ok-size.ensures.0 _ c.in_ok-size.ensures.1 in omega (arith, r.0, r.2)
-
-pub chance_in-requires : goal.chance_in-requires
-chance_in-requires c = let r = sized _ c.in_ok-size.ensures.0 _ c.in_ok-size.ensures.1 in omega (arith, r.0, r.2)
-
 pub returns : goal.returns
 returns c =
+    let size : length c.args.file.now - 3 ≡ c.in_ok-size.size =
+    let r = sized _ c.in_ok-size.ensures.0 _ c.in_ok-size.ensures.1 in omega (arith, r.2, c.if-size-file.false) in
     c.judge_settings.ensures
     ∙ read_settings _ c.in_ok-size.ensures.0 _ c.in_ok-size.ensures.1 c.if-size-file.false
-    c.read_u16.ensures c.read_u16-2.ensures c.read_u32.ensures c.byte_word.ensures c.heuristic_in.ensures c.chance_in.ensures
+    c.read_u16.ensures c.read_u16-2.ensures c.read_u32.ensures c.byte_word.ensures
+    (c.heuristic_in.ensures ∙ ap (λ n. if_long n (num_at 1 c.args.file.now 12)) size)
+    (c.chance_in.ensures ∙ ap (λ n. if_long n (num_at 2 c.args.file.now 13)) size)
