@@ -1,19 +1,20 @@
 -- Fields read on from a byte, and the code's answers of them.
 -- Assumes nothing.
-use Prim.Native.Nat.{ℕ, ◌+◌, ◌-◌, ◌≤◌, ◌<◌}
+use Prim.Native.Nat.{ℕ, suc, ◌-◌, ◌≤◌, ◌<◌}
 use native.Mathlib.Omega.{arith}
-use native.Mathlib.Numerals.{add-one}
-use mathlib.Core.Path.{◌≡◌, refl, sym, ap, ap₂, ◌∙◌}
-use Rattle.std.proofs.Common.{Option, Some, None, ◌⊎◌, inl, inr}
+use native.Mathlib.Nat.{le_refl}
+use mathlib.Core.Path.{◌≡◌, refl, sym, ap, ap₂, ◌∙◌, subst}
+use mathlib.Core.Logic.{◌≢◌}
+use Rattle.std.proofs.Common.{Option, Some, None}
 use Rattle.std.proofs.lemmas.Option.{same_Some, none-some}
 use Rattle.std.proofs.lemmas.Bool.Decides.{nat_tests}
-use mathlib.Core.Bool.{Bool, true, false, not, cond, true≢false}
+use mathlib.Core.Bool.{true, false}
 use mathlib.Core.List.{List, [], ◌∷◌}
 use lib.Dec.{eqb}
-use lib.ListN.{length, get_or, take, drop, length-drop, drop_of_length-le}
-use lib.Seq.{drop-cons, drop-drop, take_all}
-use borrow.Author.Tests.{eqb-true, eq-eqb, ne_eqb}
-use Rattle.plpb.specs.Lists.{◌and◌, ◌or◌}
+use lib.ListN.{length, get_or, take, drop}
+use lib.Seq.{take_all}
+use borrow.Author.Tests.{ne_eqb}
+use Rattle.plpb.specs.Lists.{◌and◌}
 use Rattle.cells.specs.declared.value.Value.{Value}
 use Rattle.cells.specs.declared.field.Field.{Field as FieldT}
 use Rattle.cells.specs.Grammar.{Field, broken, field, quote, comma, cr, lf, is_text, may_stand, before, plain, in_quotes, field_of, with_comma, with_end}
@@ -29,96 +30,96 @@ unfolding gathered before gather_from
 gathered_before v b broken = refl
 gathered_before v b (field value rest) = refl
 
--- The byte at a place and those behind it.
-pub here : (s : List ℕ) (at b : ℕ) → at < length s → b ≡ get_or s at 0 → drop at s ≡ b ∷ drop (at + 1) s
-here s at b h e = rw (add-one, e) (drop-cons s at 0 h)
+-- The first byte of a list and those behind it, as a slice has them.
+abbrev pub behind : List ℕ → List ℕ
+behind s = take (length s - 1) (drop 1 s)
+
+pub split : (s : List ℕ) → 1 ≤ length s → s ≡ get_or s 0 0 ∷ behind s
+split [] l = absurd (omega arith)
+split (b ∷ bs) l =
+    let n : suc (length bs) - 1 ≡ length bs = omega arith in
+    ap (λ t. b ∷ t) (sym (ap (λ k. take k bs) n ∙ take_all (length bs) bs (le_refl (length bs))))
+
+none : (s : List ℕ) → length s < 1 → s ≡ []
+none [] l = refl
+none (b ∷ bs) l = absurd (omega arith)
 
 -- ---- a plain field
 
-module _ (v : Value) (s : List ℕ) (at b : ℕ) (l : at < length s) (e : b ≡ get_or s at 0) where
-  pub plain_stop : is_text b ≡ false → gathered v (plain (drop at s)) ≡ some v (drop at s)
-  unfolding plain gathered gather_from
-  plain_stop h = rw (here s at b l e, h)
-
-  pub plain_on : is_text b ≡ true → gathered v (plain (drop at s)) ≡ gathered (added v b) (plain (drop (at + 1) s))
-  unfolding plain
-  plain_on h = rw (here s at b l e, h) (gathered_before v b (plain (drop (at + 1) s)))
-
-pub plain_end : (v : Value) (s : List ℕ) (at : ℕ) → length s ≤ at → gathered v (plain (drop at s)) ≡ some v (drop at s)
+stop_by : (v : Value) (b : ℕ) (bs : List ℕ) → is_text b ≡ false → gathered v (plain (b ∷ bs)) ≡ some v (b ∷ bs)
 unfolding plain gathered gather_from
-plain_end v s at h = rw (drop_of_length-le s h)
+stop_by v b bs h = rw h
 
--- ---- a field in quotes, by whether the byte before was a quote
+text_by : (v : Value) (b : ℕ) (bs : List ℕ) → is_text b ≡ true → gathered v (plain (b ∷ bs)) ≡ gathered (added v b) (plain bs)
+unfolding plain
+text_by v b bs h = rw h (gathered_before v b (plain bs))
 
-module _ (v : Value) (b : ℕ) (bs : List ℕ) where
-  behind_by : (closing q : Bool) → eqb b quote ≡ q → (closing and not q) ≡ true → gathered v (in_quotes closing (b ∷ bs)) ≡ some v (b ∷ bs)
-  unfolding in_quotes gathered gather_from ◌and◌
-  behind_by false q e h = absurd (true≢false (sym h))
-  behind_by true true e h = absurd (true≢false (sym h))
-  behind_by true false e h = rw e
+module _ (v : Value) (s : List ℕ) where
+  pub plain_stop : 1 ≤ length s → is_text (get_or s 0 0) ≡ false → gathered v (plain s) ≡ some v s
+  plain_stop l h = subst (λ t. gathered v (plain t) ≡ some v t) (sym (split s l)) (stop_by v _ _ h)
 
-  wrong_by :
-      (closing q : Bool) → eqb b quote ≡ q → (closing and not q) ≡ false → (q or may_stand b) ≡ false → gathered v (in_quotes closing (b ∷ bs)) ≡ None
-  unfolding in_quotes gathered ◌and◌ ◌or◌
-  wrong_by closing true e h k = absurd (true≢false k)
-  wrong_by true false e h k = absurd (true≢false h)
-  wrong_by false false e h k = rw (e, k)
+  pub plain_on : 1 ≤ length s → is_text (get_or s 0 0) ≡ true → gathered v (plain s) ≡ gathered (added v (get_or s 0 0)) (plain (behind s))
+  plain_on l h = ap (λ t. gathered v (plain t)) (split s l) ∙ text_by v _ _ h
 
-  on_by :
-      (closing q : Bool) → eqb b quote ≡ q → (closing and not q) ≡ false → (q or may_stand b) ≡ true
-      → gathered v (in_quotes closing (b ∷ bs)) ≡ gathered (cond (not closing and q) v (added v b)) (in_quotes (not closing and q) bs)
-  unfolding in_quotes ◌and◌ ◌or◌
-  on_by true false e h k = absurd (true≢false h)
-  on_by false true e h k = rw e
-  on_by true true e h k =
-      rw e (gathered_before v quote (in_quotes false bs) ∙ ap (λ (x : ℕ). gathered (added v x) (in_quotes false bs)) (sym (eqb-true b quote e)))
-  on_by false false e h k = rw (e, k) (gathered_before v b (in_quotes false bs))
+  pub plain_end : length s < 1 → gathered v (plain s) ≡ some v s
+  unfolding plain gathered gather_from
+  plain_end l = rw (none s l)
 
-module _ (v : Value) (closing : Bool) (s : List ℕ) (at b : ℕ) (l : at < length s) (e : b ≡ get_or s at 0) where
-  abbrev rest : List ℕ
-  rest = drop (at + 1) s
+-- ---- a field in quotes
 
-  quoted_here : gathered v (in_quotes closing (drop at s)) ≡ gathered v (in_quotes closing (b ∷ rest))
-  quoted_here = ap (λ (t : List ℕ). gathered v (in_quotes closing t)) (here s at b l e)
+module _ (v : Value) where
+  two_by : (bs : List ℕ) → gathered v (in_quotes false (quote ∷ quote ∷ bs)) ≡ gathered (added v quote) (in_quotes false bs)
+  unfolding in_quotes
+  two_by bs = gathered_before v quote (in_quotes false bs)
 
-  pub quoted_stop : (closing and not (eqb b quote)) ≡ true → gathered v (in_quotes closing (drop at s)) ≡ some v (drop at s)
-  quoted_stop h = quoted_here ∙ behind_by v b rest closing (eqb b quote) refl h ∙ ap (some v) (sym (here s at b l e))
+  one_by : (bs : List ℕ) → ((t : List ℕ) → bs ≢ quote ∷ t) → gathered v (in_quotes false (quote ∷ bs)) ≡ some v bs
+  unfolding in_quotes gathered gather_from
+  one_by [] n = refl
+  one_by (b ∷ bs) n = rw (ne_eqb b quote (λ e. n bs (ap (λ c. c ∷ bs) e)))
 
-  pub quoted_wrong :
-      (closing and not (eqb b quote)) ≡ false → (eqb b quote or may_stand b) ≡ false → gathered v (in_quotes closing (drop at s)) ≡ None
-  quoted_wrong h k = quoted_here ∙ wrong_by v b rest closing (eqb b quote) refl h k
+  other_by : (b : ℕ) (bs : List ℕ) → (b ≡ quote → ⊥) → may_stand b ≡ true → gathered v (in_quotes false (b ∷ bs)) ≡ gathered (added v b) (in_quotes false bs)
+  unfolding in_quotes
+  other_by b bs n h = rw (ne_eqb b quote n, h) (gathered_before v b (in_quotes false bs))
 
-  pub quoted_on :
-      (closing and not (eqb b quote)) ≡ false → (eqb b quote or may_stand b) ≡ true
-      → gathered v (in_quotes closing (drop at s))
-      ≡ gathered (cond (not closing and eqb b quote) v (added v b)) (in_quotes (not closing and eqb b quote) (drop (at + 1) s))
-  quoted_on h k = quoted_here ∙ on_by v b rest closing (eqb b quote) refl h k
+  wrong_by : (b : ℕ) (bs : List ℕ) → (b ≡ quote → ⊥) → may_stand b ≡ false → gathered v (in_quotes false (b ∷ bs)) ≡ None
+  unfolding in_quotes gathered
+  wrong_by b bs n h = rw (ne_eqb b quote n, h)
 
-pub quoted_closed : (v : Value) (closing : Bool) (s : List ℕ) (at : ℕ) → length s ≤ at → closing ≡ true → gathered v (in_quotes closing (drop at s)) ≡ some v (drop at s)
-unfolding in_quotes gathered gather_from
-quoted_closed v closing s at h e = rw (drop_of_length-le s h, e)
+module _ (v : Value) (s : List ℕ) where
+  abbrev quoted : Option Gathered
+  quoted = gathered v (in_quotes false s)
 
-pub quoted_open : (v : Value) (closing : Bool) (s : List ℕ) (at : ℕ) → length s ≤ at → closing ≡ false → gathered v (in_quotes closing (drop at s)) ≡ None
-unfolding in_quotes gathered gather_from
-quoted_open v closing s at h e = rw (drop_of_length-le s h, e)
+  split_quote : 1 ≤ length s → get_or s 0 0 ≡ quote → s ≡ quote ∷ behind s
+  split_quote l q = split s l ∙ ap (λ b. b ∷ behind s) q
+
+  pub quoted_two : 1 ≤ length s → get_or s 0 0 ≡ quote → (t : List ℕ) → behind s ≡ quote ∷ t → quoted ≡ gathered (added v quote) (in_quotes false t)
+  quoted_two l q t e = ap (λ u. gathered v (in_quotes false u)) (split_quote l q ∙ ap (λ u. quote ∷ u) e) ∙ two_by v t
+
+  pub quoted_one : 1 ≤ length s → get_or s 0 0 ≡ quote → ((t : List ℕ) → behind s ≢ quote ∷ t) → quoted ≡ some v (behind s)
+  quoted_one l q n = ap (λ u. gathered v (in_quotes false u)) (split_quote l q) ∙ one_by v _ n
+
+  pub quoted_on : 1 ≤ length s → (get_or s 0 0 ≡ quote → ⊥) → may_stand (get_or s 0 0) ≡ true → quoted ≡ gathered (added v (get_or s 0 0)) (in_quotes false (behind s))
+  quoted_on l n h = ap (λ t. gathered v (in_quotes false t)) (split s l) ∙ other_by v _ _ n h
+
+  pub quoted_wrong : 1 ≤ length s → (get_or s 0 0 ≡ quote → ⊥) → may_stand (get_or s 0 0) ≡ false → quoted ≡ None
+  quoted_wrong l n h = ap (λ t. gathered v (in_quotes false t)) (split s l) ∙ wrong_by v _ _ n h
+
+  pub quoted_open : length s < 1 → quoted ≡ None
+  unfolding in_quotes gathered
+  quoted_open l = rw (none s l)
 
 -- ---- a field, plain or in quotes
 
-module _ (s : List ℕ) (at : ℕ) where
-  pub field_quoted : at < length s → get_or s at 0 ≡ quote → gathered no_bytes (in_quotes false (drop (at + 1) s)) ≡ gathered no_bytes (field_of (drop at s))
-  unfolding field_of
-  field_quoted l q = rw (here s at (get_or s at 0) l refl, eq-eqb (get_or s at 0) quote q)
+pub field_quoted : (s t : List ℕ) → s ≡ quote ∷ t → in_quotes false t ≡ field_of s
+unfolding field_of
+field_quoted s t e = ap field_of (sym e)
 
-  pub field_plain : (length s ≤ at) ⊎ ((at < length s) × (get_or s at 0 ≡ quote → ⊥)) → gathered no_bytes (plain (drop at s)) ≡ gathered no_bytes (field_of (drop at s))
-  unfolding plain field_of
-  field_plain (inl h) = rw (drop_of_length-le s h)
-  field_plain (inr (l, q)) = rw (here s at (get_or s at 0) l refl, ne_eqb (get_or s at 0) quote q)
+pub field_plain : (s : List ℕ) → ((t : List ℕ) → s ≢ quote ∷ t) → plain s ≡ field_of s
+unfolding plain field_of
+field_plain [] n = refl
+field_plain (b ∷ bs) n = rw (ne_eqb b quote (λ e. n bs (ap (λ c. c ∷ bs) e)))
 
 -- ---- what stands behind a field
-
-no_end : (b c : ℕ) → (b ≡ cr → c ≡ lf → ⊥) → (eqb b cr and eqb c lf) ≡ false
-unfolding ◌and◌
-no_end b c n = grind (arith, nat_tests)
 
 -- Where the code has no field, there is none.
 pub no_field : (f : Field) → None ≡ gathered no_bytes f → f ≡ broken
@@ -131,91 +132,53 @@ pub no_more : (f : Field) → None ≡ gathered no_bytes f → (None ≡ gathere
 unfolding gathered with_comma with_end
 no_more f e = rw (no_field f e) (refl, refl)
 
-module _ (s : List ℕ) (f : Field) (r : FieldT) (h : some r.value (drop r.next s) ≡ gathered no_bytes f) where
+comma_by : (v s : List ℕ) → ((t : List ℕ) → s ≢ comma ∷ t) → None ≡ gathered no_bytes (with_comma (field v s))
+unfolding gathered with_comma
+comma_by v [] n = refl
+comma_by v (b ∷ bs) n = rw (ne_eqb b comma (λ e. n bs (ap (λ c. c ∷ bs) e)))
+
+no_end : (b c : ℕ) → (b ≡ cr → c ≡ lf → ⊥) → (eqb b cr and eqb c lf) ≡ false
+unfolding ◌and◌
+no_end b c n = grind (arith, nat_tests)
+
+end_by : (v s : List ℕ) → 1 ≤ length s → ((t : List ℕ) → s ≢ cr ∷ lf ∷ t) → None ≡ gathered no_bytes (with_end (field v s))
+unfolding gathered with_end
+end_by v [] l n = absurd (omega arith)
+end_by v (b ∷ []) l n = refl
+end_by v (b ∷ c ∷ bs) l n = rw (no_end b c (λ p q. n bs (ap₂ (λ x y. x ∷ y ∷ bs) p q)))
+
+module _ (f : Field) (r : FieldT) (h : some r.value r.rest.now ≡ gathered no_bytes f) where
+  abbrev s : List ℕ
+  s = r.rest.now
+
   -- Where the code has a field, there is one.
   abbrev There : Type 0
-  There = (v : List ℕ) × (f ≡ field v (drop r.next s)) × (r.value ≡ gather_from no_bytes v)
+  There = (v : List ℕ) × (f ≡ field v s) × (r.value ≡ gather_from no_bytes v)
 
   pub there : There
   unfolding gathered
   there = go f refl h
     where
-      go : (g : Field) → f ≡ g → some r.value (drop r.next s) ≡ gathered no_bytes g → There
+      go : (g : Field) → f ≡ g → some r.value s ≡ gathered no_bytes g → There
       go broken e k = absurd (none-some _ (sym k))
       go (field v bs) e k =
           let same = same_Some _ _ k in
           (v, e ∙ ap (field v) (sym (ap (λ (x : Gathered). x.rest) same)), ap (λ (x : Gathered). x.value) same)
 
-  -- The bytes behind it, as a slice has them.
-  abbrev behind : List ℕ
-  behind = take (length s - r.next) (drop r.next s)
-
-  is_behind : behind ≡ drop r.next s
-  is_behind = take_all (length s - r.next) (drop r.next s) (omega (arith, length-drop r.next s))
-
-  followed : f ≡ field there.0 behind
-  followed = there.1 ∙ ap (field there.0) (sym is_behind)
-
-  left : (k : ℕ) → drop k behind ≡ drop (r.next + k) s
-  left k = ap (drop k) is_behind ∙ drop-drop k r.next s
-
-  pub comma_none : length behind < 1 → None ≡ gathered no_bytes (with_comma f)
+  pub comma_right : (t : List ℕ) → s ≡ comma ∷ t → some r.value t ≡ gathered no_bytes (with_comma f)
   unfolding gathered with_comma
-  comma_none l = rw followed (go behind l)
-    where
-      go : (u : List ℕ) → length u < 1 → None ≡ gathered no_bytes (with_comma (field there.0 u))
-      go [] l = refl
-      go (b ∷ bs) l = absurd (omega arith)
+  comma_right t e = ap (λ v. some v t) there.2 ∙ ap (λ g. gathered no_bytes (with_comma g)) (sym (there.1 ∙ ap (field there.0) e))
 
-  pub comma_wrong : 1 ≤ length behind → (get_or behind 0 0 ≡ comma → ⊥) → None ≡ gathered no_bytes (with_comma f)
-  unfolding gathered with_comma
-  comma_wrong l n = rw followed (go behind l n)
-    where
-      go : (u : List ℕ) → 1 ≤ length u → (get_or u 0 0 ≡ comma → ⊥) → None ≡ gathered no_bytes (with_comma (field there.0 u))
-      go [] l n = absurd (omega arith)
-      go (b ∷ bs) l n = rw (ne_eqb b comma n)
+  pub comma_wrong : ((t : List ℕ) → s ≢ comma ∷ t) → None ≡ gathered no_bytes (with_comma f)
+  comma_wrong n = comma_by there.0 s n ∙ ap (λ g. gathered no_bytes (with_comma g)) (sym there.1)
 
-  pub comma_right : 1 ≤ length behind → get_or behind 0 0 ≡ comma → some r.value (drop (r.next + 1) s) ≡ gathered no_bytes (with_comma f)
-  unfolding gathered with_comma
-  comma_right l e = ap₂ some there.2 (sym (left 1)) ∙ go behind l e ∙ ap (λ (g : Field). gathered no_bytes (with_comma g)) (sym followed)
-    where
-      go : (u : List ℕ) → 1 ≤ length u → get_or u 0 0 ≡ comma → some (gather_from no_bytes there.0) (drop 1 u) ≡ gathered no_bytes (with_comma (field there.0 u))
-      go [] l e = absurd (omega arith)
-      go (b ∷ bs) l e = rw (eq-eqb b comma e)
-
-  pub end_list : length behind < 1 → some r.value (drop r.next s) ≡ gathered no_bytes (with_end f)
+  pub end_list : length s < 1 → some r.value s ≡ gathered no_bytes (with_end f)
   unfolding gathered with_end
-  end_list l = ap₂ some there.2 (sym is_behind) ∙ go behind l ∙ ap (λ (g : Field). gathered no_bytes (with_end g)) (sym followed)
-    where
-      go : (u : List ℕ) → length u < 1 → some (gather_from no_bytes there.0) u ≡ gathered no_bytes (with_end (field there.0 u))
-      go [] l = refl
-      go (b ∷ bs) l = absurd (omega arith)
+  end_list l = ap₂ some there.2 (none s l) ∙ ap (λ g. gathered no_bytes (with_end g)) (sym (there.1 ∙ ap (field there.0) (none s l)))
 
-  pub end_short : 1 ≤ length behind → length behind < 2 → None ≡ gathered no_bytes (with_end f)
-  unfolding gathered with_end
-  end_short l m = rw followed (go behind l m)
-    where
-      go : (u : List ℕ) → 1 ≤ length u → length u < 2 → None ≡ gathered no_bytes (with_end (field there.0 u))
-      go [] l m = absurd (omega arith)
-      go (b ∷ []) l m = refl
-      go (b ∷ c ∷ bs) l m = absurd (omega arith)
-
-  pub end_right : 2 ≤ length behind → get_or behind 0 0 ≡ cr → get_or behind 1 0 ≡ lf → some r.value (drop (r.next + 2) s) ≡ gathered no_bytes (with_end f)
+  pub end_right : (t : List ℕ) → s ≡ cr ∷ lf ∷ t → some r.value t ≡ gathered no_bytes (with_end f)
   unfolding gathered with_end ◌and◌
-  end_right l p q = ap₂ some there.2 (sym (left 2)) ∙ go behind l p q ∙ ap (λ (g : Field). gathered no_bytes (with_end g)) (sym followed)
-    where
-      go :
-          (u : List ℕ) → 2 ≤ length u → get_or u 0 0 ≡ cr → get_or u 1 0 ≡ lf
-          → some (gather_from no_bytes there.0) (drop 2 u) ≡ gathered no_bytes (with_end (field there.0 u))
-      go [] l p q = absurd (omega arith)
-      go (b ∷ []) l p q = absurd (omega arith)
-      go (b ∷ c ∷ bs) l p q = rw (eq-eqb b cr p, eq-eqb c lf q)
+  end_right t e = ap (λ v. some v t) there.2 ∙ ap (λ g. gathered no_bytes (with_end g)) (sym (there.1 ∙ ap (field there.0) e))
 
-  pub end_wrong : 2 ≤ length behind → (get_or behind 0 0 ≡ cr → get_or behind 1 0 ≡ lf → ⊥) → None ≡ gathered no_bytes (with_end f)
-  unfolding gathered with_end ◌and◌
-  end_wrong l n = rw followed (go behind l n)
-    where
-      go : (u : List ℕ) → 2 ≤ length u → (get_or u 0 0 ≡ cr → get_or u 1 0 ≡ lf → ⊥) → None ≡ gathered no_bytes (with_end (field there.0 u))
-      go [] l n = absurd (omega arith)
-      go (b ∷ []) l n = absurd (omega arith)
-      go (b ∷ c ∷ bs) l n = rw (no_end b c n)
+  pub end_wrong : 1 ≤ length s → ((t : List ℕ) → s ≢ cr ∷ lf ∷ t) → None ≡ gathered no_bytes (with_end f)
+  end_wrong l n = end_by there.0 s l n ∙ ap (λ g. gathered no_bytes (with_end g)) (sym there.1)

@@ -1,16 +1,16 @@
 -- A value gathered byte by byte into a few numbers, as the code holds it.
 -- Assumes nothing.
-use Rattle.std.specs.Prelude.{ℕ, ◌+◌, ◌*◌, ◌%◌, Bool, true, false, cond, List, [], ◌∷◌, leb, ltb, eqb}
+use Rattle.std.specs.Prelude.{ℕ, ◌+◌, ◌*◌, ◌%◌, Bool, cond, List, [], ◌∷◌, Option, None, Some, leb, ltb, eqb}
 use Rattle.plpb.specs.Lists.{◌and◌}
 use Rattle.cells.specs.declared.value.Value.{Value}
 
 -- No byte yet.
 abbrev pub no_bytes : Value
-no_bytes = record { length = 0; low = 0; high = 0; digits = true; number = 0 }
+no_bytes = record { length = 0; low = 0; high = 0; number = Some 0 }
 
 -- More than 16 bytes: all such values are alike.
 abbrev pub too_long : Value
-too_long = record { length = 17; low = 0; high = 0; digits = false; number = 0 }
+too_long = record { length = 17; low = 0; high = 0; number = None }
 
 -- A number to the base 256 with one byte more.
 abbrev pub with_byte : ℕ → ℕ → ℕ
@@ -24,6 +24,11 @@ is_digit b = leb 48 b and leb b 57
 abbrev pub with_digit : ℕ → ℕ → ℕ
 with_digit n b = n % 4_294_967_296 * 10 + b % 16
 
+-- The number that digits say, where all of them are.
+unfoldable pub more_digits : Option ℕ → ℕ → Option ℕ
+more_digits None b = None
+more_digits (Some n) b = cond (is_digit b) (Some (with_digit n b)) None
+
 -- The first 8 bytes stand in `low`, the others in `high`.
 unfoldable pub added : Value → ℕ → Value
 added v b =
@@ -32,8 +37,7 @@ added v b =
       length = v.length + 1;
       low = cond (ltb v.length 8) (with_byte v.low b) v.low;
       high = cond (ltb v.length 8) v.high (with_byte v.high b);
-      digits = v.digits and is_digit b;
-      number = with_digit v.number b;
+      number = more_digits v.number b;
     })
 
 unfoldable pub gather_from : Value → List ℕ → Value

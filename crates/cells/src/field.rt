@@ -1,9 +1,9 @@
 // One field of a record, plain or in quotes.
-ghost use Rattle.std.specs.Prelude.{◌≡◌, true, false, not, cond, ◌≤◌, eqb, length, drop, IfSome};
-ghost use Rattle.plpb.specs.Lists.{◌and◌, ◌or◌};
+ghost use Rattle.std.specs.Prelude.{◌≡◌, Some, false, eqb};
+ghost use Rattle.plpb.specs.Lists.{◌or◌};
 ghost use Rattle.cells.specs.Grammar.{is_text, may_stand as mayStandIn, plain as plain_of, in_quotes, field_of, with_comma, with_end};
-ghost use Rattle.cells.specs.Values.{no_bytes, added};
-ghost use Rattle.cells.specs.Reading.{gathered as gatheredOf, read_off};
+ghost use Rattle.cells.specs.Values.{no_bytes};
+ghost use Rattle.cells.specs.Reading.{gathered, read_off};
 
 use crate::value::{Value, empty, with};
 
@@ -15,11 +15,11 @@ const CR: u8 = b'\r';
 
 const LF: u8 = b'\n';
 
-// What a field holds and the place behind it.
+// What a field holds and the bytes behind it.
 #[derive(Clone, Copy)]
-pub struct Field {
+pub struct Field<'a> {
     pub value: Value,
-    pub next: usize,
+    pub rest: &'a [u8],
 }
 
 // TEXTDATA = %x20-21 / %x23-2B / %x2D-7E
@@ -30,126 +30,86 @@ fn is_text(b: u8) -> bool
 }
 
 // non-escaped = *TEXTDATA
-fn plain(s: &[u8], from: usize) -> Option<Field>
-    requires { from ≤ length s.now }
-    ensures reads { read_off s.now result ≡ gatheredOf no_bytes (plain_of (drop from s.now)) }
-    ensures within { IfSome result (λ r. r.next ≤ length s.now) }
+fn plain(s: &[u8]) -> Field<'_>
+    ensures { read_off (Some result) ≡ gathered no_bytes (plain_of s.now) }
 {
     let mut value = empty();
-    for at in from..s.len() {
-        let b = s[at];
-        if !is_text(b) {
-            return Some(Field { value, next: at });
+    let mut rest = s;
+    while let [b, after @ ..] = rest {
+        if !is_text(*b) {
+            break;
         }
-        value = with(value, b);
+        value = with(value, *b);
+        rest = after;
     }
-    Some(Field {
-        value,
-        next: s.len(),
-    })
+    Field { value, rest }
 }
 
-// What may stand in quotes: TEXTDATA / COMMA / CR / LF, or a quote.
+// What may stand in quotes: TEXTDATA / COMMA / CR / LF.
 fn may_stand(b: u8) -> bool
-    ensures { result ≡ (eqb b 34 or mayStandIn b) }
+    ensures { result ≡ mayStandIn b }
 {
-    matches!(b, QUOTE | COMMA | CR | LF) || is_text(b)
-}
-
-// Whether a byte is a quote that closes the field unless another follows.
-fn may_close(closing: bool, b: u8) -> bool
-    ensures { result ≡ (not closing and eqb b 34) }
-{
-    !closing && b == QUOTE
-}
-
-// The value behind a byte in quotes: of two quotes one counts.
-fn gathered(value: Value, closing: bool, b: u8) -> Value
-    ensures { result ≡ cond (not closing and eqb b 34) value (added value b) }
-{
-    if may_close(closing, b) {
-        return value;
-    }
-    with(value, b)
-}
-
-// Whether a byte stands behind the closing quote.
-fn stands_behind(closing: bool, b: u8) -> bool
-    ensures { result ≡ (closing and not (eqb b 34)) }
-{
-    closing && b != QUOTE
+    matches!(b, COMMA | CR | LF) || is_text(b)
 }
 
 // escaped = DQUOTE *(TEXTDATA / COMMA / CR / LF / 2DQUOTE) DQUOTE, from behind its first quote on.
-fn quoted(s: &[u8], from: usize) -> Option<Field>
-    requires { from ≤ length s.now }
-    ensures reads { read_off s.now result ≡ gatheredOf no_bytes (in_quotes false (drop from s.now)) }
-    ensures within { IfSome result (λ r. r.next ≤ length s.now) }
+fn quoted(s: &[u8]) -> Option<Field<'_>>
+    ensures { read_off result ≡ gathered no_bytes (in_quotes false s.now) }
 {
     let mut value = empty();
-    let mut closing = false;
-    for at in from..s.len() {
-        let b = s[at];
-        if stands_behind(closing, b) {
-            return Some(Field { value, next: at });
+    let mut rest = s;
+    while let [b, after @ ..] = rest {
+        if *b == QUOTE {
+            // Of two quotes one counts, and a single one closes the field.
+            let Some(behind) = after.strip_prefix(b"\"") else {
+                return Some(Field { value, rest: after });
+            };
+            value = with(value, QUOTE);
+            rest = behind;
+        } else {
+            if !may_stand(*b) {
+                return None;
+            }
+            value = with(value, *b);
+            rest = after;
         }
-        if !may_stand(b) {
-            return None;
-        }
-        value = gathered(value, closing, b);
-        closing = may_close(closing, b);
     }
-    if !closing {
-        return None;
-    }
-    Some(Field {
-        value,
-        next: s.len(),
-    })
+    None
 }
 
 // field = escaped / non-escaped
-fn read_field(s: &[u8], at: usize) -> Option<Field>
-    requires { at ≤ length s.now }
-    ensures reads { read_off s.now result ≡ gatheredOf no_bytes (field_of (drop at s.now)) }
-    ensures within { IfSome result (λ r. r.next ≤ length s.now) }
+fn read_field(s: &[u8]) -> Option<Field<'_>>
+    ensures { read_off result ≡ gathered no_bytes (field_of s.now) }
 {
-    if at < s.len() && s[at] == QUOTE {
-        quoted(s, at + 1)
-    } else {
-        plain(s, at)
+    match s.strip_prefix(b"\"") {
+        Some(rest) => quoted(rest),
+        None => Some(plain(s)),
     }
 }
 
 // A field with the comma behind it.
-pub fn lead(s: &[u8], at: usize) -> Option<Field>
-    requires { at ≤ length s.now }
-    ensures reads { read_off s.now result ≡ gatheredOf no_bytes (with_comma (field_of (drop at s.now))) }
-    ensures within { IfSome result (λ r. r.next ≤ length s.now) }
+pub fn lead(s: &[u8]) -> Option<Field<'_>>
+    ensures { read_off result ≡ gathered no_bytes (with_comma (field_of s.now)) }
 {
-    let field = read_field(s, at)?;
-    match &s[field.next..] {
-        [COMMA, ..] => Some(Field {
-            value: field.value,
-            next: field.next + 1,
-        }),
-        _ => None,
-    }
+    let field = read_field(s)?;
+    let rest = field.rest.strip_prefix(b",")?;
+    Some(Field {
+        value: field.value,
+        rest,
+    })
 }
 
 // A record's last field with what ends the row: CRLF, or the end of the list.
-pub fn last(s: &[u8], at: usize) -> Option<Field>
-    requires { at ≤ length s.now }
-    ensures reads { read_off s.now result ≡ gatheredOf no_bytes (with_end (field_of (drop at s.now))) }
-    ensures within { IfSome result (λ r. r.next ≤ length s.now) }
+pub fn last(s: &[u8]) -> Option<Field<'_>>
+    ensures { read_off result ≡ gathered no_bytes (with_end (field_of s.now)) }
 {
-    let field = read_field(s, at)?;
-    match &s[field.next..] {
-        [] => Some(field),
-        [CR, LF, ..] => Some(Field {
-            value: field.value,
-            next: field.next + 2,
-        }),
-        _ => None,
+    let field = read_field(s)?;
+    if field.rest.is_empty() {
+        return Some(field);
     }
+    let rest = field.rest.strip_prefix(b"\r\n")?;
+    Some(Field {
+        value: field.value,
+        rest,
+    })
 }

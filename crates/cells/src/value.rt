@@ -1,7 +1,6 @@
 // What a field holds, gathered byte by byte into a few numbers: two names of at most 16 bytes are then compared without their bytes.
 ghost use Rattle.std.specs.Prelude.{◌≡◌};
-ghost use Rattle.plpb.specs.Lists.{◌and◌};
-ghost use Rattle.cells.specs.Values.{no_bytes, too_long, with_byte, with_digit, is_digit, added, same_value};
+ghost use Rattle.cells.specs.Values.{no_bytes, too_long, with_byte, with_digit, more_digits, added, same_value};
 
 // The longest value that is told apart; all longer ones are alike.
 const LONGEST: usize = 16;
@@ -9,14 +8,13 @@ const LONGEST: usize = 16;
 // The bytes that the first of the two numbers of a name holds.
 const HALF: usize = 8;
 
-// A value's length, its bytes as two numbers to the base 256, whether all of them are digits, and the number that these say.
+// A value's length, its bytes as two numbers to the base 256, and the number that they say where all of them are digits.
 #[derive(Clone, Copy)]
 pub struct Value {
     pub length: usize,
     pub low: u64,
     pub high: u64,
-    pub digits: bool,
-    pub number: u64,
+    pub number: Option<u64>,
 }
 
 pub fn empty() -> Value
@@ -26,8 +24,7 @@ pub fn empty() -> Value
         length: 0,
         low: 0,
         high: 0,
-        digits: true,
-        number: 0,
+        number: Some(0),
     }
 }
 
@@ -38,8 +35,7 @@ fn too_long() -> Value
         length: LONGEST + 1,
         low: 0,
         high: 0,
-        digits: false,
-        number: 0,
+        number: None,
     }
 }
 
@@ -57,17 +53,12 @@ fn with_digit(n: u64, b: u8) -> u64
     n % 4294967296 * 10 + ((b % 16) as u64)
 }
 
-fn is_digit(b: u8) -> bool
-    ensures { result ≡ is_digit b }
+// The number that digits say, with another behind them; none behind or with a byte that is no digit.
+fn more_digits(number: Option<u64>, b: u8) -> Option<u64>
+    ensures { result ≡ more_digits number b }
 {
-    b.is_ascii_digit()
-}
-
-// Digits so far, and another.
-fn still_digits(digits: bool, b: u8) -> bool
-    ensures { result ≡ (digits and is_digit b) }
-{
-    digits && is_digit(b)
+    let number = number?;
+    b.is_ascii_digit().then_some(with_digit(number, b))
 }
 
 // The value with one byte more.
@@ -77,14 +68,12 @@ pub fn with(v: Value, b: u8) -> Value
     if LONGEST <= v.length {
         return too_long();
     }
-    let digits = still_digits(v.digits, b);
-    let number = with_digit(v.number, b);
+    let number = more_digits(v.number, b);
     if v.length < HALF {
         return Value {
             length: v.length + 1,
             low: with_byte(v.low, b),
             high: v.high,
-            digits,
             number,
         };
     }
@@ -92,7 +81,6 @@ pub fn with(v: Value, b: u8) -> Value
         length: v.length + 1,
         low: v.low,
         high: with_byte(v.high, b),
-        digits,
         number,
     }
 }
@@ -101,5 +89,5 @@ pub fn with(v: Value, b: u8) -> Value
 pub fn same(a: Value, b: Value) -> bool
     ensures { result ≡ same_value a b }
 {
-    a.length == b.length && a.low == b.low && a.high == b.high
+    (a.length, a.low, a.high) == (b.length, b.low, b.high)
 }

@@ -8,6 +8,7 @@ use mathlib.Core.Path.{◌≡◌, refl, sym, ap, ap₂, ◌∙◌}
 use mathlib.Core.Bool.{Bool, true, false, not, cond}
 use mathlib.Core.List.{List, [], ◌∷◌, ◌++◌, map, append_assoc, append-nil}
 use mathlib.Core.Option.{none}
+use Rattle.std.proofs.Common.{Some}
 use lib.Dec.{eqb, ltb}
 use lib.IntN.{pos}
 use lib.ListN.{length, take, length-map}
@@ -43,13 +44,14 @@ metres_most x e = go (not (site_formed x)) (ltb 1_000_000 (number_of (column_of 
     go false false t h = ltb-false 1_000_000 (number_of (column_of 1 x)) t
 
 module _ (x : Entry) (name : List ℕ) where
-  pub weigh_metres : (zoned : Bool) (v : Value) {r : ℕ} → zoned ≡ false → v ≡ gather (column_of 1 x) → site_fault x ≡ 0 → r ≡ v.number % 4_294_967_296 → r ≡ weigh zoned name (site_of x)
+  pub weigh_metres : (zoned : Bool) (v : Value) {r : ℕ} → zoned ≡ false → v ≡ gather (column_of 1 x) → site_fault x ≡ 0
+      → ((n : ℕ) → v.number ≡ Some n → r ≡ n % 4_294_967_296) → r ≡ weigh zoned name (site_of x)
   unfolding weigh site_of
   weigh_metres zoned v z e f q =
       let n = number_of (column_of 1 x) in
-      let s : v.number ≡ n = ap (λ (u : Value). u.number) e ∙ number_says _ (metres_number x f) in
       let l : n ≤ 1_000_000 = metres_most x f in
-      rw z (q ∙ ap (λ (k : ℕ). k % 4_294_967_296) s ∙ mod-eq_of_lt {n = n} {m = 4_294_967_296} (omega arith))
+      rw z
+      (q n (ap (λ (u : Value). u.number) e ∙ number_says _ (metres_number x f)) ∙ mod-eq_of_lt {n = n} {m = 4_294_967_296} (omega arith))
 
   pub weigh_zone :
       (zoned : Bool) (own zone : Value) (t : Bool) → zoned ≡ true → own ≡ gather (column_of 2 x) → OfBytes x → Named zone name → t ≡ same_value own zone
@@ -129,16 +131,16 @@ zone_numbers x e = go (not (zone_formed x)) (ltb 512 (number_of (column_of 1 x))
     go false true t h = absurd (omega (arith, h))
     go false false t h = (ltb-false _ _ (or_left_false _ _ t), ltb-false _ _ (or_right_false _ _ t))
 
-small_number : (bytes : List ℕ) (v : Value) (r : ℕ) → v ≡ gather bytes → is_number bytes ≡ true → number_of bytes ≤ 512 → r ≡ v.number % 4_294_967_296 → r ≡ number_of bytes
+small_number : (bytes : List ℕ) (v : Value) (r : ℕ) → v ≡ gather bytes → is_number bytes ≡ true → number_of bytes ≤ 512
+    → ((n : ℕ) → v.number ≡ Some n → r ≡ n % 4_294_967_296) → r ≡ number_of bytes
 small_number bytes v r e f l q =
-    q
-    ∙ ap (λ (k : ℕ). k % 4_294_967_296) (ap (λ (u : Value). u.number) e ∙ number_says bytes f)
+    q (number_of bytes) (ap (λ (u : Value). u.number) e ∙ number_says bytes f)
     ∙ mod-eq_of_lt {n = number_of bytes} {m = 4_294_967_296} (omega arith)
 
 pub zone_same :
     (x : Entry) (a b : ℕ) (y : Bool) (u v w : Value) → u ≡ gather (column_of 1 x) → v ≡ gather (column_of 2 x) → w ≡ gather (column_of 3 x) → OfBytes x
-    → zone_fault x ≡ 0 → a ≡ u.number % 4_294_967_296 → b ≡ v.number % 4_294_967_296 → y ≡ same_value w (gather yes_bytes)
-    → ◌≡◌ {A = Zone} (record { name = column_of 0 x; least = a; most = b; may_be_empty = y }) (zone_of x)
+    → zone_fault x ≡ 0 → ((n : ℕ) → u.number ≡ Some n → a ≡ n % 4_294_967_296) → ((n : ℕ) → v.number ≡ Some n → b ≡ n % 4_294_967_296)
+    → y ≡ same_value w (gather yes_bytes) → ◌≡◌ {A = Zone} (record { name = column_of 0 x; least = a; most = b; may_be_empty = y }) (zone_of x)
 unfolding zone_of
 zone_same x a b y u v w e f g h z p q t =
     let formed = zone_sound x z in

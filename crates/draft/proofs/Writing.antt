@@ -1,6 +1,6 @@
 -- Laws of bytes written one behind the other, and of the parts of a plan file.
 -- Assumes nothing.
-use Prim.Native.Nat.{ℕ, suc, ◌+◌, ◌/◌, ◌%◌, ◌≤◌, ◌<◌}
+use Prim.Native.Nat.{ℕ, suc, ◌+◌, ◌≤◌, ◌<◌}
 use native.Mathlib.Omega.{arith}
 use mathlib.Core.Path.{◌≡◌, sym, ap, ap₂, ◌∙◌}
 use mathlib.Core.Bool.{cond}
@@ -15,11 +15,7 @@ use Rattle.words.proofs.Words.{length_bytes_of}
 use Rattle.words.proofs.Writes.{put_sets, put_put, length_put}
 use Rattle.draft.specs.Draft.{Wrote}
 
--- Two bytes stored.
-pub two_stored : (s : List ℕ) (at v : ℕ) {a b : ℕ} → at + 2 ≤ length s → a ≡ v % 256 → b ≡ v / 256 % 256 → set (set s at a) (suc at) b ≡ put at (bytes_of 2 v) s
-unfolding bytes_of
-two_stored s at v {a} {b} h p q = put_sets (a ∷ b ∷ []) s at h ∙ ap₂ (λ (x y : ℕ). put at (x ∷ y ∷ []) s) p q
-
+-- A byte stored.
 pub one_stored : (s : List ℕ) (at b : ℕ) → at < length s → set s at b ≡ put at (b ∷ []) s
 one_stored s at b h = put_sets (b ∷ []) s at (omega arith)
 

@@ -1,7 +1,7 @@
 // The plan file of the mapper's two lists, written into a lent buffer.
 #![tactic(auto)]
 
-ghost use Rattle.std.specs.Prelude.{◌≡◌, true, false, cond, List, [], ◌∷◌, ◌++◌, map, ℕ, ◌+◌, ◌*◌, ◌%◌, ◌≤◌, eqb, length, IfSome};
+ghost use Rattle.std.specs.Prelude.{◌≡◌, true, false, cond, List, [], ◌∷◌, ◌++◌, map, ℕ, ◌+◌, ◌*◌, ◌%◌, ◌≤◌, eqb, length, Some, IfSome};
 ghost use Rattle.std.specs.Option.{is_some};
 ghost use Rattle.words.specs.Words.{bytes_of};
 ghost use Rattle.words.specs.Writes.{put, front};
@@ -14,9 +14,9 @@ ghost use Rattle.entries.specs.Judging.{OfBytes, Well};
 ghost use Rattle.draft.specs.Draft.{weigh, terms_of, Named, rule_body, clauses_of, Wrote};
 
 use cells::value::{Value, same};
-use entries::is_yes;
+use entries::{Counts, is_yes};
 use rows::row::{Listed, read_row};
-use words::write_u32;
+use words::{write_u16, write_u32};
 
 // The tags of the fields, and the modes of the two rules of a zone.
 const COUNT: u8 = 1;
@@ -42,21 +42,7 @@ struct Sites<'a> {
     ghost counted: { count ≡ length (site_rows list.now) },
 }
 
-fn low_byte(n: usize) -> u8
-    ensures { result ≡ n % 256 }
-{
-    (n % 256) as u8
-}
-
-// Writes a number's 2 bytes at a place.
-fn write_u16(out: &mut [u8], at: usize, v: usize)
-    requires { at + 2 ≤ length out.old }
-    ensures { out.new ≡ put at (bytes_of 2 v) out.old }
-{
-    out[at] = low_byte(v);
-    out[at + 1] = low_byte(v / 256);
-}
-
+// The buffer and the place in it stay two parameters: a struct that held the buffer would have to say in each contract that it is still the same one.
 // Writes a field's tag and length at a place.
 fn write_head(out: &mut [u8], at: usize, tag: u8, size: usize)
     requires { at + 3 ≤ length out.old }
@@ -76,9 +62,9 @@ fn write_term(out: &mut [u8], at: usize, variable: usize, weight: u32)
 
 // A number of at most 7 digits.
 fn number_of(v: Value) -> u32
-    ensures { result ≡ v.number % 4_294_967_296 }
+    ensures { (n : ℕ) → v.number ≡ Some n → result ≡ n % 4_294_967_296 }
 {
-    (v.number % 4294967296) as u32
+    (v.number.unwrap_or(0) % 4294967296) as u32
 }
 
 // What a site weighs: 1 in the zone and 0 elsewhere, or with no zone its metres.
@@ -114,12 +100,12 @@ fn put_terms(out: &mut [u8], from: usize, sites: Sites<'_>, zone: Option<Value>)
         × (result ≤ from + 6 * sites.entry.count) × (from ≤ result) }
 {
     let mut to = from;
-    let mut at = 0;
+    let mut rest = sites.list;
     for k in 0..sites.count {
-        let row = read_row(sites.list, at, Listed::Sites).unwrap();
+        let row = read_row(rest, Listed::Sites).unwrap();
         let w = weight(row.second, row.third, zone);
         to = put_term(out, to, k + 1, w);
-        at = row.next;
+        rest = row.rest;
     }
     to
 }
@@ -185,13 +171,13 @@ fn put_clauses(out: &mut [u8], from: usize, sites: Sites<'_>, zones: &[u8], m: u
     ensures { Wrote from (clauses_of (site_rows sites.entry.list.now) (zone_rows zones.now)) out.old out.new result }
 {
     let mut to = from;
-    let mut at = 0;
+    let mut rest = zones;
     for k in 0..m {
-        let row = read_row(zones, at, Listed::Zones).unwrap();
+        let row = read_row(rest, Listed::Zones).unwrap();
         let least = number_of(row.second);
         let most = number_of(row.third);
         to = put_clause(out, to, sites, row.first, least, most, is_yes(row.fourth));
-        at = row.next;
+        rest = row.rest;
     }
     to
 }
@@ -209,19 +195,19 @@ fn put_front(out: &mut [u8], sites: Sites<'_>) -> usize
     end
 }
 
-// The whole file. Answers its length.
-pub fn put_plan(out: &mut [u8], sites: &[u8], n: usize, zones: &[u8], m: usize) -> usize
-    requires { ((refusal_of (site_rows sites.now) (zone_rows zones.now)).number ≡ 0) × (n ≡ length (site_rows sites.now))
-        × (m ≡ length (zone_rows zones.now)) × (54_446 ≤ length out.old) }
+// The whole file of two lists that have n rows each. Answers its length.
+pub fn put_plan(out: &mut [u8], sites: &[u8], zones: &[u8], n: Counts) -> usize
+    requires { ((refusal_of (site_rows sites.now) (zone_rows zones.now)).number ≡ 0) × (n.sites ≡ length (site_rows sites.now))
+        × (n.zones ≡ length (zone_rows zones.now)) × (54_446 ≤ length out.old) }
     ensures { (out.new ≡ front (write (plan_of (site_rows sites.now) (zone_rows zones.now))) out.old)
         × (result ≡ length (write (plan_of (site_rows sites.now) (zone_rows zones.now)))) }
 {
     let sites = Sites {
         list: sites,
-        count: n,
+        count: n.sites,
     };
     let end = put_front(out, sites);
-    let last = put_clauses(out, end, sites, zones, m);
+    let last = put_clauses(out, end, sites, zones, n.zones);
     write_head(out, last, END, 0);
     last + 3
 }

@@ -8,7 +8,9 @@ use mathlib.Core.Bool.{Bool, true, false, not, cond}
 use mathlib.Core.List.{List}
 use mathlib.Core.Option.{none}
 use Rattle.std.proofs.Common.{rules, Option, Some, None, IsSome}
-use lib.ListN.{length, take, drop}
+use lib.Dec.{eqb}
+use lib.ListN.{length, take}
+use Rattle.std.proofs.lemmas.Bool.Decides.{nat_tests}
 use lib.Seq.{take-length}
 use borrow.Author.Tests.{eq-eqb, ne_eqb}
 use Rattle.plpb.specs.Lists.{◌and◌, any}
@@ -121,21 +123,29 @@ well_own zones s h k l =
 pub judge_start : (f : ℕ → ℕ) (n : ℕ) → judged_from f (n - 0) 0 ≡ judged_from f n 0
 judge_start f n = let e : n - 0 ≡ n = omega arith in ap (λ (j : ℕ). judged_from f j 0) e
 
+-- Whether bytes are left, as the code asks it.
+module _ {b : Bool} (s : List ℕ) (e : b ≡ eqb (length s) 0) where
+  pub bytes_left : b ≡ false → 0 < length s
+  bytes_left h = grind (arith, nat_tests)
+
+  pub none_left : b ≡ true → length s < 1
+  none_left h = grind (arith, nat_tests)
+
 -- At a malformed row.
 own_malformed : (zones : Bool) → own_fault zones none ≡ 51
 unfolding site_fault zone_fault site_formed zone_formed is_some ◌and◌
 own_malformed true = refl
 own_malformed false = refl
 
-module _ (zones : Bool) (s : List ℕ) (k at : ℕ) (p : Place zones s k at) (l : at < length s) (w : row_of (columns zones) (drop at s) ≡ malformed) where
+module _ (zones : Bool) (s : List ℕ) (k : ℕ) (left : List ℕ) (p : Place zones s k left) (l : 0 < length left) (w : row_of (columns zones) left ≡ malformed) where
   abbrev broken : ℕ
   broken = own_fault zones (entry_at (entries_of zones s) k)
 
   is_broken : broken ≡ 51
-  is_broken = ap (own_fault zones) (malformed_last zones s k at p l w).1 ∙ own_malformed zones
+  is_broken = ap (own_fault zones) (malformed_last zones s k left p l w).1 ∙ own_malformed zones
 
   broken_here : k < length (entries_of zones s)
-  broken_here = (malformed_last zones s k at p l w).0
+  broken_here = (malformed_last zones s k left p l w).0
 
   pub broken_fits : k < length s
   broken_fits = omega (arith, broken_here, rows_short (columns zones) s)
@@ -150,15 +160,15 @@ module _ (zones : Bool) (s : List ℕ) (k at : ℕ) (p : Place zones s k at) (l 
 
 -- Where nothing is wrong with a list, the code reads a row.
 pub well_read :
-    (zones : Bool) (s : List ℕ) (k at : ℕ) → Place zones s k at → at < length s → Well zones s → (r : Option Row) → Reads s (row_of (columns zones) (drop at s)) r → IsSome r
-well_read zones s k at p l h None w = absurd (none_broken zones s k at p l w h)
-well_read zones s k at p l h (Some row) w = search rules
+    (zones : Bool) (s : List ℕ) (k : ℕ) (left : List ℕ) → Place zones s k left → 0 < length left → Well zones s → (r : Option Row) → Reads (row_of (columns zones) left) r → IsSome r
+well_read zones s k left p l h None w = absurd (none_broken zones s k left p l w h)
+well_read zones s k left p l h (Some row) w = search rules
 
-pub row_read : {s : List ℕ} {w : Grammar.Row} {r : Option Row} {row : Row} → r ≡ Some row → Reads s w r → ReadsRow s w row
+pub row_read : {w : Grammar.Row} {r : Option Row} {row : Row} → r ≡ Some row → Reads w r → ReadsRow w row
 row_read e h = MatchOption-at_some _ _ _ e h
 
 -- At a row that the code has read.
-module _ (zones : Bool) (s : List ℕ) (k at : ℕ) (p : Place zones s k at) (r : Row) (l : at < length s) (h : ReadsRow s (row_of (columns zones) (drop at s)) r) where
+module _ (zones : Bool) (s : List ℕ) (k : ℕ) (left : List ℕ) (p : Place zones s k left) (r : Row) (l : 0 < length left) (h : ReadsRow (row_of (columns zones) left) r) where
   abbrev all : List Entry
   all = entries_of zones s
 
@@ -166,19 +176,19 @@ module _ (zones : Bool) (s : List ℕ) (k at : ℕ) (p : Place zones s k at) (r 
   this = entry_at all k
 
   pub row_here : k < length all
-  row_here = is_row zones s k at p r l h
+  row_here = is_row zones s k left p r l h
 
   pub row_fits : k < length s
   row_fits = omega (arith, row_here, rows_short (columns zones) s)
 
   held : Holds this r
-  held = row_held zones s k at p r l h
+  held = row_held zones s k left p r l h
 
   bytes : OfBytes this
   bytes which = rows_bytes (columns zones) s k which
 
-  pub row_next : Place zones s (k + 1) r.next
-  row_next = place_next zones s k at p r l h
+  pub row_next : Place zones s (k + 1) r.rest.now
+  row_next = place_next zones s k left p r l h
 
   module _ (fault : ℕ) (e : (x : Entry) → Holds x r → OfBytes x → fault ≡ own_fault zones x) where
     is_own : fault ≡ own_fault zones this

@@ -2,14 +2,15 @@
 -- Assumes nothing.
 use Prim.Native.Nat.{ℕ, suc, ◌≤◌, ◌<◌}
 use native.Mathlib.Omega.{arith}
-use mathlib.Core.Path.{◌≡◌, refl, ap, ap₂, ◌∙◌}
+use mathlib.Core.Path.{◌≡◌, refl, sym, ap, ap₂, ◌∙◌}
 use mathlib.Core.Bool.{Bool, true, false, not, cond}
 use mathlib.Core.List.{List, [], ◌∷◌}
 use mathlib.Core.Option.{none}
+use Rattle.std.proofs.Common.{Some}
 use lib.Dec.{eqb, ltb}
 use lib.ListN.{length, get_or, take, length-take}
 use lib.Seq.{get_or-take}
-use borrow.Author.Tests.{lt-ltb, le-ltb, leb-true}
+use borrow.Author.Tests.{leb-true}
 use Rattle.plpb.specs.Lists.{◌and◌, ◌or◌, any, all}
 use Rattle.format.proofs.Bools.{and_left, and_right}
 use Rattle.cells.specs.declared.value.Value.{Value}
@@ -125,42 +126,27 @@ module _ (x : Entry) where
   unfolding zone_fault
   zone_51 e = rw e
 
+  -- .. by the code's tests of its numbers.
   module _ (v : Value) (e : v ≡ gather (column_of 1 x)) where
-    pub site_52 : site_formed x ≡ true → 1_000_000 < v.number → 52 ≡ site_fault x
+    pub site_by :
+        {t b : Bool} → site_formed x ≡ true → ((n : ℕ) → v.number ≡ Some n → t ≡ ltb 1_000_000 n) → t ≡ b → ◌≡◌ {A = ℕ} (cond b 52 0) (site_fault x)
     unfolding site_fault
-    site_52 f l =
-        let n : v.number ≡ number_of (column_of 1 x) = ap (λ (u : Value). u.number) e ∙ number_says _ (formed_metres f) in
-        rw (f, lt-ltb 1_000_000 (number_of (column_of 1 x)) (omega (arith, n, l)))
+    site_by f h q = rw f (ap (λ u. cond u 52 0) (sym q ∙ h _ (ap (λ (u : Value). u.number) e ∙ number_says _ (formed_metres f))))
 
-    pub site_0 : site_formed x ≡ true → v.number ≤ 1_000_000 → 0 ≡ site_fault x
-    unfolding site_fault
-    site_0 f l =
-        let n : v.number ≡ number_of (column_of 1 x) = ap (λ (u : Value). u.number) e ∙ number_says _ (formed_metres f) in
-        rw (f, le-ltb 1_000_000 (number_of (column_of 1 x)) (omega (arith, n, l)))
+    module _ {t : Bool} (f : zone_formed x ≡ true) (h : (n : ℕ) → v.number ≡ Some n → t ≡ ltb 512 n) where
+      least_is : t ≡ ltb 512 (number_of (column_of 1 x))
+      least_is = h _ (ap (λ (u : Value). u.number) e ∙ number_says _ (formed_least f))
 
-    pub least_52 : zone_formed x ≡ true → 512 < v.number → 52 ≡ zone_fault x
-    unfolding zone_fault ◌or◌
-    least_52 f l =
-        let n : v.number ≡ number_of (column_of 1 x) = ap (λ (u : Value). u.number) e ∙ number_says _ (formed_least f) in
-        rw (f, lt-ltb 512 (number_of (column_of 1 x)) (omega (arith, n, l)))
-
-    module _ (w : Value) (g : w ≡ gather (column_of 2 x)) (f : zone_formed x ≡ true) (l : v.number ≤ 512) where
-      least_right : ltb 512 (number_of (column_of 1 x)) ≡ false
-      least_right =
-          let n : v.number ≡ number_of (column_of 1 x) = ap (λ (u : Value). u.number) e ∙ number_says _ (formed_least f) in
-          le-ltb 512 (number_of (column_of 1 x)) (omega (arith, n, l))
-
-      pub most_52 : 512 < w.number → 52 ≡ zone_fault x
+      pub least_52 : t ≡ true → 52 ≡ zone_fault x
       unfolding zone_fault ◌or◌
-      most_52 k =
-          let m : w.number ≡ number_of (column_of 2 x) = ap (λ (u : Value). u.number) g ∙ number_says _ (formed_most f) in
-          rw (f, least_right, lt-ltb 512 (number_of (column_of 2 x)) (omega (arith, m, k)))
+      least_52 q = rw (f, sym least_is ∙ q)
 
-      pub zone_0 : w.number ≤ 512 → 0 ≡ zone_fault x
+      pub zone_by :
+          {u b : Bool} (w : Value) → w ≡ gather (column_of 2 x) → t ≡ false → ((n : ℕ) → w.number ≡ Some n → u ≡ ltb 512 n) → u ≡ b
+          → ◌≡◌ {A = ℕ} (cond b 52 0) (zone_fault x)
       unfolding zone_fault ◌or◌
-      zone_0 k =
-          let m : w.number ≡ number_of (column_of 2 x) = ap (λ (u : Value). u.number) g ∙ number_says _ (formed_most f) in
-          rw (f, least_right, le-ltb 512 (number_of (column_of 2 x)) (omega (arith, m, k)))
+      zone_by w g q k r =
+          rw (f, sym least_is ∙ q) (ap (λ u. cond u 52 0) (sym r ∙ k _ (ap (λ (u : Value). u.number) g ∙ number_says _ (formed_most f))))
 
 -- ---- a value among the rows
 

@@ -1,7 +1,7 @@
 // The mapper's two lists judged: "Turned away, with list and row from 1".
 #![tactic(auto)]
 
-ghost use Rattle.std.specs.Prelude.{◌≡◌, true, false, not, eqb, List, ℕ, ◌+◌, ◌<◌, length, MatchResult};
+ghost use Rattle.std.specs.Prelude.{◌≡◌, true, false, not, eqb, ltb, List, ℕ, Some, ◌+◌, ◌<◌, length, MatchResult};
 ghost use Rattle.plpb.specs.Lists.{◌and◌, ◌or◌};
 ghost use Rattle.cells.specs.Values.{gather, same_value};
 ghost use Rattle.rows.specs.Reading.{Holds, is_zones, place};
@@ -68,10 +68,10 @@ fn is_name(v: Value) -> bool
 fn is_number(v: Value) -> bool
     ensures { (bytes : List ℕ) → v ≡ gather bytes → result ≡ is_number bytes }
 {
-    matches!(v.length, 1..=LONGEST_NUMBER) && v.digits
+    matches!(v.length, 1..=LONGEST_NUMBER) && v.number.is_some()
 }
 
-// A word of at most 8 bytes is one number.
+// A word of at most 8 bytes is one number. A value holds no bytes that the library could compare, but the numbers that they are gathered into.
 fn is_word(v: Value, length: usize, word: u64) -> bool
     ensures { result ≡ (eqb v.length length and eqb v.low word and eqb v.high 0) }
 {
@@ -90,8 +90,8 @@ fn is_no(v: Value) -> bool
     is_word(v, 2, NO)
 }
 
-fn site_formed(row: Row) -> bool
-    ensures { (x : Entry) → Holds x row → result ≡ site_formed x }
+fn site_formed(row: Row<'_>) -> bool
+    ensures { (x : Entry) → Holds x row.entry → result ≡ site_formed x }
 {
     is_name(row.first) && is_number(row.second) && is_name(row.third)
 }
@@ -103,42 +103,49 @@ fn is_answer(v: Value) -> bool
     is_yes(v) || is_no(v)
 }
 
-fn zone_formed(row: Row) -> bool
-    ensures { (x : Entry) → Holds x row → OfBytes x → result ≡ zone_formed x }
+fn zone_formed(row: Row<'_>) -> bool
+    ensures { (x : Entry) → Holds x row.entry → OfBytes x → result ≡ zone_formed x }
 {
     is_name(row.first) && is_number(row.second) && is_number(row.third) && is_answer(row.fourth)
 }
 
+// Whether a value says a number above a limit.
+fn is_above(v: Value, most: u64) -> bool
+    ensures { (n : ℕ) → v.number ≡ Some n → result ≡ ltb most n }
+{
+    v.number.is_some_and(|n| most < n)
+}
+
 // "51 malformed row, 52 number out of its range"
-fn site_fault(row: Row) -> Option<Fault>
-    ensures { (x : Entry) → Holds x row → fault_of result ≡ site_fault x }
+fn site_fault(row: Row<'_>) -> Option<Fault>
+    ensures { (x : Entry) → Holds x row.entry → fault_of result ≡ site_fault x }
 {
     if !site_formed(row) {
         return Some(Fault::Malformed);
     }
-    if MOST_METRES < row.second.number {
+    if is_above(row.second, MOST_METRES) {
         return Some(Fault::OutOfRange);
     }
     None
 }
 
-fn zone_fault(row: Row) -> Option<Fault>
-    ensures { (x : Entry) → Holds x row → OfBytes x → fault_of result ≡ zone_fault x }
+fn zone_fault(row: Row<'_>) -> Option<Fault>
+    ensures { (x : Entry) → Holds x row.entry → OfBytes x → fault_of result ≡ zone_fault x }
 {
     if !zone_formed(row) {
         return Some(Fault::Malformed);
     }
-    if MOST_SITES < row.second.number {
+    if is_above(row.second, MOST_SITES) {
         return Some(Fault::OutOfRange);
     }
-    if MOST_SITES < row.third.number {
+    if is_above(row.third, MOST_SITES) {
         return Some(Fault::OutOfRange);
     }
     None
 }
 
-fn own_fault(row: Row, listed: Listed) -> Option<Fault>
-    ensures { (x : Entry) → Holds x row → OfBytes x → fault_of result ≡ own_fault (is_zones listed) x }
+fn own_fault(row: Row<'_>, listed: Listed) -> Option<Fault>
+    ensures { (x : Entry) → Holds x row.entry → OfBytes x → fault_of result ≡ own_fault (is_zones listed) x }
 {
     match listed {
         Listed::Sites => site_fault(row),
@@ -160,10 +167,10 @@ pub fn judge_list(s: &[u8], listed: Listed) -> Result<usize, AtFault>
         (λ n. judged (row_fault (is_zones listed) (entries_of (is_zones listed) s.now)) (entries_of (is_zones listed) s.now) ≡ record { fault = 0; rows = n })
         (IsAt (judged (row_fault (is_zones listed) (entries_of (is_zones listed) s.now)) (entries_of (is_zones listed) s.now))) }
 {
-    let mut at = 0;
+    let mut rest = s;
     let mut k = 0;
-    while at < s.len() {
-        let Some(row) = read_row(s, at, listed) else {
+    while !rest.is_empty() {
+        let Some(row) = read_row(rest, listed) else {
             return Err(at_row(Fault::Malformed, k));
         };
         if let Some(fault) = own_fault(row, listed) {
@@ -172,12 +179,13 @@ pub fn judge_list(s: &[u8], listed: Listed) -> Result<usize, AtFault>
         if among(s, listed, k, Column::First, row.first) {
             return Err(at_row(Fault::Repeated, k));
         }
-        at = row.next;
+        rest = row.rest;
         k += 1;
     }
     Ok(k)
 }
 
+// A column and a list, by the list. One function for both tables would say less: they answer different things.
 // The column of the zone. "Sites: code, carry metres, zone." "Zones: zone, least, most, and `yes` or `no`".
 fn zone_column(listed: Listed) -> Column
     ensures { place result ≡ zone_column (is_zones listed) }
@@ -216,14 +224,14 @@ fn judge_zones(
     let own = zone_column(listed);
     let other_list = beside(listed);
     let theirs = zone_column(other_list);
-    let mut at = 0;
+    let mut rest = s;
     let mut k = 0;
-    while at < s.len() {
-        let row = read_row(s, at, listed).unwrap();
+    while !rest.is_empty() {
+        let row = read_row(rest, listed).unwrap();
         if !among(other, other_list, rows, theirs, field_in(row, own)) {
             return Err(at_row(fault, k));
         }
-        at = row.next;
+        rest = row.rest;
         k += 1;
     }
     Ok(())

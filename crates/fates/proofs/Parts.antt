@@ -11,7 +11,7 @@ use lib.IntN.{ℤ, pos, negsuc, nat_abs, ◌+ℤ◌, +ℤ_idl, +ℤ_idr, +ℤ_as
 use borrow.Author.Tests.{ne_eqb, leb-true}
 use Rattle.plpb.specs.Lists.{all}
 use Rattle.plpb.specs.Plan.{Term, negative_part, least_total}
-use Rattle.words.specs.Words.{num_at, word_at, signed}
+use Rattle.words.specs.Words.{num_at, signed}
 use Rattle.format.specs.File.{term_at, terms_at}
 use Rattle.format.proofs.Bools.{and_left, and_right}
 use Rattle.format.proofs.Lawful.{weight_small}
@@ -28,20 +28,19 @@ pub decode_other : (w : ℕ) → (w ≡ 513 → ⊥) → (w ≡ 514 → ⊥) →
 unfolding decode
 decode_other w h k = rw (ne_eqb w 513 h, ne_eqb w 514 k)
 
-pub part_off : (part : Part) (w : ℤ) → pos 0 ≡ part_of part (decode 513) w
-unfolding part_of decode given
+pub decode_off : (w : ℕ) → w ≡ 513 → locked false ≡ decode w
+unfolding decode
+decode_off w e = rw e
+
+pub decode_on : (w : ℕ) → w ≡ 514 → locked true ≡ decode w
+unfolding decode
+decode_on w e = rw e
+
+pub part_off : (part : Part) (w : ℤ) → pos 0 ≡ part_of part (locked false) w
+unfolding part_of given
 part_off Given w = refl
 part_off Least w = refl
 part_off Greatest w = refl
-
-part_left : (part : Part) (k : ℕ) (w : ℤ) → part_of part (decode 0) w ≡ part_of part (renumbered k) w
-unfolding part_of decode given
-part_left Given k w = refl
-part_left Least k w = refl
-part_left Greatest k w = refl
-
-pub part_other : (part : Part) (k : ℕ) (w : ℤ) → (k ≡ 513 → ⊥) → (k ≡ 514 → ⊥) → part_of part (decode 0) w ≡ part_of part (decode k) w
-part_other part k w h l = part_left part k w ∙ ap (λ m. part_of part m w) (sym (decode_other k h l))
 
 -- ---- sums
 
@@ -103,21 +102,21 @@ module _ {s map : List ℕ} {part : Part} {from count : ℕ} where
       sym (+ℤ_idr _) ∙ (rw e at r.summed)
 
   -- One term more, as the code reads it: x is its variable, v its weight, r what it gives, t the new sum.
-  module _ {at left x code : ℕ} {sum v r : ℤ} (some : 0 < left) (run : Summing s map part from count at left sum)
-      (xs : x ≡ num_at 2 s at) (codes : code ≡ word_at map x) (vs : v ≡ signed (num_at 4 s (at + 2))) (is : r ≡ part_of part (decode code) v) where
-    gives : r ≡ part_of part (decode (word_at map (num_at 2 s at))) (signed (num_at 4 s (at + 2)))
-    gives = is ∙ ap₂ (λ c w. part_of part (decode c) w) (codes ∙ ap (word_at map) xs) vs
+  module _ {at left x : ℕ} {sum v r : ℤ} {code : Becomes} (some : 0 < left) (run : Summing s map part from count at left sum)
+      (xs : x ≡ num_at 2 s at) (codes : code ≡ decoded map x) (vs : v ≡ signed (num_at 4 s (at + 2))) (is : r ≡ part_of part code v) where
+    gives : r ≡ part_of part (decoded map (num_at 2 s at)) (signed (num_at 4 s (at + 2)))
+    gives = is ∙ ap₂ (part_of part) (codes ∙ ap (decoded map) xs) vs
 
     r_small : nat_abs r ≤ 1_000_000
     r_small =
         rw gives
-        (omega (arith, part_size part (decode (word_at map (num_at 2 s at))) (signed (num_at 4 s (at + 2))), (small_at s at left some run.small).weight))
+        (omega (arith, part_size part (decoded map (num_at 2 s at)) (signed (num_at 4 s (at + 2))), (small_at s at left some run.small).weight))
 
     pub sum_room : count ≤ 512 → nat_abs sum + nat_abs r < 2_147_483_648
     sum_room h = omega (arith, r_small, run.size)
 
     pub summing_more : {at' left' : ℕ} {t : ℤ} → at' ≡ at + 6 → left' ≡ left - 1 → t ≡ sum +ℤ r → Summing s map part from count at' left' t
-    unfolding small_terms all terms_at term_at part_total decoded
+    unfolding small_terms all terms_at term_at part_total
     summing_more {at'} {left'} {t} a l e =
         let n : left ≡ suc (left - 1) = omega arith in
         rw (a, l)

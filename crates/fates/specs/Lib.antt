@@ -1,5 +1,6 @@
 -- What the functions say that judge rules and clauses, in reading order.
 pub mod Codes
+pub mod Maps
 pub mod Sums
 pub mod Rules
 pub mod Rest

@@ -1,16 +1,18 @@
 // What becomes of a clause.
-ghost use Rattle.std.specs.Prelude.{◌≡◌, List, [], ℕ, ◌≤◌, length};
+ghost use Rattle.std.specs.Prelude.{◌≡◌, List, [], ℕ};
 ghost use Rattle.plpb.specs.Lists.{any, is_empty};
 ghost use Rattle.plpb.specs.Plan.{Clause};
 ghost use Rattle.squeezed.specs.Squeezed.{clauses_left};
-ghost use Rattle.fates.specs.Codes.{decoded, map_size};
+ghost use Rattle.fates.specs.Maps.{codes};
 ghost use Rattle.fates.specs.Rules.{unbounded};
 ghost use Rattle.fates.specs.Rest.{Rest, Reads, Begins, Ran};
 
 use crate::bounds::Bounds;
+use crate::map::Map;
 use crate::rule;
 
-// A clause's rules run through: whether one is met by all values, whether one is kept, and the place behind them.
+// A clause's rules run through: whether one is met by all values, whether one is kept, and the place behind them. The two are facts of their own, each
+// asked of every rule; as an enum of a clause's three fates they would have to be folded rule by rule.
 #[derive(Clone, Copy)]
 pub struct Run {
     pub met: bool,
@@ -28,9 +30,9 @@ fn all_meet(fate: Option<Bounds>) -> bool
     }
 }
 
-pub fn run_rules(file: &[u8], from: usize, map: &[u8]) -> Run
-    requires { Reads file.now from × (map_size ≤ length map.now) }
-    ensures { Ran (decoded map.now) file.now from result.met result.kept result.next }
+pub fn run_rules(file: &[u8], from: usize, map: Map<'_>) -> Run
+    requires { Reads file.now from }
+    ensures { Ran (codes map.entry) file.now from result.met result.kept result.next }
 {
     let mut at = from;
     let mut met = false;
@@ -50,10 +52,10 @@ pub fn run_rules(file: &[u8], from: usize, map: &[u8]) -> Run
 }
 
 // "a clause lost all rules"
-pub fn lost(file: &[u8], from: usize, map: &[u8]) -> bool
-    requires { Begins file.now from × (map_size ≤ length map.now) }
+pub fn lost(file: &[u8], from: usize, map: Map<'_>) -> bool
+    requires { Begins file.now from }
     ensures { (n : ℕ) (cs : List Clause) → Rest n file.now from [] cs
-        → result ≡ any is_empty (clauses_left (decoded map.now) cs) }
+        → result ≡ any is_empty (clauses_left (codes map.entry) cs) }
 {
     let mut at = from;
     while file[at] == 3 {

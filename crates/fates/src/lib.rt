@@ -4,6 +4,8 @@
 
 pub mod bounds;
 pub mod clause;
+mod decoding;
+pub mod map;
 pub mod rule;
 pub mod sums;
 

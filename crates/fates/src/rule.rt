@@ -4,18 +4,19 @@ ghost use Rattle.words.specs.Words.{num_at, signed};
 ghost use Rattle.format.specs.Limits.{max_bound};
 ghost use Rattle.format.specs.File.{field_terms, rule_at};
 ghost use Rattle.squeezed.specs.Squeezed.{put_in};
-ghost use Rattle.fates.specs.Codes.{decoded, map_size};
+ghost use Rattle.fates.specs.Maps.{codes};
 ghost use Rattle.fates.specs.Sums.{part_total};
 ghost use Rattle.fates.specs.Rules.{RuleFits, Fated, max_total};
 
 use crate::bounds::Bounds;
+use crate::map::Map;
 use crate::sums::Part;
 use crate::{bounds, sums};
 
 // One of the sums over a rule's terms.
-fn total(file: &[u8], at: usize, map: &[u8], part: Part) -> i32
-    requires { RuleFits file.now at × (map_size ≤ length map.now) }
-    ensures { (result ≡ part_total part (decoded map.now) (field_terms file.now at)) × (nat_abs result ≤ max_total) }
+fn total(file: &[u8], at: usize, map: Map<'_>, part: Part) -> i32
+    requires { RuleFits file.now at }
+    ensures { (result ≡ part_total part (codes map.entry) (field_terms file.now at)) × (nat_abs result ≤ max_total) }
 {
     let count = tables::fields::terms_of(file, at);
     sums::sum(file, at + 12, count, map, part)
@@ -30,9 +31,9 @@ fn less(file: &[u8], at: usize, given: i32) -> i32
 }
 
 // What is left of the bounds of the rule at a place, nothing where no values can meet it.
-pub fn fate(file: &[u8], at: usize, map: &[u8]) -> Option<Bounds>
-    requires { RuleFits file.now at × (map_size ≤ length map.now) }
-    ensures { Fated result (put_in (decoded map.now) (rule_at file.now at)) }
+pub fn fate(file: &[u8], at: usize, map: Map<'_>) -> Option<Bounds>
+    requires { RuleFits file.now at }
+    ensures { Fated result (put_in (codes map.entry) (rule_at file.now at)) }
 {
     let given = total(file, at, map, Part::Given);
     let least = total(file, at, map, Part::Least);

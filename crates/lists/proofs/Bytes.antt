@@ -5,7 +5,6 @@ use mathlib.Core.Path.{◌≡◌, refl, sym, ap₂}
 use mathlib.Core.Bool.{true, true≢false}
 use mathlib.Core.List.{List, [], ◌∷◌}
 use borrow.Author.Tests.{eqb-true, eq-eqb}
-use Rattle.plpb.specs.Lists.{◌and◌}
 use Rattle.format.proofs.Bools.{and_left, and_right, and_join, same_test}
 use Rattle.cells.specs.Grammar.{same_bytes}
 

@@ -6,7 +6,9 @@ use native.Mathlib.Omega.{arith}
 use native.Mathlib.Nat.{pow-le-pow_right}
 use native.Mathlib.Decide.{dec_lt}
 use mathlib.Core.Path.{◌≡◌, refl, sym, ap, ap₂, ◌∙◌}
-use mathlib.Core.Bool.{Bool, true}
+use mathlib.Core.Bool.{Bool, true, false, cond}
+use Rattle.std.proofs.Common.{Option, Some, None}
+use Rattle.std.specs.Option.{is_some}
 use mathlib.Core.List.{List, [], ◌∷◌}
 use lib.Dec.{leb, ltb}
 use lib.ListN.{length}
@@ -16,7 +18,7 @@ use Rattle.plpb.proofs.Lists.{and_assoc, and_true}
 use Rattle.format.proofs.Bools.{and_left, and_right, and_join, same_test, and_false}
 use Rattle.cells.specs.declared.value.Value.{Value}
 use Rattle.cells.specs.Grammar.{same_bytes}
-use Rattle.cells.specs.Values.{no_bytes as empty, too_long, with_byte, with_digit, is_digit, added, gather_from, gather, same_value}
+use Rattle.cells.specs.Values.{no_bytes as empty, too_long, with_byte, with_digit, is_digit, more_digits, added, gather_from, gather, same_value}
 use Rattle.lists.specs.Refusals.{is_name, is_number, number_from, number_of}
 use Rattle.lists.proofs.Bytes.{same_eq, eq_same}
 
@@ -28,13 +30,13 @@ added_long u b h = rw (le-leb 16 u.length h)
 
 added_low :
     (u : Value) (b : ℕ) → u.length < 8
-    → added u b ≡ record { length = u.length + 1; low = with_byte u.low b; high = u.high; digits = u.digits and is_digit b; number = with_digit u.number b }
+    → added u b ≡ record { length = u.length + 1; low = with_byte u.low b; high = u.high; number = more_digits u.number b }
 unfolding added
 added_low u b h = rw (lt-leb 16 u.length (omega arith), lt-ltb u.length 8 h)
 
 added_high :
     (u : Value) (b : ℕ) → 8 ≤ u.length → u.length < 16
-    → added u b ≡ record { length = u.length + 1; low = u.low; high = with_byte u.high b; digits = u.digits and is_digit b; number = with_digit u.number b }
+    → added u b ≡ record { length = u.length + 1; low = u.low; high = with_byte u.high b; number = more_digits u.number b }
 unfolding added
 added_high u b h l = rw (lt-leb 16 u.length l, le-ltb u.length 8 h)
 
@@ -43,11 +45,7 @@ module _ (u : Value) (b : ℕ) (l : u.length < 16) where
   unfolding added
   added_length = rw (lt-leb 16 u.length l)
 
-  added_digits : (added u b).digits ≡ (u.digits and is_digit b)
-  unfolding added
-  added_digits = rw (lt-leb 16 u.length l)
-
-  added_number : (added u b).number ≡ with_digit u.number b
+  added_number : (added u b).number ≡ more_digits u.number b
   unfolding added
   added_number = rw (lt-leb 16 u.length l)
 
@@ -104,30 +102,44 @@ pub name_alike : (v : List ℕ) → name_value (gather v) ≡ is_name v
 unfolding name_value is_name
 name_alike v = ap₂ ◌and◌ (length_some v) (length_alike v 16 (omega arith))
 
-digits_from : (u : Value) (v : List ℕ) → u.length + length v ≤ 16 → (gather_from u v).digits ≡ (u.digits and all is_digit v)
+-- Where all bytes are digits there is a number, and elsewhere none.
+more_some : (o : Option ℕ) (b : ℕ) → is_some (more_digits o b) ≡ (is_some o and is_digit b)
+unfolding more_digits ◌and◌
+more_some None b = refl
+more_some (Some n) b = go (is_digit b)
+  where
+    go : (t : Bool) → is_some (cond t (Some (with_digit n b)) None) ≡ t
+    go true = refl
+    go false = refl
+
+digits_from : (u : Value) (v : List ℕ) → u.length + length v ≤ 16 → is_some (gather_from u v).number ≡ (is_some u.number and all is_digit v)
 unfolding gather_from all
-digits_from u [] h = sym (and_true u.digits)
+digits_from u [] h = sym (and_true (is_some u.number))
 digits_from u (b ∷ bs) h =
     digits_from (added u b) bs (omega (arith, added_length u b (omega arith)))
-    ∙ ap (λ (t : Bool). t and all is_digit bs) (added_digits u b (omega arith))
-    ∙ and_assoc u.digits (is_digit b) (all is_digit bs)
+    ∙ ap (λ (t : Bool). t and all is_digit bs) (ap is_some (added_number u b (omega arith)) ∙ more_some u.number b)
+    ∙ and_assoc (is_some u.number) (is_digit b) (all is_digit bs)
 
 unfoldable pub number_value : Value → Bool
-number_value u = leb 1 u.length and leb u.length 7 and u.digits
+number_value u = leb 1 u.length and leb u.length 7 and is_some u.number
 
 pub number_alike : (v : List ℕ) → number_value (gather v) ≡ is_number v
 unfolding number_value is_number ◌and◌
 number_alike v =
-    ap₂ (λ (x y : Bool). x and y and (gather v).digits) (length_some v) (length_alike v 7 (omega arith)) ∙ go (dec_lt 7 (length v))
+    ap₂ (λ (x y : Bool). x and y and is_some (gather v).number) (length_some v) (length_alike v 7 (omega arith)) ∙ go (dec_lt 7 (length v))
   where
-    go : Dec (7 < length v) → (leb 1 (length v) and leb (length v) 7 and (gather v).digits) ≡ (leb 1 (length v) and leb (length v) 7 and all is_digit v)
+    go : Dec (7 < length v) → (leb 1 (length v) and leb (length v) 7 and is_some (gather v).number) ≡ (leb 1 (length v) and leb (length v) 7 and all is_digit v)
     go (yes l) =
         let e = and_false (leb 1 (length v)) (leb (length v) 7) (lt-leb (length v) 7 l) in
-        ap (λ (x : Bool). x and (gather v).digits) e ∙ sym (ap (λ (x : Bool). x and all is_digit v) e)
+        ap (λ (x : Bool). x and is_some (gather v).number) e ∙ sym (ap (λ (x : Bool). x and all is_digit v) e)
     go (no l) = ap (λ (x : Bool). leb 1 (length v) and leb (length v) 7 and x) (digits_from empty v (omega arith))
 
 digit_more : (n b : ℕ) → n < 4_294_967_296 → 48 ≤ b → b ≤ 57 → with_digit n b ≡ 10 * n + (b - 48)
 digit_more n b h l m = omega arith
+
+one_more : (n b : ℕ) → is_digit b ≡ true → more_digits (Some n) b ≡ Some (with_digit n b)
+unfolding more_digits
+one_more n b h = rw h
 
 digit_range : (b : ℕ) → is_digit b ≡ true → (48 ≤ b) × (b ≤ 57)
 unfolding is_digit
@@ -135,28 +147,28 @@ digit_range b h = (leb-true 48 b (and_left _ _ h), leb-true b 57 (and_right _ _ 
 
 -- The digits say the number.
 number_from_lem :
-    (k : ℕ) (u : Value) (v : List ℕ) → u.number < 10 ^ k → k + length v ≤ 8 → u.length + length v ≤ 16 → all is_digit v ≡ true
-    → (gather_from u v).number ≡ number_from u.number v
+    (k n : ℕ) (u : Value) (v : List ℕ) → u.number ≡ Some n → n < 10 ^ k → k + length v ≤ 8 → u.length + length v ≤ 16 → all is_digit v ≡ true
+    → (gather_from u v).number ≡ Some (number_from n v)
 unfolding gather_from number_from all
-number_from_lem k u [] h m l d = refl
-number_from_lem k u (b ∷ bs) h m l d =
-    let n = u.number in
+number_from_lem k n u [] s h m l d = s
+number_from_lem k n u (b ∷ bs) s h m l d =
     let k8 : k ≤ 8 = omega arith in
     let few : 10 ^ k ≤ 10 ^ 8 = pow-le-pow_right {n = 10} (omega arith) {i = k} {j = 8} k8 in
-    let r = digit_range b (and_left _ _ d) in
+    let digit : is_digit b ≡ true = and_left _ _ d in
+    let r = digit_range b digit in
     let r0 : 48 ≤ b = r.0 in
     let r1 : b ≤ 57 = r.1 in
     let big : n < 4_294_967_296 = omega (arith, h, few) in
-    let e : (added u b).number ≡ 10 * n + (b - 48) = added_number u b (omega arith) ∙ digit_more n b big r0 r1 in
-    let next : (added u b).number < 10 ^ suc k = omega (arith, e, h, r0, r1) in
-    number_from_lem (suc k) (added u b) bs next (omega arith) (omega (arith, added_length u b (omega arith))) (and_right _ _ d)
-    ∙ ap (λ (x : ℕ). number_from x bs) e
+    let next : 10 * n + (b - 48) < 10 ^ suc k = omega (arith, h, r0, r1) in
+    number_from_lem (suc k) (10 * n + (b - 48)) (added u b) bs
+    (added_number u b (omega arith) ∙ ap (λ o. more_digits o b) s ∙ one_more n b digit ∙ ap Some (digit_more n b big r0 r1)) next (omega arith)
+    (omega (arith, added_length u b (omega arith))) (and_right _ _ d)
 
-pub number_says : (v : List ℕ) → is_number v ≡ true → (gather v).number ≡ number_of v
+pub number_says : (v : List ℕ) → is_number v ≡ true → (gather v).number ≡ Some (number_of v)
 unfolding is_number
 number_says v h =
     let l : length v ≤ 7 = leb-true _ _ (and_right _ _ (and_left _ _ h)) in
-    number_from_lem 0 empty v (omega arith) (omega arith) (omega arith) (and_right _ _ h)
+    number_from_lem 0 0 empty v refl (omega arith) (omega arith) (omega arith) (and_right _ _ h)
 
 -- ---- two values
 

@@ -12,6 +12,7 @@ use entries::{Fault, Refusal, judge};
 const LEAST_ROOM: usize = 54446;
 
 // A refusal's number with its list (1 sites, 2 zones, 0 neither) and row, from 1; or 0, and the length of the file.
+// The C interface hands it over as it is, so that refusal and list are numbers in it and no enums.
 #[repr(C)]
 #[derive(Clone, Copy)]
 pub struct Mapped {
@@ -32,6 +33,7 @@ fn refused(refusal: u32, list: u32, row: usize) -> Mapped
     }
 }
 
+// The number of a fault for the C interface.
 // "51 malformed row, 52 number out of its range, 53 repeated code or zone, 54 unlisted zone, 55 zone without sites"
 fn number(fault: Fault) -> u32
     ensures { result ≡ fault_number fault }
@@ -64,7 +66,7 @@ pub extern "C" fn planner_map_csv(sites: &[u8], zones: &[u8], plan: &mut [u8]) -
             refusal: 0,
             list: 0,
             row: 0,
-            length: put_plan(plan, sites, n.sites, zones, n.zones),
+            length: put_plan(plan, sites, zones, n),
         },
     }
 }

@@ -3,10 +3,10 @@
 use Prim.Native.Nat.{ℕ, suc, ◌+◌, ◌*◌, ◌-◌, ◌≤◌, ◌<◌}
 use native.Mathlib.Omega.{arith}
 use mathlib.Core.Path.{◌≡◌, refl, sym, ap, ◌∙◌, subst}
-use mathlib.Core.Bool.{Bool, true, false, cond}
+use mathlib.Core.Bool.{Bool, true, false, not, cond}
 use mathlib.Core.List.{List, [], ◌∷◌, ◌++◌}
 use lib.ListN.{length, replicate, length-append}
-use borrow.Author.Tests.{ne_eqb}
+use lib.Dec.{eqb}
 use borrow.Rule.Slice.PartMut.{mid_of, put_mid}
 use Rattle.plpb.specs.Lists.{◌and◌, keep, count, row}
 use Rattle.plpb.proofs.Lists.{count_le, length_row}
@@ -17,33 +17,41 @@ use Rattle.words.proofs.Writes.{no_words, words_behind, length_front, front_none
 use Rattle.format.specs.Tables.{pad_to}
 use Rattle.tables.proofs.Filled.{rest_lent}
 use Rattle.squeezed.proofs.Numbers.{keep_pass, keep_fail}
+use Rattle.squeezed.specs.Squeezed.{Becomes, locked, renumbered}
+use Rattle.fates.specs.Codes.{decode, decoded}
 use Rattle.numbering.specs.Numbered.{is_number, list_one}
 
 -- ---- one variable, by its code
 
-module _ (m : List ℕ) (x : ℕ) {c : ℕ} (code : c ≡ word_at m x) where
-  list_off : c ≡ 513 → list_one m x ≡ []
-  unfolding list_one is_number ◌and◌
-  list_off e = rw (sym code ∙ e)
+abbrev is_new : Becomes → Bool
+is_new (locked v) = false
+is_new (renumbered k) = true
 
-  list_on : c ≡ 514 → list_one m x ≡ []
-  unfolding list_one is_number ◌and◌
-  list_on e = rw (sym code ∙ e)
+number_by : (w : ℕ) → is_number w ≡ is_new (decode w)
+unfolding is_number decode ◌and◌
+number_by w = go (eqb w 513) (eqb w 514)
+  where
+    go : (a b : Bool) → (not a and not b) ≡ is_new (cond a (locked false) (cond b (locked true) (renumbered w)))
+    go true b = refl
+    go false true = refl
+    go false false = refl
 
-  list_new : (c ≡ 513 → ⊥) → (c ≡ 514 → ⊥) → x ∷ [] ≡ list_one m x
-  unfolding list_one is_number ◌and◌
-  list_new h k = rw (← code, ne_eqb c 513 h, ne_eqb c 514 k)
+module _ (m : List ℕ) (x : ℕ) where
+  list_none : {v : Bool} → decoded m x ≡ locked v → list_one m x ≡ []
+  unfolding list_one decoded
+  list_none h = rw (number_by (word_at m x), h)
 
-  pub listed_off : (i : ℕ) (l : List ℕ) → c ≡ 513 → (l ≡ put_words i (list_one m x) l) × (i ≡ i + length (list_one m x))
-  listed_off i l e = let n = list_off e in (sym (no_words i l) ∙ ap (λ ws. put_words i ws l) (sym n), omega (arith, ap length n))
+  list_new : {k : ℕ} → decoded m x ≡ renumbered k → x ∷ [] ≡ list_one m x
+  unfolding list_one decoded
+  list_new h = rw (number_by (word_at m x), h)
 
-  pub listed_on : (i : ℕ) (l : List ℕ) → c ≡ 514 → (l ≡ put_words i (list_one m x) l) × (i ≡ i + length (list_one m x))
-  listed_on i l e = let n = list_on e in (sym (no_words i l) ∙ ap (λ ws. put_words i ws l) (sym n), omega (arith, ap length n))
+  pub listed_none : (i : ℕ) (l : List ℕ) {v : Bool} → decoded m x ≡ locked v → (l ≡ put_words i (list_one m x) l) × (i ≡ i + length (list_one m x))
+  listed_none i l e = let n = list_none e in (sym (no_words i l) ∙ ap (λ ws. put_words i ws l) (sym n), omega (arith, ap length n))
 
-  pub listed_new : (i : ℕ) (l : List ℕ) {y : ℕ} {t : List ℕ} → (c ≡ 513 → ⊥) → (c ≡ 514 → ⊥) → y ≡ x → t ≡ put_words i (y ∷ []) l
+  pub listed_new : (i : ℕ) (l : List ℕ) {k y : ℕ} {t : List ℕ} → decoded m x ≡ renumbered k → y ≡ x → t ≡ put_words i (y ∷ []) l
       → (t ≡ put_words i (list_one m x) l) × (i + 1 ≡ i + length (list_one m x))
-  listed_new i l h k e p =
-      let n = list_new h k in
+  listed_new i l h e p =
+      let n = list_new h in
       (p ∙ ap (λ v. put_words i (v ∷ []) l) e ∙ ap (λ ws. put_words i ws l) n, omega (arith, ap length n))
 
 -- ---- one after the other

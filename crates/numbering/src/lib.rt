@@ -12,6 +12,8 @@ ghost use Rattle.squeezed.specs.Squeezed.{becomes, unlocked};
 ghost use Rattle.fates.specs.Codes.{decoded, map_size};
 ghost use Rattle.numbering.specs.Numbered.{code_by, Numbered, is_number, list_one};
 
+use fates::map::{Code, Map};
+
 // Counts a variable, by the word of its lock: 0 for unlocked, 1 for locked at 0, 2 for locked at 1.
 fn counted(lock: u32, before: u32) -> u32
     requires { before < 4_294_967_295 }
@@ -29,6 +31,8 @@ fn code_of(lock: u32, number: u32) -> u32
     }
     if lock == 1 { fates::OFF } else { fates::ON }
 }
+
+// How many variables there are goes with a map, since a map has a word for each number that there may be.
 
 // Turns the words of the locks of n variables into their codes; it answers how many are unlocked.
 fn number(map: &mut [u8], n: usize) -> u32
@@ -57,26 +61,25 @@ pub fn fill(file: &[u8], map: &mut [u8]) -> u32
 }
 
 // Writes a variable at an index of a list if it has a new number; it answers the next index.
-fn list_one(map: &[u8], x: usize, list: &mut [u8], i: usize) -> usize
-    requires { (x ≤ max_variables) × (map_size ≤ length map.now) × (4 * i + 4 ≤ length list.old) }
-    ensures { (list.new ≡ put_words i (list_one map.now x) list.old)
-        × (result ≡ i + length (list_one map.now x)) }
+fn list_one(map: Map<'_>, x: usize, list: &mut [u8], i: usize) -> usize
+    requires { (x ≤ max_variables) × (4 * i + 4 ≤ length list.old) }
+    ensures { (list.new ≡ put_words i (list_one map.entry.words.now x) list.old)
+        × (result ≡ i + length (list_one map.entry.words.now x)) }
 {
-    let code = words::word(map, x);
-    if code == fates::OFF {
-        return i;
+    match map.code(x) {
+        Code::Off => i,
+        Code::On => i,
+        Code::New(_) => {
+            words::write_word(list, i, words::narrow(x));
+            i + 1
+        }
     }
-    if code == fates::ON {
-        return i;
-    }
-    words::write_word(list, i, words::narrow(x));
-    i + 1
 }
 
-// "in a lent list, which old variable each new one was, 0 in unused places"
-pub fn list_old(map: &[u8], n: usize, list: &mut [u8])
-    requires { (n ≤ max_variables) × (map_size ≤ length map.now) × (length list.old ≡ 2_048) }
-    ensures { list.new ≡ word_bytes (pad_to 512 (keep (λ x. is_number (word_at map.now x)) (row 1 n))) }
+// "in a lent list, which old variable each new one was, 0 in unused places". Their number goes with the map here too.
+pub fn list_old(map: Map<'_>, n: usize, list: &mut [u8])
+    requires { (n ≤ max_variables) × (length list.old ≡ 2_048) }
+    ensures { list.new ≡ word_bytes (pad_to 512 (keep (λ x. is_number (word_at map.entry.words.now x)) (row 1 n))) }
 {
     let mut i = 0;
     for x in 1..n + 1 {

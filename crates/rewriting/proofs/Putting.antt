@@ -1,24 +1,19 @@
 -- Bytes written over those of a buffer: one write behind another, and what stands behind what was written.
 -- Assumes nothing.
-use Prim.Native.Nat.{ℕ, suc, ◌+◌, ◌-◌, ◌/◌, ◌%◌, ◌≤◌, ◌<◌}
+use Prim.Native.Nat.{ℕ, ◌+◌, ◌-◌, ◌≤◌, ◌<◌}
 use native.Mathlib.Omega.{arith}
 use mathlib.Core.Path.{◌≡◌, refl, sym, ap, ap₂, ◌∙◌}
 use mathlib.Core.List.{List, [], ◌∷◌, ◌++◌, append_assoc}
 use lib.ListN.{length, take, drop, set, length-append, take-append-drop}
 use lib.Seq.{drop-drop, drop_at, length-take-le, take-append-le, take-take}
-use Rattle.words.specs.Words.{num_at, bytes_of}
+use Rattle.words.specs.Words.{num_at}
 use Rattle.words.specs.Writes.{front, put}
 use Rattle.words.proofs.Words.{num_at_drop}
 use Rattle.words.proofs.Writes.{put_sets, put_put, length_put}
 
--- One and two bytes stored.
+-- A byte stored.
 pub one_stored : (s : List ℕ) (at b : ℕ) → at < length s → set s at b ≡ put at (b ∷ []) s
 one_stored s at b h = put_sets (b ∷ []) s at (omega arith)
-
-pub two_stored : (s : List ℕ) (at v : ℕ) {a b : ℕ} → at + 2 ≤ length s → a ≡ v % 256 → b ≡ v / 256 % 256
-    → set (set s at a) (suc at) b ≡ put at (bytes_of 2 v) s
-unfolding bytes_of
-two_stored s at v {a} {b} h p q = put_sets (a ∷ b ∷ []) s at h ∙ ap₂ (λ x y. put at (x ∷ y ∷ []) s) p q
 
 -- A write behind another joins it.
 pub put_on : (s : List ℕ) (at : ℕ) (xs ys : List ℕ) {t u : List ℕ} {to : ℕ} → at + length xs ≤ length s → t ≡ put at xs s → to ≡ at + length xs → u ≡ put to ys t

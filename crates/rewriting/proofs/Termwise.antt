@@ -11,7 +11,7 @@ use lib.ListN.{length, drop, length-append}
 use lib.Seq.{drop-drop}
 use Rattle.plpb.specs.Lists.{all, concat}
 use Rattle.plpb.specs.Plan.{Term}
-use Rattle.words.specs.Words.{num_at, word_at, bytes_of, signed}
+use Rattle.words.specs.Words.{num_at, bytes_of, signed}
 use Rattle.words.specs.Writes.{put}
 use Rattle.words.proofs.Words.{length_bytes_of, unsigned_signed}
 use Rattle.format.specs.File.{term_at, terms_at}
@@ -20,7 +20,7 @@ use Rattle.format.proofs.Bools.{and_right}
 use Rattle.format.proofs.WrittenRule.{length_terms}
 use Rattle.squeezed.specs.Squeezed.{Becomes, locked, renumbered, stays, terms_left}
 use Rattle.squeezed.proofs.Lawful.{fewer_terms}
-use Rattle.fates.specs.Codes.{decode, decoded}
+use Rattle.fates.specs.Codes.{decoded}
 use Rattle.fates.specs.Sums.{small_terms}
 use Rattle.fates.proofs.Parts.{small_at}
 use Rattle.rewriting.specs.Written.{terms_written}
@@ -32,22 +32,24 @@ module _ (s map : List ℕ) (at : ℕ) where
   abbrev written : List ℕ
   written = terms_written (decoded map) (term_at s at ∷ [])
 
-  none_written : {c : ℕ} {v : Bool} → c ≡ word_at map (num_at 2 s at) → decode c ≡ locked v → written ≡ []
-  unfolding terms_written terms_left decoded term_at stays concat
-  none_written e h = rw (← e, h)
+  abbrev code : Becomes
+  code = decoded map (num_at 2 s at)
 
-  one_written : {c w : ℕ} → c ≡ word_at map (num_at 2 s at) → decode c ≡ renumbered c → w ≡ num_at 4 s (at + 2) → w < 4_294_967_296
-      → bytes_of 2 c ++ bytes_of 4 w ≡ written
-  unfolding terms_written terms_left decoded term_at stays concat term_bytes
-  one_written {c} {w} e h d l = rw (← e, h, ← d, unsigned_signed w l) (sym (append-nil (bytes_of 2 c ++ bytes_of 4 w)))
+  none_written : {v : Bool} → code ≡ locked v → written ≡ []
+  unfolding terms_written terms_left term_at stays concat
+  none_written h = rw h
 
-  pub term_dropped : (to : ℕ) {c : ℕ} {v : Bool} → c ≡ word_at map (num_at 2 s at) → decode c ≡ locked v → (s ≡ put to written s) × (to ≡ to + length written)
-  term_dropped to e h = let n = none_written e h in rw n (sym (put_none to s), omega arith)
+  one_written : {c w : ℕ} → code ≡ renumbered c → w ≡ num_at 4 s (at + 2) → w < 4_294_967_296 → bytes_of 2 c ++ bytes_of 4 w ≡ written
+  unfolding terms_written terms_left term_at stays concat term_bytes
+  one_written {c} {w} h d l = rw (h, ← d, unsigned_signed w l) (sym (append-nil (bytes_of 2 c ++ bytes_of 4 w)))
 
-  pub term_kept : (to : ℕ) {c w : ℕ} {t : List ℕ} → c ≡ word_at map (num_at 2 s at) → decode c ≡ renumbered c → w ≡ num_at 4 s (at + 2) → w < 4_294_967_296
+  pub term_dropped : (to : ℕ) {v : Bool} → code ≡ locked v → (s ≡ put to written s) × (to ≡ to + length written)
+  term_dropped to h = let n = none_written h in rw n (sym (put_none to s), omega arith)
+
+  pub term_kept : (to : ℕ) {c w : ℕ} {t : List ℕ} → code ≡ renumbered c → w ≡ num_at 4 s (at + 2) → w < 4_294_967_296
       → t ≡ put to (bytes_of 2 c ++ bytes_of 4 w) s → (t ≡ put to written s) × (to + 6 ≡ to + length written)
-  term_kept to {c} {w} e h d l p =
-      let is = one_written e h d l in
+  term_kept to {c} {w} h d l p =
+      let is = one_written h d l in
       let long = length-append (bytes_of 2 c) (bytes_of 4 w) in
       (p ∙ ap (λ bs. put to bs s) is, omega (arith, ap length is, long, length_bytes_of 2 c, length_bytes_of 4 w))
 

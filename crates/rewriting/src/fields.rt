@@ -1,22 +1,7 @@
 // The numbers and heads of fields, written at a place.
-ghost use Rattle.std.specs.Prelude.{◌≡◌, [], ◌∷◌, ◌++◌, ◌+◌, ◌%◌, ◌≤◌, ◌<◌, length};
+ghost use Rattle.std.specs.Prelude.{◌≡◌, [], ◌∷◌, ◌++◌, ◌+◌, ◌≤◌, ◌<◌, length};
 ghost use Rattle.words.specs.Words.{bytes_of};
 ghost use Rattle.words.specs.Writes.{put};
-
-fn low_byte(v: u32) -> u8
-    ensures { result ≡ v % 256 }
-{
-    (v % 256) as u8
-}
-
-// Writes a number's 2 bytes at a place.
-pub fn write_u16(s: &mut [u8], at: usize, v: u32)
-    requires { at + 2 ≤ length s.old }
-    ensures { s.new ≡ put at (bytes_of 2 v) s.old }
-{
-    s[at] = low_byte(v);
-    s[at + 1] = low_byte(v / 256);
-}
 
 fn put_byte(s: &mut [u8], at: usize, b: u8)
     requires { at < length s.old }
@@ -26,16 +11,16 @@ fn put_byte(s: &mut [u8], at: usize, b: u8)
 }
 
 // "Fields: a one-byte tag, a two-byte length, the body."
-pub fn put_head(s: &mut [u8], at: usize, tag: u8, size: u32)
+pub fn put_head(s: &mut [u8], at: usize, tag: u8, size: usize)
     requires { at + 3 ≤ length s.old }
     ensures { s.new ≡ put at (tag ∷ bytes_of 2 size) s.old }
 {
     put_byte(s, at, tag);
-    write_u16(s, at + 1, size);
+    words::write_u16(s, at + 1, size);
 }
 
 // A rule's head.
-fn put_rule_head(s: &mut [u8], at: usize, size: u32, mode: u8)
+fn put_rule_head(s: &mut [u8], at: usize, size: usize, mode: u8)
     requires { at + 4 ≤ length s.old }
     ensures { s.new ≡ put at (4 ∷ bytes_of 2 size ++ (mode ∷ [])) s.old }
 {
@@ -52,7 +37,7 @@ fn put_two(s: &mut [u8], at: usize, lower: u32, upper: u32)
 }
 
 // A rule's head and the first of its body: mode and bounds.
-pub fn put_bounds(s: &mut [u8], at: usize, size: u32, mode: u8, lower: u32, upper: u32)
+pub fn put_bounds(s: &mut [u8], at: usize, size: usize, mode: u8, lower: u32, upper: u32)
     requires { at + 12 ≤ length s.old }
     ensures { s.new ≡ put at (4 ∷ bytes_of 2 size ++ (mode ∷ []) ++ (bytes_of 4 lower ++ bytes_of 4 upper)) s.old }
 {
@@ -65,6 +50,6 @@ pub fn put_term(s: &mut [u8], at: usize, variable: u32, weight: u32)
     requires { at + 6 ≤ length s.old }
     ensures { s.new ≡ put at (bytes_of 2 variable ++ bytes_of 4 weight) s.old }
 {
-    write_u16(s, at, variable);
+    words::write_u16(s, at, variable as usize);
     words::write_u32(s, at + 2, weight);
 }

@@ -4,7 +4,7 @@ ghost use Rattle.plpb.specs.Plan.{Clause};
 ghost use Rattle.words.specs.Words.{bytes_of, unsigned};
 ghost use Rattle.format.specs.File.{field_terms, rule_at};
 ghost use Rattle.format.specs.Writer.{field, mode, bound_number};
-ghost use Rattle.fates.specs.Codes.{decoded, map_size};
+ghost use Rattle.fates.specs.Maps.{codes};
 ghost use Rattle.fates.specs.Rules.{as_bound, RuleFits};
 ghost use Rattle.fates.specs.Rest.{Rest, Reads, Begins};
 ghost use Rattle.rewriting.specs.Written.{terms_written, rules_written};
@@ -12,9 +12,10 @@ ghost use Rattle.rewriting.specs.Moved.{Laid, RulesMoved, ClauseMoved, ClausesMo
 
 use crate::{fields, terms};
 use fates::bounds::Bounds;
+use fates::map::Map;
 use fates::{clause, rule};
 
-// "Mode 1 is lower only, 2 upper only, 3 both"
+// The byte that the file has for it: "Mode 1 is lower only, 2 upper only, 3 both"
 fn mode(left: Bounds) -> u8
     ensures { result ≡ mode (as_bound left.lower) (as_bound left.upper) }
 {
@@ -33,23 +34,24 @@ fn number(bound: Option<i32>) -> u32
     words::to_unsigned(bound.unwrap_or(0))
 }
 
+// As with terms, file, places and map stay parameters: the file is written between the reads.
+
 // Writes a rule with the bounds and terms that are left of another at a place; it answers the place behind.
-fn put_rule(file: &mut [u8], at: usize, map: &[u8], to: usize, left: Bounds) -> usize
-    requires { RuleFits file.old at × (to ≤ at) × (map_size ≤ length map.now) }
+fn put_rule(file: &mut [u8], at: usize, map: Map<'_>, to: usize, left: Bounds) -> usize
+    requires { RuleFits file.old at × (to ≤ at) }
     ensures { Laid file.old to
         (field 4 (mode (as_bound left.lower) (as_bound left.upper)
         ∷ (bytes_of 4 (unsigned (bound_number (as_bound left.lower)))
         ++ (bytes_of 4 (unsigned (bound_number (as_bound left.upper)))
-        ++ terms_written (decoded map.now) (field_terms file.old at)))))
+        ++ terms_written (codes map.entry) (field_terms file.old at)))))
         file.new result }
 {
     let count = tables::fields::terms_of(file, at);
     let end = terms::keep_terms(file, at + 12, count, map, to + 12);
-    let size = words::narrow(end - to - 3);
     fields::put_bounds(
         file,
         to,
-        size,
+        end - to - 3,
         mode(left),
         number(left.lower),
         number(left.upper),
@@ -58,9 +60,9 @@ fn put_rule(file: &mut [u8], at: usize, map: &[u8], to: usize, left: Bounds) -> 
 }
 
 // Writes what is left of a rule, if anything is.
-fn keep_rule(file: &mut [u8], at: usize, map: &[u8], to: usize) -> usize
-    requires { RuleFits file.old at × (to ≤ at) × (map_size ≤ length map.now) }
-    ensures { Laid file.old to (rules_written (decoded map.now) (rule_at file.old at ∷ []))
+fn keep_rule(file: &mut [u8], at: usize, map: Map<'_>, to: usize) -> usize
+    requires { RuleFits file.old at × (to ≤ at) }
+    ensures { Laid file.old to (rules_written (codes map.entry) (rule_at file.old at ∷ []))
         file.new result }
 {
     match rule::fate(file, at, map) {
@@ -76,9 +78,9 @@ pub struct Places {
     pub to: usize,
 }
 
-fn keep_rules(file: &mut [u8], from: usize, map: &[u8], to: usize) -> Places
-    requires { Reads file.old from × (to ≤ from) × (map_size ≤ length map.now) }
-    ensures { RulesMoved (decoded map.now) file.old from to file.new result.at result.to }
+fn keep_rules(file: &mut [u8], from: usize, map: Map<'_>, to: usize) -> Places
+    requires { Reads file.old from × (to ≤ from) }
+    ensures { RulesMoved (codes map.entry) file.old from to file.new result.at result.to }
 {
     let mut at = from;
     let mut end = to;
@@ -91,10 +93,9 @@ fn keep_rules(file: &mut [u8], from: usize, map: &[u8], to: usize) -> Places
 }
 
 // Writes what is left of a clause, if it is not dropped.
-fn keep_clause(file: &mut [u8], at: usize, map: &[u8], to: usize) -> Places
-    requires { ((n : ℕ) × (c : Clause) × (cs : List Clause) × Rest n file.old at [] (c ∷ cs)) × (to ≤ at)
-        × (map_size ≤ length map.now) }
-    ensures { ClauseMoved (decoded map.now) file.old at to file.new result.at result.to }
+fn keep_clause(file: &mut [u8], at: usize, map: Map<'_>, to: usize) -> Places
+    requires { ((n : ℕ) × (c : Clause) × (cs : List Clause) × Rest n file.old at [] (c ∷ cs)) × (to ≤ at) }
+    ensures { ClauseMoved (codes map.entry) file.old at to file.new result.at result.to }
 {
     let run = clause::run_rules(file, at + 3, map);
     if run.met {
@@ -105,9 +106,9 @@ fn keep_clause(file: &mut [u8], at: usize, map: &[u8], to: usize) -> Places
 }
 
 // Writes what is left of all clauses; it answers the place behind.
-pub fn keep_clauses(file: &mut [u8], from: usize, map: &[u8], to: usize) -> usize
-    requires { Begins file.old from × (to ≤ from) × (map_size ≤ length map.now) }
-    ensures { ClausesMoved (decoded map.now) file.old from to file.new result }
+pub fn keep_clauses(file: &mut [u8], from: usize, map: Map<'_>, to: usize) -> usize
+    requires { Begins file.old from × (to ≤ from) }
+    ensures { ClausesMoved (codes map.entry) file.old from to file.new result }
 {
     let mut at = from;
     let mut end = to;

@@ -4,13 +4,14 @@ use Prim.Native.Nat.{ℕ, zero, suc, ◌+◌, ◌-◌, ◌≤◌, ◌<◌}
 use native.Mathlib.Omega.{arith}
 use native.Mathlib.Nat.{le_refl}
 use native.Mathlib.Decide.{dec_lt}
+use Rattle.std.proofs.Common.{Bor}
 use native.Mathlib.Numerals.{add-one}
 use mathlib.Core.Path.{◌≡◌, refl, sym, ap, ◌∙◌}
 use mathlib.Core.Bool.{Bool, true, false, cond}
 use mathlib.Core.List.{List, [], ◌∷◌}
 use mathlib.Core.Option.{Option, none}
 use lib.Dec.{eqb}
-use lib.ListN.{length, get_or, take, drop, length-drop, drop_of_length-le}
+use lib.ListN.{length, get_or, take, drop, length-drop}
 use lib.Seq.{drop-cons, take-suc}
 use Rattle.plpb.specs.Lists.{◌and◌, ◌or◌, any}
 use Rattle.plpb.proofs.Lists.{or_true, any_append}
@@ -151,14 +152,10 @@ pub rows_short : (k : ℕ) (s : List ℕ) → length (rows_of k s) ≤ length s
 unfolding rows_of
 rows_short k s = rows_few k (length s) s
 
--- ---- the code's place in a list: the rows from there on are those from the k-th on
+-- ---- the code's place in a list: the rows of what is left are those from the k-th on
 
-pub record Place (four : Bool) (s : List ℕ) (k at : ℕ) : Type 0 where
-  pub within : at ≤ length s
-  pub rows : rows_of (columns four) (drop at s) ≡ drop k (rows_of (columns four) s)
-
-pub place_first : (four : Bool) (s : List ℕ) → Place four s 0 0
-place_first four s = record { within = omega arith; rows = refl }
+abbrev pub Place : Bool → List ℕ → ℕ → List ℕ → Type 0
+Place four s k t = rows_of (columns four) t ≡ drop k (rows_of (columns four) s)
 
 dropped : {A : Type 0} (d : A) (xs : List A) (k : ℕ) (y : A) (ys : List A) → drop k xs ≡ y ∷ ys → (k < length xs) × (get_or xs k d ≡ y) × (drop (k + 1) xs ≡ ys)
 dropped d xs k y ys e =
@@ -167,36 +164,31 @@ dropped d xs k y ys e =
     let c : get_or xs k d ∷ drop (suc k) xs ≡ y ∷ ys = sym (drop-cons xs k d l) ∙ e in
     (l, cc, ap (λ (j : ℕ). drop j xs) (add-one k) ∙ cc)
 
-module _ (four : Bool) (s : List ℕ) (k at : ℕ) (p : Place four s k at) where
+module _ (four : Bool) (s : List ℕ) (k : ℕ) (t : List ℕ) (p : Place four s k t) where
   abbrev all : List (Option Record)
   all = rows_of (columns four) s
 
-  -- Where a row is left, bytes are.
-  pub more_bytes : k < length all → at < length s
-  more_bytes l = go (dec_lt at (length s))
-    where
-      go : Dec (at < length s) → at < length s
-      go (yes h) = h
-      go (no h) =
-          let e : drop at s ≡ [] = drop_of_length-le s {i = at} (omega arith) in
-          let z : drop k all ≡ [] = sym p.rows ∙ ap (rows_of (columns four)) e ∙ no_row_lem (columns four) in
-          let n : length all - k ≡ 0 = sym (length-drop k all) ∙ ap length z in
-          absurd (omega arith)
-
   -- Where no byte is left, no row is.
-  pub no_bytes_lem : length s ≤ at → length all ≤ k
-  no_bytes_lem h =
-      let e : drop at s ≡ [] = drop_of_length-le s h in
-      let z : drop k all ≡ [] = sym p.rows ∙ ap (rows_of (columns four)) e ∙ no_row_lem (columns four) in
-      let n : length all - k ≡ 0 = sym (length-drop k all) ∙ ap length z in
-      omega arith
+  pub no_bytes_lem : length t < 1 → length all ≤ k
+  no_bytes_lem h = go t p h
+    where
+      go : (u : List ℕ) → Place four s k u → length u < 1 → length all ≤ k
+      go [] e h =
+          let n : length all - k ≡ 0 = sym (length-drop k all) ∙ ap length (sym e ∙ no_row_lem (columns four)) in
+          omega arith
+      go (b ∷ bs) e h = absurd (omega arith)
 
-  module _ (r : RowT) (l : at < length s) (h : ReadsRow s (row_of (columns four) (drop at s)) r) where
-    here : drop k all ≡ values_in (row_of (columns four) (drop at s)) ∷ rows_of (columns four) (drop r.next s)
-    here =
-        sym p.rows
-        ∙ next_row four (drop at s) (omega (arith, length-drop at s))
-        ∙ ap (λ (t : List ℕ). values_in (row_of (columns four) (drop at s)) ∷ rows_of (columns four) t) h.rest_is
+  -- Where a row is left, bytes are.
+  pub more_bytes : k < length all → 0 < length t
+  more_bytes l = go (dec_lt 0 (length t))
+    where
+      go : Dec (0 < length t) → 0 < length t
+      go (yes h) = h
+      go (no h) = absurd (omega (arith, no_bytes_lem (omega arith)))
+
+  module _ (r : RowT) (l : 0 < length t) (h : ReadsRow (row_of (columns four) t) r) where
+    here : drop k all ≡ values_in (row_of (columns four) t) ∷ rows_of (columns four) r.rest.now
+    here = sym p ∙ next_row four t l ∙ ap (λ u. values_in (row_of (columns four) t) ∷ rows_of (columns four) u) h.rest_is
 
     -- The row read is the k-th, and behind it stands the next.
     pub is_row : k < length all
@@ -205,17 +197,14 @@ module _ (four : Bool) (s : List ℕ) (k at : ℕ) (p : Place four s k at) where
     pub row_held : Holds (get_or all k none) r
     row_held = rw (dropped none all k _ _ here).1 h.holds
 
-    pub place_next : Place four s (k + 1) r.next
-    place_next = record { within = h.within; rows = sym (dropped none all k _ _ here).2 }
+    pub place_next : Place four s (k + 1) r.rest.now
+    place_next = sym (dropped none all k _ _ here).2
 
   -- A malformed row is the k-th too, and the last.
-  module _ (l : at < length s) (w : row_of (columns four) (drop at s) ≡ malformed) where
+  module _ (l : 0 < length t) (w : row_of (columns four) t ≡ malformed) where
     none_here : drop k all ≡ none ∷ []
     unfolding values_in behind_row
-    none_here =
-        let e : drop k all ≡ values_in (row_of (columns four) (drop at s)) ∷ rows_of (columns four) (behind_row (row_of (columns four) (drop at s))) =
-        sym p.rows ∙ next_row four (drop at s) (omega (arith, length-drop at s)) in
-        e ∙ rw (w, no_row_lem (columns four))
+    none_here = sym p ∙ next_row four t l ∙ rw (w, no_row_lem (columns four))
 
     pub malformed_last : (k < length all) × (get_or all k none ≡ none) × (length all ≤ k + 1)
     malformed_last =
@@ -246,33 +235,23 @@ pub still_malformed : (a b : List ℕ) (w : Row) → w ≡ malformed → before_
 unfolding before_row
 still_malformed a b w e = rw e
 
-module _ (s : List ℕ) (a b : List ℕ) (first second third fourth : Value) (next : ℕ) (l : next ≤ length s) where
+module _ (a b : List ℕ) (first second third fourth : Value) (rest : Bor (List ℕ)) where
   abbrev read : RowT
-  read = record { first = first; second = second; third = third; fourth = fourth; next = next }
+  read = record { first = first; second = second; third = third; fourth = fourth; rest = rest }
 
   pub reads_three :
-      (c : List ℕ) {w : Row} → first ≡ gather a → second ≡ gather b → third ≡ gather c → fourth ≡ no_bytes → w ≡ row (c ∷ []) (drop next s)
-      → ReadsRow s (before_row a (before_row b w)) read
+      (c : List ℕ) {w : Row} → first ≡ gather a → second ≡ gather b → third ≡ gather c → fourth ≡ no_bytes → w ≡ row (c ∷ []) rest.now
+      → ReadsRow (before_row a (before_row b w)) read
   unfolding before_row values_in behind_row column_of is_some gather_from
   reads_three c p q r t e =
-      rw e
-      (record {
-        holds = record { formed = refl; first_is = p; second_is = q; third_is = r; fourth_is = t };
-        rest_is = refl;
-        within = l;
-      })
+      rw e (record { holds = record { formed = refl; first_is = p; second_is = q; third_is = r; fourth_is = t }; rest_is = refl })
 
   pub reads_four :
-      (c d : List ℕ) {w : Row} → first ≡ gather a → second ≡ gather b → third ≡ gather c → fourth ≡ gather d → w ≡ row (c ∷ d ∷ []) (drop next s)
-      → ReadsRow s (before_row a (before_row b w)) read
+      (c d : List ℕ) {w : Row} → first ≡ gather a → second ≡ gather b → third ≡ gather c → fourth ≡ gather d → w ≡ row (c ∷ d ∷ []) rest.now
+      → ReadsRow (before_row a (before_row b w)) read
   unfolding before_row values_in behind_row column_of is_some
   reads_four c d p q r t e =
-      rw e
-      (record {
-        holds = record { formed = refl; first_is = p; second_is = q; third_is = r; fourth_is = t };
-        rest_is = refl;
-        within = l;
-      })
+      rw e (record { holds = record { formed = refl; first_is = p; second_is = q; third_is = r; fourth_is = t }; rest_is = refl })
 
 pub two_left : (t v u w : List ℕ) (d : List ℕ) → with_comma (field_of t) ≡ field v u → with_end (field_of u) ≡ field d w → row_of 2 t ≡ row (v ∷ d ∷ []) w
 unfolding before_row

@@ -1,6 +1,6 @@
 -- What the code answers of a row, beside the grammar.
 -- Assumes nothing.
-use Rattle.std.specs.Prelude.{ℕ, ◌≤◌, ◌≡◌, Bool, true, false, cond, List, length, drop, Option as Answer, MatchOption}
+use Rattle.std.specs.Prelude.{ℕ, ◌≡◌, Bool, true, false, cond, Option as Answer, MatchOption}
 use Rattle.std.proofs.Math.Option.{Option, none, some}
 use Rattle.cells.specs.Grammar.{Record, Row, malformed, values_in, behind_row, column_of}
 use Rattle.cells.specs.Values.{gather}
@@ -23,15 +23,14 @@ pub record Holds (x : Option Record) (r : RowT) : Type 0 where
   pub third_is : r.third ≡ gather (column_of 2 x)
   pub fourth_is : r.fourth ≡ gather (column_of 3 x)
 
--- .. and, in a list s, the next row begins where it says.
-pub record ReadsRow (s : List ℕ) (w : Row) (r : RowT) : Type 0 where
+-- .. and what follows it.
+pub record ReadsRow (w : Row) (r : RowT) : Type 0 where
   pub holds : Holds (values_in w) r
-  pub rest_is : behind_row w ≡ drop r.next s
-  pub within : r.next ≤ length s
+  pub rest_is : behind_row w ≡ r.rest.now
 
 -- The code answers this row, or none where it is malformed.
-abbrev pub Reads : List ℕ → Row → Answer RowT → Type 0
-Reads s w r = MatchOption r (w ≡ malformed) (ReadsRow s w)
+abbrev pub Reads : Row → Answer RowT → Type 0
+Reads w r = MatchOption r (w ≡ malformed) (ReadsRow w)
 
 -- A row of the first list, of three columns, or of the second, of four.
 abbrev pub columns : Bool → ℕ

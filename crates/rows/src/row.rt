@@ -1,5 +1,5 @@
 // The rows of a list.
-ghost use Rattle.std.specs.Prelude.{◌≡◌, ◌≤◌, length, take, drop};
+ghost use Rattle.std.specs.Prelude.{◌≡◌, ◌≤◌, length, take};
 ghost use Rattle.std.proofs.Math.Option.{Option};
 ghost use Rattle.plpb.specs.Lists.{any};
 ghost use Rattle.cells.specs.Grammar.{Record, row_of, rows_of, column_of};
@@ -25,51 +25,50 @@ pub enum Column {
     Fourth,
 }
 
-// A row's fields and where the next row begins; the fourth is empty in a row of three.
+// A row's fields and what follows it in the list; the fourth is empty in a row of three.
 #[derive(Clone, Copy)]
-pub struct Row {
+pub struct Row<'a> {
     pub first: Value,
     pub second: Value,
     pub third: Value,
     pub fourth: Value,
-    pub next: usize,
+    pub rest: &'a [u8],
 }
 
 // record = field *(COMMA field), of as many fields as the list has columns. None is a malformed row: it takes the rest of the list.
-pub fn read_row(s: &[u8], at: usize, listed: Listed) -> Option<Row>
-    requires { at ≤ length s.now }
-    ensures { Reads s.now (row_of (columns (is_zones listed)) (drop at s.now)) result }
+pub fn read_row(s: &[u8], listed: Listed) -> Option<Row<'_>>
+    ensures { Reads (row_of (columns (is_zones listed)) s.now) result }
 {
-    let first = lead(s, at)?;
-    let second = lead(s, first.next)?;
+    let first = lead(s)?;
+    let second = lead(first.rest)?;
     match listed {
         Listed::Sites => {
-            let third = last(s, second.next)?;
+            let third = last(second.rest)?;
             Some(Row {
                 first: first.value,
                 second: second.value,
                 third: third.value,
                 fourth: empty(),
-                next: third.next,
+                rest: third.rest,
             })
         }
         Listed::Zones => {
-            let third = lead(s, second.next)?;
-            let fourth = last(s, third.next)?;
+            let third = lead(second.rest)?;
+            let fourth = last(third.rest)?;
             Some(Row {
                 first: first.value,
                 second: second.value,
                 third: third.value,
                 fourth: fourth.value,
-                next: fourth.next,
+                rest: fourth.rest,
             })
         }
     }
 }
 
 // A row's field in a column.
-pub fn field_in(row: Row, which: Column) -> Value
-    ensures { (x : Option Record) → Holds x row → result ≡ gather (column_of (place which) x) }
+pub fn field_in(row: Row<'_>, which: Column) -> Value
+    ensures { (x : Option Record) → Holds x row.entry → result ≡ gather (column_of (place which) x) }
 {
     match which {
         Column::First => row.first,
@@ -84,16 +83,16 @@ pub fn among(s: &[u8], listed: Listed, rows: usize, which: Column, value: Value)
     requires { rows ≤ length (rows_of (columns (is_zones listed)) s.now) }
     ensures { result ≡ any (λ x. same_value (gather (column_of (place which) x)) value) (take rows (rows_of (columns (is_zones listed)) s.now)) }
 {
-    let mut at = 0;
+    let mut rest = s;
     for k in 0..rows {
         // A malformed row is empty in each column, and no row follows it.
-        let Some(row) = read_row(s, at, listed) else {
+        let Some(row) = read_row(rest, listed) else {
             return same(empty(), value);
         };
         if same(field_in(row, which), value) {
             return true;
         }
-        at = row.next;
+        rest = row.rest;
     }
     false
 }

@@ -9,11 +9,13 @@ ghost use Rattle.format.specs.Tables.{pad_to};
 ghost use Rattle.verdict.specs.Answers.{refusal_of, offset_of};
 ghost use Rattle.tables.specs.Places.{Accepts, plan_of_file};
 ghost use Rattle.squeezed.specs.Squeezed.{given_total, clauses_left};
-ghost use Rattle.fates.specs.Codes.{decoded, map_size};
+ghost use Rattle.fates.specs.Codes.{map_size};
+ghost use Rattle.fates.specs.Maps.{codes};
 ghost use Rattle.numbering.specs.Numbered.{is_number};
 ghost use Rattle.squeeze.specs.Calls.{list_size, Answers, fault_number, squeezing, outcome};
 ghost use Rattle.squeeze.specs.Rewritten.{file_bytes};
 
+use fates::map::Map;
 use fates::sums::Part;
 use fates::{clause, sums};
 use verdict::Refusal;
@@ -61,6 +63,7 @@ enum Unfit {
     ClauseLost,
 }
 
+// The number of a fault for the C interface.
 fn number_of(fault: Unfit) -> u32
     ensures { result ≡ fault_number (Some fault) }
 {
@@ -70,11 +73,10 @@ fn number_of(fault: Unfit) -> u32
     }
 }
 
-fn fault(file: &[u8], map: &[u8], variables: u32) -> Option<Unfit>
+fn fault(file: &[u8], map: Map<'_>, variables: u32) -> Option<Unfit>
     requires accepts { Accepts file.now }
-    requires map_size_in_bounds { map_size ≤ length map.now }
     ensures { fault_number result ≡ cond (eqb variables 0) 71
-        (cond (any is_empty (clauses_left (decoded map.now) (plan_of_file file.now).clauses)) 72 0) }
+        (cond (any is_empty (clauses_left (codes map.entry) (plan_of_file file.now).clauses)) 72 0) }
 {
     if variables == 0 {
         return Some(Unfit::AllLocked);
@@ -86,26 +88,26 @@ fn fault(file: &[u8], map: &[u8], variables: u32) -> Option<Unfit>
 }
 
 // "the objective's constant"
-fn constant(file: &[u8], map: &[u8]) -> i64
+fn constant(file: &[u8], map: Map<'_>) -> i64
     requires accepts { Accepts file.now }
-    requires map_size_in_bounds { map_size ≤ length map.now }
-    ensures { result ≡ given_total (decoded map.now) (plan_of_file file.now).objective }
+    ensures { result ≡ given_total (codes map.entry) (plan_of_file file.now).objective }
 {
     let count = words::read_size(file, 6) / 6;
     i64::from(sums::sum(file, 8, count, map, Part::Given))
 }
 
-// Carries a squeeze out.
-fn carry_out(file: &mut [u8], map: &[u8], variables: u32, old: &mut [u8]) -> Squeezed
+// Carries a squeeze out. File and list stay parameters of their own, since both are written, and a struct that held them would have to say in each contract
+// that they are still the same ones.
+fn carry_out(file: &mut [u8], map: Map<'_>, variables: u32, old: &mut [u8]) -> Squeezed
     requires accepts { Accepts file.old }
-    requires map_size_in_bounds { (map_size ≤ length map.now) × (list_size ≤ length old.old) }
+    requires list_len { list_size ≤ length old.old }
     ensures refusal_value { (result.refusal ≡ 0) × (result.offset ≡ 0)
-        × (result.length ≡ length (file_bytes (decoded map.now) variables (plan_of_file file.old)))
-        × (result.constant ≡ given_total (decoded map.now) (plan_of_file file.old).objective) }
+        × (result.length ≡ length (file_bytes (codes map.entry) variables (plan_of_file file.old)))
+        × (result.constant ≡ given_total (codes map.entry) (plan_of_file file.old).objective) }
     ensures file_after { file.new ≡ pad_to (length file.old)
-        (file_bytes (decoded map.now) variables (plan_of_file file.old)) }
+        (file_bytes (codes map.entry) variables (plan_of_file file.old)) }
     ensures after { old.new ≡ front (word_bytes (pad_to 512
-        (keep (λ x. is_number (word_at map.now x)) (row 1 (plan_of_file file.old).variables)))) old.old }
+        (keep (λ x. is_number (word_at map.entry.words.now x)) (row 1 (plan_of_file file.old).variables)))) old.old }
 {
     numbering::list_old(map, words::read_size(file, 3), &mut old[0..LIST]);
     let constant = constant(file, map);
@@ -127,6 +129,7 @@ fn squeeze_by(file: &mut [u8], map: &mut [u8], old: &mut [u8]) -> Squeezed
     ensures after { old.new ≡ (squeezing (plan_of_file file.old) file.old old.old).old }
 {
     let variables = numbering::fill(file, map);
+    let map = Map { words: map };
     match fault(file, map, variables) {
         Some(fault) => refused(number_of(fault), 0),
         None => carry_out(file, map, variables, old),

@@ -4,22 +4,24 @@ ghost use Rattle.words.specs.Writes.{put};
 ghost use Rattle.format.specs.Writer.{field};
 ghost use Rattle.format.specs.Tables.{pad_to};
 ghost use Rattle.tables.specs.Places.{Accepts, plan_of_file};
-ghost use Rattle.fates.specs.Codes.{decoded, map_size};
+ghost use Rattle.fates.specs.Maps.{codes};
 ghost use Rattle.squeeze.specs.Rewritten.{front_bytes, file_bytes};
 
+use fates::map::Map;
 use rewriting::{fields, rules, terms};
 
+// File and map stay parameters of their own: the file is written, and a struct that held it would have to say in each contract that it is still the same one.
+
 // Rewrites the fields before the clauses, the last of them first; it answers the place behind them.
-fn put_front(file: &mut [u8], map: &[u8], variables: u32) -> usize
+fn put_front(file: &mut [u8], map: Map<'_>, variables: u32) -> usize
     requires accepts { Accepts file.old }
-    requires map_size_in_bounds { map_size ≤ length map.now }
-    ensures { (file.new ≡ put 0 (front_bytes (decoded map.now) variables (plan_of_file file.old)) file.old)
-        × (result ≡ length (front_bytes (decoded map.now) variables (plan_of_file file.old))) }
+    ensures { (file.new ≡ put 0 (front_bytes (codes map.entry) variables (plan_of_file file.old)) file.old)
+        × (result ≡ length (front_bytes (codes map.entry) variables (plan_of_file file.old))) }
 {
     let count = words::read_size(file, 6) / 6;
     let end = terms::keep_terms(file, 8, count, map, 8);
-    fields::put_head(file, 5, 2, words::narrow(end - 8));
-    fields::write_u16(file, 3, variables);
+    fields::put_head(file, 5, 2, end - 8);
+    words::write_u16(file, 3, variables as usize);
     fields::put_head(file, 0, 1, 2);
     end
 }
@@ -37,12 +39,11 @@ fn put_end(file: &mut [u8], at: usize) -> usize
 }
 
 // Rewrites the file of a plan; it answers the new length.
-pub fn rewrite(file: &mut [u8], map: &[u8], variables: u32) -> usize
+pub fn rewrite(file: &mut [u8], map: Map<'_>, variables: u32) -> usize
     requires accepts { Accepts file.old }
-    requires map_size_in_bounds { map_size ≤ length map.now }
     ensures { (file.new ≡ pad_to (length file.old)
-        (file_bytes (decoded map.now) variables (plan_of_file file.old)))
-        × (result ≡ length (file_bytes (decoded map.now) variables (plan_of_file file.old))) }
+        (file_bytes (codes map.entry) variables (plan_of_file file.old)))
+        × (result ≡ length (file_bytes (codes map.entry) variables (plan_of_file file.old))) }
 {
     let first = tables::fields::first_clause(file);
     let front = put_front(file, map, variables);

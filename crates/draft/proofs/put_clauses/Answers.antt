@@ -7,7 +7,7 @@ use mathlib.Core.List.{map}
 use lib.ListN.{length, take}
 use lib.Seq.{take-length}
 use Rattle.format.specs.Writer.{clause_fields}
-use Rattle.rows.proofs.Rows.{place_first, more_bytes, row_held, place_next}
+use Rattle.rows.proofs.Rows.{more_bytes, row_held, place_next}
 use Rattle.lists.specs.Lists.{Zone, zone_clause}
 use Rattle.lists.specs.Refusals.{site_of, site_rows, zone_rows, entry_at}
 use Rattle.lists.proofs.RowBytes.{rows_bytes}
@@ -22,7 +22,7 @@ use Rattle.draft.proofs.put_clauses.Goals as goal
 pub loop-k-init : goal.loop-k-init
 loop-k-init c =
     let a = c.args in
-    (place_first _ _, omega arith, refl, wrote_as (sym (clauses_none (site_rows a.sites.list.now) (zone_rows a.zones.now))) (wrote_none _ _))
+    (refl, omega arith, refl, wrote_as (sym (clauses_none (site_rows a.sites.list.now) (zone_rows a.zones.now))) (wrote_none _ _))
 
 pub put_clause-to-requires : goal.put_clause-to-requires
 put_clause-to-requires c =
@@ -38,15 +38,15 @@ loop-k-preserved c =
     let l = c.loop-k-test.true in
     let m : at.k < length (zone_rows s) = omega (arith, l, c.requires.1) in
     let x = entry_at (zone_rows s) at.k in
-    let p = more_bytes true s at.k at.at at.invariant.0 m in
+    let p = more_bytes true s at.k at.rest.now at.invariant.0 m in
     let read = row_read c.unwrap-row.ensures c.read_row.ensures in
-    let held = row_held true s at.k at.at at.invariant.0 _ p read in
+    let held = row_held true s at.k at.rest.now at.invariant.0 _ p read in
     let bytes : OfBytes x = λ which. rows_bytes 4 s at.k which in
     let well = well_own true s c.requires.0 at.k m in
     let zone = zone_same x _ _ _ _ _ _ held.second_is held.third_is held.fourth_is bytes well c.number_of-least.ensures c.number_of-most.ensures c.is_yes.ensures in
     let wrote = c.put_clause-to.ensures _ (zone_named x _ held.first_is bytes well) in
     let few = clauses_fewer S (zone_rows s) at.k in (
-      place_next true s at.k at.at at.invariant.0 _ p read,
+      place_next true s at.k at.rest.now at.invariant.0 _ p read,
       omega arith,
       c.put_clause-to.auto.out ∙ at.invariant.2,
       wrote_as (sym (clauses_next S (zone_rows s) at.k m))
@@ -61,14 +61,11 @@ returns c =
     let e : at.k ≡ length Z = omega (arith, at.invariant.1, c.loop-k-test.false, c.requires.1) in
     wrote_as (ap (λ (j : ℕ). clauses_of S (take j Z)) e ∙ ap (clauses_of S) (take-length Z)) at.invariant.3
 
-pub read_row-requires : goal.read_row-requires
-read_row-requires c = c.loop-k.invariant.0.within
-
 pub shape_of-out : goal.shape_of-out
 shape_of-out c = c.loop-k.invariant.2
 
 pub unwrap-row-requires : goal.unwrap-row-requires
 unwrap-row-requires c =
     let at = c.loop-k in
-    let m = more_bytes true c.args.zones.now at.k at.at at.invariant.0 (omega (arith, c.loop-k-test.true, c.requires.1)) in
+    let m = more_bytes true c.args.zones.now at.k at.rest.now at.invariant.0 (omega (arith, c.loop-k-test.true, c.requires.1)) in
     well_read _ _ _ _ at.invariant.0 m c.requires.0 _ c.read_row.ensures

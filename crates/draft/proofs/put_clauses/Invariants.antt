@@ -11,4 +11,4 @@ use Rattle.draft.proofs.put_clauses.Given as goal
 
 abbrev pub invariant-loop-k : goal.invariant-loop-k
 invariant-loop-k l =
-    Place true l.zones l.k l.at × (l.k ≤ l.m) × (length l.out ≡ length l.initial.out) × Wrote l.from (clauses_of (site_rows l.sites.list.now) (take l.k (zone_rows l.zones))) l.initial.out l.out l.to
+    Place true l.zones l.k l.rest × (l.k ≤ l.m) × (length l.out ≡ length l.initial.out) × Wrote l.from (clauses_of (site_rows l.sites.list.now) (take l.k (zone_rows l.zones))) l.initial.out l.out l.to

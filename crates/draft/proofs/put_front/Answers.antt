@@ -8,7 +8,7 @@ use Rattle.draft.proofs.put_front.Goals as goal
 
 pub put_terms-end-requires : goal.put_terms-end-requires
 put_terms-end-requires c =
-    omega (arith, c.write_u16.auto.out, c.write_head.auto.out, c.requires)
+    omega (arith, c.write_u16.auto.s, c.write_head.auto.out, c.requires)
 
 pub returns : goal.returns
 returns c =
@@ -28,7 +28,7 @@ pub overflow_sub-end : goal.overflow_sub-end
 overflow_sub-end c = omega (arith, c.put_terms-end.ensures.2)
 
 pub write_head-requires-2 : goal.write_head-requires-2
-write_head-requires-2 c = omega (arith, c.put_terms-end.auto.out, c.write_u16.auto.out, c.write_head.auto.out, c.requires)
+write_head-requires-2 c = omega (arith, c.put_terms-end.auto.out, c.write_u16.auto.s, c.write_head.auto.out, c.requires)
 
 pub shape_of-out : goal.shape_of-out
-shape_of-out c = c.write_head-2.auto.out ∙ c.put_terms-end.auto.out ∙ c.write_u16.auto.out ∙ c.write_head.auto.out
+shape_of-out c = c.write_head-2.auto.out ∙ c.put_terms-end.auto.out ∙ c.write_u16.auto.s ∙ c.write_head.auto.out

@@ -51,7 +51,7 @@ returns c =
     let small = clauses_small S Z c.requires.0 in
     let few = sites_few S Z c.requires.0 in
     let two = wrote_more o 0 _ (clauses_of S Z) first.0 (omega (arith, first.0.behind, first.1, few, c.requires.1, c.requires.3)) more in
-    file_wrote S Z c.args.n c.requires.1
+    file_wrote S Z c.args.n.sites c.requires.1
     (wrote_more o 0 _ (field 5 []) two (omega (arith, two.behind, more.behind, first.1, small, few, c.requires.1, c.requires.3)) (end_wrote _ _ c.write_head.ensures))
 
 pub shape_of-out : goal.shape_of-out

@@ -5,7 +5,7 @@ use mathlib.Core.Path.{◌≡◌, refl, sym, ap, ◌∙◌}
 use mathlib.Core.Bool.{false}
 use lib.ListN.{length, take}
 use lib.Seq.{take-length}
-use Rattle.rows.proofs.Rows.{place_first, more_bytes, row_held, place_next}
+use Rattle.rows.proofs.Rows.{more_bytes, row_held, place_next}
 use Rattle.lists.specs.Refusals.{site_rows}
 use Rattle.lists.proofs.RowBytes.{rows_bytes}
 use Rattle.entries.proofs.Rows.{well_own, well_read, row_read}
@@ -16,7 +16,7 @@ use Rattle.draft.proofs.Terms.{terms_next, terms_none}
 use Rattle.draft.proofs.put_terms.Goals as goal
 
 pub loop-k-init : goal.loop-k-init
-loop-k-init c = (place_first _ _, omega arith, omega arith, omega arith, refl, λ name h. wrote_as (sym (terms_none _ name (site_rows c.args.sites.list.now))) (wrote_none _ _))
+loop-k-init c = (refl, omega arith, omega arith, omega arith, refl, λ name h. wrote_as (sym (terms_none _ name (site_rows c.args.sites.list.now))) (wrote_none _ _))
 
 pub put_term-to-requires : goal.put_term-to-requires
 put_term-to-requires c =
@@ -29,12 +29,12 @@ loop-k-preserved c =
     let s = c.args.sites.list.now in
     let l = c.loop-k-test.true in
     let m : at.k < length (site_rows s) = omega (arith, l, c.args.sites.counted) in
-    let p = more_bytes false s at.k at.at at.invariant.0 m in
+    let p = more_bytes false s at.k at.rest.now at.invariant.0 m in
     let read = row_read c.unwrap-row.ensures c.read_row.ensures in
-    let held = row_held false s at.k at.at at.invariant.0 _ p read in
+    let held = row_held false s at.k at.rest.now at.invariant.0 _ p read in
     let wrote = c.put_term-to.ensures in
     let room : (at.to ≤ length c.args.out.now) = omega (arith, at.invariant.2, l, c.requires) in (
-      place_next false s at.k at.at at.invariant.0 _ p read,
+      place_next false s at.k at.rest.now at.invariant.0 _ p read,
       omega arith,
       omega (arith, wrote.1, at.invariant.2),
       omega (arith, wrote.0.behind, at.invariant.3),
@@ -56,9 +56,6 @@ returns c =
       at.invariant.3,
     )
 
-pub read_row-requires : goal.read_row-requires
-read_row-requires c = c.loop-k.invariant.0.within
-
 pub overflow_add-k : goal.overflow_add-k
 overflow_add-k c = omega arith
 
@@ -68,5 +65,5 @@ shape_of-out c = c.loop-k.invariant.4
 pub unwrap-row-requires : goal.unwrap-row-requires
 unwrap-row-requires c =
     let at = c.loop-k in
-    let m = more_bytes false c.args.sites.list.now at.k at.at at.invariant.0 (omega (arith, c.loop-k-test.true, c.args.sites.counted)) in
+    let m = more_bytes false c.args.sites.list.now at.k at.rest.now at.invariant.0 (omega (arith, c.loop-k-test.true, c.args.sites.counted)) in
     well_read _ _ _ _ at.invariant.0 m c.args.sites.well _ c.read_row.ensures

@@ -14,7 +14,7 @@ use Rattle.draft.proofs.put_terms.Given as goal
 
 abbrev pub invariant-loop-k : goal.invariant-loop-k
 invariant-loop-k l =
-    Place false l.sites.list.now l.k l.at
+    Place false l.sites.list.now l.k l.rest
     × (l.k ≤ l.sites.count)
     × (l.to ≤ l.from + 6 * l.k)
     × (l.from ≤ l.to)

@@ -13,7 +13,7 @@ pub write_u16-requires : goal.write_u16-requires
 write_u16-requires c = simp length-set (omega (arith, c.requires))
 
 pub shape_of-out : goal.shape_of-out
-shape_of-out c = c.write_u16.auto.out ∙ simp length-set
+shape_of-out c = c.write_u16.auto.s ∙ simp length-set
 
 pub returns : goal.returns
 returns c =

@@ -10,9 +10,9 @@ use Rattle.lists.specs.Refusals.{row_fault, judged_from, judged}
 use Rattle.entries.specs.Judging.{entries_of}
 use Rattle.entries.proofs.judge_list.Given as goal
 
-abbrev pub invariant-loop-at : goal.invariant-loop-at
-invariant-loop-at l =
-    Place (is_zones l.listed) l.s l.k l.at × (judged_from (row_fault (is_zones l.listed) (entries_of (is_zones l.listed) l.s)) (length (entries_of (is_zones l.listed) l.s) - l.k) l.k ≡ judged (row_fault (is_zones l.listed) (entries_of (is_zones l.listed) l.s)) (entries_of (is_zones l.listed) l.s))
+abbrev pub invariant-loop-rest : goal.invariant-loop-rest
+invariant-loop-rest l =
+    Place (is_zones l.listed) l.s l.k l.rest × (judged_from (row_fault (is_zones l.listed) (entries_of (is_zones l.listed) l.s)) (length (entries_of (is_zones l.listed) l.s) - l.k) l.k ≡ judged (row_fault (is_zones l.listed) (entries_of (is_zones l.listed) l.s)) (entries_of (is_zones l.listed) l.s))
 
-abbrev pub decreases-loop-at : goal.decreases-loop-at
-decreases-loop-at l = length (entries_of (is_zones l.listed) l.s) - l.k
+abbrev pub decreases-loop-rest : goal.decreases-loop-rest
+decreases-loop-rest l = length (entries_of (is_zones l.listed) l.s) - l.k

@@ -11,33 +11,32 @@ list_one-i-requires c =
     let pre = c.requires in
     let i = c.loop-x.invariant in (
       omega (arith, c.loop-x-test.true, pre.0),
-      pre.1,
-      omega (arith, listing_same _ _ _ _ _ _ i pre.0 pre.2, listing_few _ _ _ _ _ _ i pre.0 pre.2, c.loop-x-test.true, i.low, pre.0, pre.2),
+      omega (arith, listing_same _ _ _ _ _ _ i pre.0 pre.1, listing_few _ _ _ _ _ _ i pre.0 pre.1, c.loop-x-test.true, i.low, pre.0, pre.1),
     )
 
 pub loop-x-init : goal.loop-x-init
 loop-x-init c = listing_start _ _ _
 
 pub loop-x-preserved : goal.loop-x-preserved
-loop-x-preserved c = listing_more _ _ _ _ _ _ c.loop-x.invariant c.requires.0 c.requires.2 c.list_one-i.ensures.0 c.list_one-i.ensures.1 (omega (arith, c.loop-x-test.true))
+loop-x-preserved c = listing_more _ _ _ _ _ _ c.loop-x.invariant c.requires.0 c.requires.1 c.list_one-i.ensures.0 c.list_one-i.ensures.1 (omega (arith, c.loop-x-test.true))
 
 pub overflow_mul-end : goal.overflow_mul-end
 overflow_mul-end c =
     let i = c.loop-x.invariant in
-    omega (arith, listing_room _ _ _ _ _ _ i c.requires.0 c.requires.2, listing_same _ _ _ _ _ _ i c.requires.0 c.requires.2, c.requires.2)
+    omega (arith, listing_room _ _ _ _ _ _ i c.requires.0 c.requires.1, listing_same _ _ _ _ _ _ i c.requires.0 c.requires.1, c.requires.1)
 
 pub slice_bounds-clear-count : goal.slice_bounds-clear-count
-slice_bounds-clear-count c = listing_room _ _ _ _ _ _ c.loop-x.invariant c.requires.0 c.requires.2
+slice_bounds-clear-count c = listing_room _ _ _ _ _ _ c.loop-x.invariant c.requires.0 c.requires.1
 
 pub slice_bounds-clear-start : goal.slice_bounds-clear-start
-slice_bounds-clear-start c = listing_room _ _ _ _ _ _ c.loop-x.invariant c.requires.0 c.requires.2
+slice_bounds-clear-start c = listing_room _ _ _ _ _ _ c.loop-x.invariant c.requires.0 c.requires.1
 
 pub slice_bounds-clear-end : goal.slice_bounds-clear-end
 slice_bounds-clear-end c = omega arith
 
 pub shape_of-list : goal.shape_of-list
 shape_of-list c =
-    clear_same (4 * c.loop-x.i) c.loop-x.list _ c.clear.ensures ∙ listing_same _ _ _ _ _ _ c.loop-x.invariant c.requires.0 c.requires.2
+    clear_same (4 * c.loop-x.i) c.loop-x.list _ c.clear.ensures ∙ listing_same _ _ _ _ _ _ c.loop-x.invariant c.requires.0 c.requires.1
 
 pub returns : goal.returns
-returns c = listing_end _ _ _ _ _ _ c.loop-x.invariant c.requires.0 c.requires.2 (omega (arith, c.loop-x-test.false)) _ _ refl c.clear.ensures
+returns c = listing_end _ _ _ _ _ _ c.loop-x.invariant c.requires.0 c.requires.1 (omega (arith, c.loop-x-test.false)) _ _ refl c.clear.ensures

@@ -4,4 +4,4 @@ use Rattle.numbering.proofs.Listing.{Listing}
 use Rattle.numbering.proofs.list_old.Given as goal
 
 abbrev pub invariant-loop-x : goal.invariant-loop-x
-invariant-loop-x l = Listing l.map l.n l.initial.list l.list l.x l.i
+invariant-loop-x l = Listing l.map.words.now l.n l.initial.list l.list l.x l.i

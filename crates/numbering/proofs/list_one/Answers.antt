@@ -1,26 +1,28 @@
--- `list_one` meets its contract, by the variable's code.
+-- `list_one` meets its contract, by what becomes of the variable.
 -- Assumes nothing.
 use native.Mathlib.Omega.{arith}
-use Rattle.numbering.proofs.Listing.{listed_off, listed_on, listed_new}
+use mathlib.Core.Path.{sym, ap, ◌∙◌}
+use Rattle.fates.specs.Maps.{becomes}
+use Rattle.numbering.proofs.Listing.{listed_none, listed_new}
 use Rattle.numbering.proofs.list_one.Goals as goal
 
-pub word-code-requires : goal.word-code-requires
-word-code-requires c = omega (arith, c.requires.0, c.requires.1)
+pub code-requires : goal.code-requires
+code-requires c = c.requires.0
 
-pub returns-then-code-eq-OFF : goal.returns-then-code-eq-OFF
-returns-then-code-eq-OFF c = listed_off _ _ c.word-code.ensures _ _ c.if-code-eq-OFF.true
+pub returns-in-Off : goal.returns-in-Off
+returns-in-Off c = listed_none _ _ _ _ (sym c.code.ensures ∙ ap becomes c.in-Off.is)
 
-pub returns-then-code-eq-ON : goal.returns-then-code-eq-ON
-returns-then-code-eq-ON c = listed_on _ _ c.word-code.ensures _ _ c.if-code-eq-ON.true
+pub returns-in-On : goal.returns-in-On
+returns-in-On c = listed_none _ _ _ _ (sym c.code.ensures ∙ ap becomes c.in-On.is)
 
 pub narrow-requires : goal.narrow-requires
 narrow-requires c = omega (arith, c.requires.0)
 
 pub write_word-requires : goal.write_word-requires
-write_word-requires c = omega (arith, c.requires.2)
+write_word-requires c = omega (arith, c.requires.1)
 
 pub overflow_add-result : goal.overflow_add-result
-overflow_add-result c = omega (arith, c.requires.2)
+overflow_add-result c = omega (arith, c.requires.1)
 
-pub returns : goal.returns
-returns c = listed_new _ _ c.word-code.ensures _ _ c.if-code-eq-OFF.false c.if-code-eq-ON.false c.narrow.ensures c.write_word.ensures
+pub returns-in-New : goal.returns-in-New
+returns-in-New c = listed_new _ _ _ _ (sym c.code.ensures ∙ ap becomes c.in-New.is) c.narrow.ensures c.write_word.ensures

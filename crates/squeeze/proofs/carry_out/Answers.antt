@@ -25,13 +25,12 @@ pub list_old-requires : goal.list_old-requires
 list_old-requires c =
     let variables = c.read_size.ensures ∙ sym (begun_file _ _ c.requires.accepts).variables in (
       omega (arith, variables, (lawful_file _ _ c.requires.accepts).high),
-      c.requires.map_size_in_bounds.0,
-      length-take 2048 c.args.old.now ∙ omega (arith, c.requires.map_size_in_bounds.1),
+      length-take 2048 c.args.old.now ∙ omega (arith, c.requires.list_len),
     )
 
 pub returns : goal.returns
 returns c =
-    let new : ℕ → Bool = λ x. is_number (word_at c.args.map.now x) in
+    let new : ℕ → Bool = λ x. is_number (word_at c.args.map.words.now x) in
     let n = (plan_of_file c.args.file.now).variables in
     let variables = c.read_size.ensures ∙ sym (begun_file _ _ c.requires.accepts).variables in
     let listed = c.list_old.ensures ∙ ap (λ k. word_bytes (pad_to 512 (keep new (row 1 k)))) variables in

@@ -25,14 +25,14 @@ sum-requires c =
     let count = count_is _ c.read_size-count.ensures in
     let few = objective_few _ _ (λ i. (c.type_inv.file i).fits) c.requires.accepts in
     record {
-      count_in_bounds = (omega (arith, begun_front _ _ c.requires.accepts, count), c.requires.map_size_in_bounds, omega (arith, count, few));
+      count_in_bounds = (omega (arith, begun_front _ _ c.requires.accepts, count), omega (arith, count, few));
       count_value = rw count (objective_small _ _ (λ i. (c.type_inv.file i).fits) c.requires.accepts);
     }
 
 pub returns : goal.returns
 returns c =
     let s = c.args.file.now in
-    let f = decoded c.args.map.now in
+    let f = decoded c.args.map.words.now in
     to_z-of_z {w = w64} (record { sfits = c.from.type_inv }) ∙ c.from.ensures ∙ to_z-of_z {w = w32} (record { sfits = c.sum.type_inv }) ∙ c.sum.ensures
     ∙ given_total_lem f (terms_at s 8 (c.read_size-count.result / 6)) ∙ ap (λ k. given_total f (terms_at s 8 k)) (count_is _ c.read_size-count.ensures)
     ∙ ap (given_total f) (objective_is s (plan_of_file s) (λ i. (c.type_inv.file i).fits) c.requires.accepts)

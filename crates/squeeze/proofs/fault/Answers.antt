@@ -17,7 +17,7 @@ first_clause-requires c = (begun_front _ _ c.requires.accepts, omega (arith, beg
 
 pub lost-requires : goal.lost-requires
 lost-requires c =
-    ((_, _, clauses_at _ _ (λ i. (c.type_inv.file i).fits) c.requires.accepts c.first_clause.ensures), c.requires.map_size_in_bounds)
+    (_, _, clauses_at _ _ (λ i. (c.type_inv.file i).fits) c.requires.accepts c.first_clause.ensures)
 
 pub returns-then-lost : goal.returns-then-lost
 unfolding fault_number

@@ -1,6 +1,5 @@
 -- `squeeze_by` meets its contract, by whether there is a fault.
 -- Assumes nothing.
-use native.Mathlib.Omega.{arith}
 use mathlib.Core.Path.{sym, ap, ◌∙◌}
 use Rattle.tables.specs.Places.{plan_of_file}
 use Rattle.squeeze.specs.Calls.{fault_number}
@@ -27,7 +26,7 @@ pub fill-variables-requires : goal.fill-variables-requires
 fill-variables-requires c = record { accepts = c.requires.accepts; map_len = c.requires.map_len.0 }
 
 pub fault-requires : goal.fault-requires
-fault-requires c = record { accepts = c.requires.accepts; map_size_in_bounds = omega (arith, c.fill-variables.auto.map, c.requires.map_len.0) }
+fault-requires c = record { accepts = c.requires.accepts }
 
 pub carry_out-requires : goal.carry_out-requires
-carry_out-requires c = record { accepts = c.requires.accepts; map_size_in_bounds = (omega (arith, c.fill-variables.auto.map, c.requires.map_len.0), c.requires.map_len.1) }
+carry_out-requires c = record { accepts = c.requires.accepts; list_len = c.requires.map_len.1 }

@@ -5,7 +5,7 @@ use Rattle.std.proofs.lemmas.Bool.Decides.{nat_tests}
 use Rattle.plpb.specs.Lists.{◌and◌, ◌or◌}
 use Rattle.cells.specs.Grammar.{may_stand, is_text}
 use Rattle.cells.proofs.field.may_stand.Goals as goal
-use Rattle.cells.proofs.field.may_stand.Goals.{in-34, in_default}
+use Rattle.cells.proofs.field.may_stand.Goals.{in-44, in_default}
 
 pub returns-then-matches : goal.returns-then-matches
 unfolding may_stand is_text ◌and◌ ◌or◌

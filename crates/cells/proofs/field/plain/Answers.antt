@@ -1,30 +1,22 @@
--- The goals that the search leaves.
-use Prim.Native.Nat.{◌+◌}
-use native.Mathlib.Omega.{arith}
-use mathlib.Core.Path.{◌≡◌, refl, sym, ap, ◌∙◌}
-use lib.ListN.{length, drop}
-use Rattle.cells.specs.declared.value.Value.{Value}
+-- `cells::field::plain` meets its contract.
+-- Assumes nothing.
+use mathlib.Core.Path.{sym, ap, ◌∙◌}
 use Rattle.cells.specs.Grammar as Grammar
 use Rattle.cells.specs.Reading.{gathered}
-use Rattle.cells.proofs.Fields.{plain_stop, plain_on, plain_end}
+use Rattle.cells.proofs.Fields.{behind, plain_stop, plain_on, plain_end}
 use Rattle.cells.proofs.field.plain.Goals as goal
+use Rattle.cells.proofs.field.plain.Goals.{in_default, in-len1-up+then-not-is_text}
 
-pub loop-at-init : goal.loop-at-init
-loop-at-init c = ap (λ (v : Value). gathered v (Grammar.plain (drop c.args.from c.args.s.now))) c.empty-value.ensures
+pub loop-rest-init : goal.loop-rest-init
+loop-rest-init c = ap (λ v. gathered v (Grammar.plain c.args.s.now)) c.empty-value.ensures
 
-pub returns-then-not-is_text-clause-reads : goal.returns-then-not-is_text-clause-reads
-returns-then-not-is_text-clause-reads c =
-    sym (plain_stop _ _ _ _ c.loop-at-test.true refl (sym c.is_text.ensures ∙ c.if-not-is_text.true)) ∙ c.loop-at.invariant
+pub loop-rest-preserved : goal.loop-rest-preserved
+loop-rest-preserved c =
+    let at = c.loop-rest in
+    ap (λ v. gathered v (Grammar.plain (behind at.rest.now))) c.with-value.ensures
+    ∙ sym (plain_on at.value at.rest.now c.in-len1-up.len_at_least (sym c.is_text.ensures ∙ c.if-not-is_text.false)) ∙ at.invariant
 
-pub loop-at-preserved : goal.loop-at-preserved
-loop-at-preserved c =
-    let at = c.loop-at in
-    let s = c.args.s.now in
-    let on = plain_on at.value s at.at _ c.loop-at-test.true refl (sym c.is_text.ensures ∙ c.if-not-is_text.false) in
-    ap (λ (v : Value). gathered v (Grammar.plain (drop (at.at + 1) s))) c.with-value.ensures ∙ sym on ∙ at.invariant
-
-pub returns-clause-reads : goal.returns-clause-reads
-returns-clause-reads c =
-    let at = c.loop-at in
-    let e : length c.args.s.now ≡ at.at = omega arith in
-    rw e (sym (plain_end _ _ _ c.loop-at-test.false) ∙ at.invariant)
+pub returns : goal.returns
+returns c =
+    let at = c.loop-rest in
+    elim c.if-rest-lt1.branch [ in_default w ↦ sym (plain_end at.value at.rest.now w.in_default.len_below) ∙ at.invariant | in-len1-up+then-not-is_text w ↦ sym (plain_stop at.value at.rest.now w.in-len1-up.len_at_least (sym w.is_text.ensures ∙ w.if-not-is_text.true)) ∙ at.invariant ]

@@ -1,11 +1,15 @@
 -- `cells::field::plain` meets its contract. The invariant: what is gathered with the field from the present place on is what the whole field gathers.
+-- The measure is the bytes left.
 -- Assumes nothing.
 use mathlib.Core.Path.{◌≡◌}
-use lib.ListN.{drop}
+use lib.ListN.{length}
 use Rattle.cells.specs.Grammar as Grammar
 use Rattle.cells.specs.Values.{no_bytes}
 use Rattle.cells.specs.Reading.{gathered}
 use Rattle.cells.proofs.field.plain.Given as goal
 
-abbrev pub invariant-loop-at : goal.invariant-loop-at
-invariant-loop-at l = gathered l.value (Grammar.plain (drop l.at l.s)) ≡ gathered no_bytes (Grammar.plain (drop l.from l.s))
+abbrev pub invariant-loop-rest : goal.invariant-loop-rest
+invariant-loop-rest l = gathered l.value (Grammar.plain l.rest) ≡ gathered no_bytes (Grammar.plain l.s)
+
+abbrev pub decreases-loop-rest : goal.decreases-loop-rest
+decreases-loop-rest l = length l.rest

@@ -1,40 +1,43 @@
--- The goals that the search leaves.
-use Prim.Native.Nat.{◌+◌}
-use native.Mathlib.Omega.{arith}
-use mathlib.Core.Path.{◌≡◌, refl, sym, ap, ap₂, ◌∙◌}
-use mathlib.Core.Bool.{Bool, false}
-use lib.ListN.{length, drop}
-use Rattle.cells.specs.declared.value.Value.{Value}
-use Rattle.cells.specs.Grammar.{in_quotes}
+-- `cells::field::quoted` meets its contract.
+-- Assumes nothing.
+use mathlib.Core.Path.{sym, ap, ◌∙◌}
+use mathlib.Core.Bool.{false}
+use mathlib.Core.List.{[], ◌∷◌}
+use Rattle.std.proofs.Common.{Some, None}
+use Rattle.std.proofs.lemmas.Bool.Decides.{Decides-eqb}
+use Rattle.std.proofs.lemmas.Slice.Eq.{strip_prefix_is}
+use Rattle.cells.specs.Grammar.{quote, in_quotes}
 use Rattle.cells.specs.Reading.{gathered}
-use Rattle.cells.proofs.Fields.{quoted_stop, quoted_wrong, quoted_on, quoted_closed, quoted_open}
+use Rattle.cells.proofs.Fields.{behind, quoted_two, quoted_one, quoted_on, quoted_wrong, quoted_open}
 use Rattle.cells.proofs.field.quoted.Goals as goal
 
-pub loop-at-init : goal.loop-at-init
-loop-at-init c = ap (λ (v : Value). gathered v (in_quotes false (drop c.args.from c.args.s.now))) c.empty-value.ensures
+pub loop-rest-init : goal.loop-rest-init
+loop-rest-init c = ap (λ v. gathered v (in_quotes false c.args.s.now)) c.empty-value.ensures
 
-pub returns-then-stands_behind-clause-reads : goal.returns-then-stands_behind-clause-reads
-returns-then-stands_behind-clause-reads c =
-    sym (quoted_stop _ _ _ _ _ c.loop-at-test.true refl (sym c.stands_behind.ensures ∙ c.if-stands_behind.true)) ∙ c.loop-at.invariant
+pub returns-then-not-may_stand : goal.returns-then-not-may_stand
+returns-then-not-may_stand c =
+    let at = c.loop-rest in
+    sym (quoted_wrong at.value at.rest.now c.in-len1-up.len_at_least c.if-b-eq-QUOTE.false (sym c.may_stand.ensures ∙ c.if-not-may_stand.true)) ∙ at.invariant
 
-pub returns-then-not-may_stand-clause-reads : goal.returns-then-not-may_stand-clause-reads
-returns-then-not-may_stand-clause-reads c =
-    let wrong = quoted_wrong _ _ _ _ _ c.loop-at-test.true refl (sym c.stands_behind.ensures ∙ c.if-stands_behind.false) (sym c.may_stand.ensures ∙ c.if-not-may_stand.true) in
-    sym wrong ∙ c.loop-at.invariant
+pub loop-rest-preserved : goal.loop-rest-preserved
+loop-rest-preserved c =
+    let at = c.loop-rest in
+    ap (λ v. gathered v (in_quotes false (behind at.rest.now))) c.with-value-else-b-eq-QUOTE.ensures
+    ∙ sym (quoted_on at.value at.rest.now c.in-len1-up.len_at_least c.if-b-eq-QUOTE.false (sym c.may_stand.ensures ∙ c.if-not-may_stand.false)) ∙ at.invariant
 
-pub loop-at-preserved : goal.loop-at-preserved
-loop-at-preserved c =
-    let at = c.loop-at in
-    let s = c.args.s.now in
-    let on = quoted_on at.value at.closing s at.at _ c.loop-at-test.true refl (sym c.stands_behind.ensures ∙ c.if-stands_behind.false) (sym c.may_stand.ensures ∙ c.if-not-may_stand.false) in
-    ap₂ (λ (v : Value) (q : Bool). gathered v (in_quotes q (drop (at.at + 1) s))) c.gathered-value.ensures c.may_close-closing.ensures ∙ sym on ∙ at.invariant
+pub returns : goal.returns
+returns c = sym (quoted_open c.loop-rest.value c.loop-rest.rest.now c.in_default.len_below) ∙ c.loop-rest.invariant
 
-pub returns-then-not-closing-clause-reads : goal.returns-then-not-closing-clause-reads
-returns-then-not-closing-clause-reads c =
-    sym (quoted_open _ _ _ _ c.loop-at-test.false c.if-not-closing.true) ∙ c.loop-at.invariant
+pub returns-in_default-strip_prefix : goal.returns-in_default-strip_prefix
+returns-in_default-strip_prefix c =
+    let at = c.loop-rest in
+    let none = strip_prefix_is Decides-eqb (behind at.rest.now) (quote ∷ []) None c.in_default-strip_prefix.ensures.cases in
+    sym (quoted_one at.value at.rest.now c.in-len1-up.len_at_least c.if-b-eq-QUOTE.true none) ∙ at.invariant
 
-pub returns-clause-reads : goal.returns-clause-reads
-returns-clause-reads c =
-    let at = c.loop-at in
-    let e : length c.args.s.now ≡ at.at = omega arith in
-    rw e (sym (quoted_closed _ _ _ _ c.loop-at-test.false c.if-not-closing.false) ∙ at.invariant)
+pub loop-rest-preserved-then-b-eq-QUOTE : goal.loop-rest-preserved-then-b-eq-QUOTE
+loop-rest-preserved-then-b-eq-QUOTE c =
+    let at = c.loop-rest in
+    let t = c.in-Some.behind in
+    let is = strip_prefix_is Decides-eqb (behind at.rest.now) (quote ∷ []) (Some t) c.in-Some.ensures.cases in
+    ap (λ v. gathered v (in_quotes false t.now)) c.with-value.ensures
+    ∙ sym (quoted_two at.value at.rest.now c.in-len1-up.len_at_least c.if-b-eq-QUOTE.true t.now is) ∙ at.invariant

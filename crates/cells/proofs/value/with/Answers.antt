@@ -12,10 +12,10 @@ pub returns-then-v-lt-HALF : goal.returns-then-v-lt-HALF
 unfolding added
 returns-then-v-lt-HALF c =
     simp
-    (lt-leb 16 _ c.if-v-ge-LONGEST.false, lt-ltb _ 8 c.if-v-lt-HALF.true, c.with_byte.ensures, c.with_digit-number.ensures, c.still_digits-digits.ensures)
+    (lt-leb 16 _ c.if-v-ge-LONGEST.false, lt-ltb _ 8 c.if-v-lt-HALF.true, c.with_byte.ensures, c.more_digits-number.ensures)
 
 pub returns : goal.returns
 unfolding added
 returns c =
     simp
-    (lt-leb 16 _ c.if-v-ge-LONGEST.false, le-ltb _ 8 c.if-v-lt-HALF.false, c.with_byte-2.ensures, c.with_digit-number.ensures, c.still_digits-digits.ensures)
+    (lt-leb 16 _ c.if-v-ge-LONGEST.false, le-ltb _ 8 c.if-v-lt-HALF.false, c.with_byte-2.ensures, c.more_digits-number.ensures)

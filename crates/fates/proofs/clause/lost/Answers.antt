@@ -9,20 +9,20 @@ use Rattle.fates.proofs.clause.lost.Goals as goal
 
 pub run_rules-run-requires : goal.run_rules-run-requires
 run_rules-run-requires c =
-    (begins_rules _ _ (keep_rest _ _ _ _ c.loop-at.invariant c.requires.0) (sym (tag_byte _ _) ∙ c.loop-at-test.true), c.requires.1)
+    begins_rules _ _ (keep_rest _ _ _ _ c.loop-at.invariant c.requires) (sym (tag_byte _ _) ∙ c.loop-at-test.true)
 
 pub loop-at-smaller : goal.loop-at-smaller
 unfolding Ran
-loop-at-smaller c = omega (arith, c.run_rules-run.ensures.0, begins_room _ _ (keep_rest _ _ _ _ c.loop-at.invariant c.requires.0))
+loop-at-smaller c = omega (arith, c.run_rules-run.ensures.0, begins_room _ _ (keep_rest _ _ _ _ c.loop-at.invariant c.requires))
 
 pub loop-at-init : goal.loop-at-init
 loop-at-init c = keep_start _ _ _
 
 pub bounds-file-at : goal.bounds-file-at
-bounds-file-at c = omega (arith, begins_room _ _ (keep_rest _ _ _ _ c.loop-at.invariant c.requires.0))
+bounds-file-at c = omega (arith, begins_room _ _ (keep_rest _ _ _ _ c.loop-at.invariant c.requires))
 
 pub overflow_add-at : goal.overflow_add-at
-overflow_add-at c = omega (arith, begins_room _ _ (keep_rest _ _ _ _ c.loop-at.invariant c.requires.0))
+overflow_add-at c = omega (arith, begins_room _ _ (keep_rest _ _ _ _ c.loop-at.invariant c.requires))
 
 pub returns-then-not-run : goal.returns-then-not-run
 returns-then-not-run c =

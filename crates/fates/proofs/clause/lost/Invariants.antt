@@ -7,7 +7,7 @@ use Rattle.fates.proofs.Running.{Keeping}
 use Rattle.fates.proofs.clause.lost.Given as goal
 
 abbrev pub invariant-loop-at : goal.invariant-loop-at
-invariant-loop-at l = Keeping (decoded l.map) l.file l.from l.at
+invariant-loop-at l = Keeping (decoded l.map.words.now) l.file l.from l.at
 
 abbrev pub decreases-loop-at : goal.decreases-loop-at
 decreases-loop-at l = length l.file - l.at

@@ -11,14 +11,14 @@ use Rattle.fates.proofs.clause.run_rules.Goals as goal
 
 pub fate-fate-requires : goal.fate-fate-requires
 fate-fate-requires c =
-    (reads_rule _ _ (run_rest _ _ _ _ _ _ c.loop-at.invariant c.requires.0) (sym (tag_byte _ _) ∙ c.loop-at-test.true), c.requires.1)
+    reads_rule _ _ (run_rest _ _ _ _ _ _ c.loop-at.invariant c.requires) (sym (tag_byte _ _) ∙ c.loop-at-test.true)
 
 pub after-at-requires : goal.after-at-requires
-after-at-requires c = (reads_rule _ _ (run_rest _ _ _ _ _ _ c.loop-at.invariant c.requires.0) (sym (tag_byte _ _) ∙ c.loop-at-test.true)).room
+after-at-requires c = (reads_rule _ _ (run_rest _ _ _ _ _ _ c.loop-at.invariant c.requires) (sym (tag_byte _ _) ∙ c.loop-at-test.true)).room
 
 pub loop-at-smaller : goal.loop-at-smaller
 unfolding behind_field
-loop-at-smaller c = omega (arith, c.after-at.ensures, reads_room _ _ (run_rest _ _ _ _ _ _ c.loop-at.invariant c.requires.0))
+loop-at-smaller c = omega (arith, c.after-at.ensures, reads_room _ _ (run_rest _ _ _ _ _ _ c.loop-at.invariant c.requires))
 
 pub loop-at-preserved : goal.loop-at-preserved
 loop-at-preserved c =
@@ -30,7 +30,7 @@ pub loop-at-init : goal.loop-at-init
 loop-at-init c = run_start _ _ _
 
 pub bounds-file-at : goal.bounds-file-at
-bounds-file-at c = omega (arith, reads_room _ _ (run_rest _ _ _ _ _ _ c.loop-at.invariant c.requires.0))
+bounds-file-at c = omega (arith, reads_room _ _ (run_rest _ _ _ _ _ _ c.loop-at.invariant c.requires))
 
 pub returns : goal.returns
 returns c = run_end _ _ _ _ _ _ c.loop-at.invariant (λ t. c.loop-at-test.false (tag_byte _ _ ∙ t))

@@ -8,7 +8,7 @@ use Rattle.fates.proofs.Running.{Running}
 use Rattle.fates.proofs.clause.run_rules.Given as goal
 
 abbrev pub invariant-loop-at : goal.invariant-loop-at
-invariant-loop-at l = Running (decoded l.map) l.file l.from l.at l.met l.kept
+invariant-loop-at l = Running (decoded l.map.words.now) l.file l.from l.at l.met l.kept
 
 abbrev pub decreases-loop-at : goal.decreases-loop-at
 decreases-loop-at l = length l.file - l.at

@@ -12,20 +12,20 @@ use Rattle.fates.proofs.rule.fate.Goals as goal
 pub less-lower-requires : goal.less-lower-requires
 unfolding lower_at
 less-lower-requires c =
-    let r = c.requires.0 in
+    let r = c.requires in
     (omega (arith, rule_room_lem r), r.lower, rw (to_z-of_z (record { sfits = c.total-given.type_inv })) c.total-given.ensures.1)
 
 pub less-upper-requires : goal.less-upper-requires
 unfolding upper_at
 less-upper-requires c =
-    let r = c.requires.0 in
+    let r = c.requires in
     (omega (arith, rule_room_lem r), r.upper, rw (to_z-of_z (record { sfits = c.total-given.type_inv })) c.total-given.ensures.1)
 
 pub returns : goal.returns
 unfolding mode_at lower_at upper_at
 returns c =
     let s = c.args.file.now in
-    let map = c.args.map.now in
+    let map = c.args.map.words.now in
     let at = c.args.at in
     let modes = byte_at s (at + 3) in
     let givens = to_z-of_z {w = w32} (record { sfits = c.total-given.type_inv }) ∙ c.total-given.ensures.0 in
@@ -47,13 +47,13 @@ pub total-greatest-requires : goal.total-greatest-requires
 total-greatest-requires c = c.requires
 
 pub overflow_add-at : goal.overflow_add-at
-overflow_add-at c = omega (arith, rule_room_lem c.requires.0)
+overflow_add-at c = omega (arith, rule_room_lem c.requires)
 
 pub overflow_add-at-2 : goal.overflow_add-at-2
-overflow_add-at-2 c = omega (arith, rule_room_lem c.requires.0)
+overflow_add-at-2 c = omega (arith, rule_room_lem c.requires)
 
 pub overflow_add-at-3 : goal.overflow_add-at-3
-overflow_add-at-3 c = omega (arith, rule_room_lem c.requires.0)
+overflow_add-at-3 c = omega (arith, rule_room_lem c.requires)
 
 pub bounds-file-at : goal.bounds-file-at
-bounds-file-at c = omega (arith, rule_room_lem c.requires.0)
+bounds-file-at c = omega (arith, rule_room_lem c.requires)

@@ -9,17 +9,17 @@ use Rattle.fates.proofs.Judging.{rule_room_lem, rule_terms, terms_room, field_su
 use Rattle.fates.proofs.rule.total.Goals as goal
 
 pub terms_of-count-requires : goal.terms_of-count-requires
-terms_of-count-requires c = let r = c.requires.0 in (omega (arith, rule_room_lem r), omega (arith, r.size))
+terms_of-count-requires c = let r = c.requires in (omega (arith, rule_room_lem r), omega (arith, r.size))
 
 pub sum-requires : goal.sum-requires
 sum-requires c =
-    let r = c.requires.0 in
-    rw c.terms_of-count.ensures record { count_in_bounds = (terms_room r, c.requires.1, r.few); count_value = rw (rule_terms r) at r.small }
+    let r = c.requires in
+    rw c.terms_of-count.ensures record { count_in_bounds = (terms_room r, r.few); count_value = rw (rule_terms r) at r.small }
 
 pub returns : goal.returns
 returns c =
-    field_sum c.requires.0 c.args.part (decoded c.args.map.now) _ c.terms_of-count.ensures
+    field_sum c.requires c.args.part (decoded c.args.map.words.now) _ c.terms_of-count.ensures
     (to_z-of_z {w = w32} (record { sfits = c.sum.type_inv }) ∙ c.sum.ensures)
 
 pub overflow_add-at : goal.overflow_add-at
-overflow_add-at c = omega (arith, rule_room_lem c.requires.0)
+overflow_add-at c = omega (arith, rule_room_lem c.requires)

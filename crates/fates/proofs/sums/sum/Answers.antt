@@ -11,20 +11,20 @@ use Rattle.fates.proofs.sums.sum.Goals as goal
 pub loop-i-init : goal.loop-i-init
 loop-i-init c = summing_none _ _ _ _ _ (omega arith) (omega arith) c.requires.count_value
 
-pub word-code-requires : goal.word-code-requires
-word-code-requires c =
+pub code-code-requires : goal.code-code-requires
+code-code-requires c =
     let here = small_at _ _ _ (omega (arith, c.loop-i-test.true)) c.loop-i.invariant.small in
-    omega (arith, c.read_size.ensures, here.variable, c.requires.count_in_bounds.1)
+    omega (arith, c.read_size.ensures, here.variable)
 
 pub plus-sum-requires : goal.plus-sum-requires
 plus-sum-requires c =
     rw (to_z-of_z (record { sfits = c.part_of.type_inv }))
-    (sum_room (omega (arith, c.loop-i-test.true)) c.loop-i.invariant c.read_size.ensures c.word-code.ensures
-    (to_z-of_z {w = w32} (record { sfits = c.read_i32.type_inv }) ∙ c.read_i32.ensures) c.part_of.ensures c.requires.count_in_bounds.2)
+    (sum_room (omega (arith, c.loop-i-test.true)) c.loop-i.invariant c.read_size.ensures c.code-code.ensures
+    (to_z-of_z {w = w32} (record { sfits = c.read_i32.type_inv }) ∙ c.read_i32.ensures) c.part_of.ensures c.requires.count_in_bounds.1)
 
 pub loop-i-preserved : goal.loop-i-preserved
 loop-i-preserved c =
-    summing_more (omega (arith, c.loop-i-test.true)) c.loop-i.invariant c.read_size.ensures c.word-code.ensures
+    summing_more (omega (arith, c.loop-i-test.true)) c.loop-i.invariant c.read_size.ensures c.code-code.ensures
     (to_z-of_z {w = w32} (record { sfits = c.read_i32.type_inv }) ∙ c.read_i32.ensures) c.part_of.ensures (omega arith) (omega arith)
     (to_z-of_z {w = w32} (record { sfits = c.plus-sum.type_inv }) ∙ c.plus-sum.ensures ∙ ap (λ (z : ℤ). to_z w32 c.loop-i.sum-bits +ℤ z) (to_z-of_z {w = w32} (record { sfits = c.part_of.type_inv })))
 

@@ -5,4 +5,4 @@ use Rattle.fates.proofs.Parts.{Summing}
 use Rattle.fates.proofs.sums.sum.Given as goal
 
 abbrev pub invariant-loop-i : goal.invariant-loop-i
-invariant-loop-i l = Summing l.file l.map l.part l.from l.count (l.from + 6 * l.i) (l.count - l.i) l.sum
+invariant-loop-i l = Summing l.file l.map.words.now l.part l.from l.count (l.from + 6 * l.i) (l.count - l.i) l.sum

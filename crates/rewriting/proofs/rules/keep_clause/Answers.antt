@@ -8,12 +8,12 @@ use Rattle.rewriting.proofs.rules.keep_clause.Goals as goal
 pub run_rules-run-requires : goal.run_rules-run-requires
 run_rules-run-requires c =
     let pre = c.requires in
-    ((pre.0.0, pre.0.1, pre.0.2, rest_opened pre.0.3), pre.2)
+    (pre.0.0, pre.0.1, pre.0.2, rest_opened pre.0.3)
 
 pub keep_rules-requires : goal.keep_rules-requires
 keep_rules-requires c =
     let pre = c.requires in
-    ((pre.0.0, pre.0.1, pre.0.2, opened _ _ _ pre.1 pre.0.3 c.put_head.ensures), omega (arith, pre.1), pre.2)
+    ((pre.0.0, pre.0.1, pre.0.2, opened _ _ _ pre.1 pre.0.3 c.put_head.ensures), omega (arith, pre.1))
 
 pub overflow_add-at : goal.overflow_add-at
 overflow_add-at c = omega (arith, rest_room c.requires.0.3)

@@ -11,7 +11,7 @@ pub keep_clause-places-requires : goal.keep_clause-places-requires
 keep_clause-places-requires c =
     let p = c.loop-file.invariant _ _ c.requires.0.2 in
     let (first, rest, here) = clause_here _ _ _ p.rest (sym (tag_byte _ _) ∙ c.loop-file-test.true) in
-    ((_, first, rest, here), p.behind, c.requires.2)
+    ((_, first, rest, here), p.behind)
 
 pub loop-file-smaller : goal.loop-file-smaller
 unfolding ClauseMoved

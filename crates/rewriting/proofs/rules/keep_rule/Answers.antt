@@ -5,7 +5,7 @@ use Rattle.rewriting.proofs.Rulewise.{rule_gone, rule_stays, laid_none, laid_is}
 use Rattle.rewriting.proofs.rules.keep_rule.Goals as goal
 
 pub fate-requires : goal.fate-requires
-fate-requires c = (c.requires.0, c.requires.2)
+fate-requires c = c.requires.0
 
 pub put_rule-requires : goal.put_rule-requires
 put_rule-requires c = c.requires

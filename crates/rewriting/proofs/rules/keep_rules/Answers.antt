@@ -24,7 +24,7 @@ after-next-requires c =
 pub keep_rule-end-requires : goal.keep_rule-end-requires
 keep_rule-end-requires c =
     let m = c.loop-file.invariant.1 _ _ _ c.requires.0.3 in
-    ((rest_rule m.rest (sym (tag_byte _ _) ∙ c.loop-file-test.true)).fits, m.behind, c.requires.2)
+    ((rest_rule m.rest (sym (tag_byte _ _) ∙ c.loop-file-test.true)).fits, m.behind)
 
 pub loop-file-preserved : goal.loop-file-preserved
 loop-file-preserved c = moving_more _ _ _ _ _ _ _ c.loop-file.invariant (sym (tag_byte _ _) ∙ c.loop-file-test.true) c.after-next.ensures c.keep_rule-end.ensures

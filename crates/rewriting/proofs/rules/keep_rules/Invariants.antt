@@ -8,7 +8,7 @@ use Rattle.rewriting.proofs.Rulewise.{Moving}
 use Rattle.rewriting.proofs.rules.keep_rules.Given as goal
 
 abbrev pub invariant-loop-file : goal.invariant-loop-file
-invariant-loop-file l = Moving (decoded l.map) l.initial.file l.from l.to l.file l.at l.end
+invariant-loop-file l = Moving (decoded l.map.words.now) l.initial.file l.from l.to l.file l.at l.end
 
 abbrev pub decreases-loop-file : goal.decreases-loop-file
 decreases-loop-file l = length l.initial.file - l.at

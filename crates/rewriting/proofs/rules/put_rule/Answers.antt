@@ -1,14 +1,12 @@
 -- `rules::put_rule` meets its contract: the terms are written first, then head and bounds before them.
 -- Assumes nothing.
 use native.Mathlib.Omega.{arith}
-use mathlib.Core.Path.{sym, ap, ◌∙◌}
+use mathlib.Core.Path.{refl, sym, ap, ◌∙◌}
 use Prim.Native.Nat.{◌+◌}
 use Rattle.format.specs.File.{terms_at}
-use Rattle.format.proofs.Peel.{length_terms_at}
 use Rattle.fates.specs.Codes.{decoded}
 use Rattle.fates.proofs.Judging.{rule_room_lem, rule_terms, terms_room}
 use Rattle.rewriting.specs.Written.{terms_written}
-use Rattle.rewriting.proofs.Termwise.{length_written}
 use Rattle.rewriting.proofs.Rulewise.{rule_laid_as}
 use Rattle.rewriting.proofs.rules.put_rule.Goals as goal
 
@@ -18,30 +16,16 @@ terms_of-count-requires c = let r = c.requires.0 in (omega (arith, rule_room_lem
 pub keep_terms-end-requires : goal.keep_terms-end-requires
 keep_terms-end-requires c =
     let r = c.requires.0 in
-    rw c.terms_of-count.ensures (terms_room r, rw (rule_terms r) at r.small, omega (arith, c.requires.1), c.requires.2)
-
-pub narrow-size-requires : goal.narrow-size-requires
-narrow-size-requires c =
-    let r = c.requires.0 in
-    let f = decoded c.args.map.now in
-    let count = c.terms_of-count.ensures in
-    omega (
-      arith,
-      c.keep_terms-end.ensures.1,
-      length_written f (terms_at c.args.file.now (c.args.at + 12) c.terms_of-count.result),
-      length_terms_at c.args.file.now c.terms_of-count.result (c.args.at + 12),
-      r.few,
-    )
+    rw c.terms_of-count.ensures (terms_room r, rw (rule_terms r) at r.small, omega (arith, c.requires.1))
 
 pub returns : goal.returns
 returns c =
     let a = c.args in
-    let f = decoded a.map.now in
+    let f = decoded a.map.words.now in
     let r = c.requires.0 in
     rule_laid_as a.file.now a.to _ _ _ _ c.mode.ensures c.number.ensures c.number-2.ensures
     (ap (λ k. terms_written f (terms_at a.file.now (a.at + 12) k)) c.terms_of-count.ensures ∙ ap (terms_written f) (sym (rule_terms r)))
-    (omega (arith, rule_room_lem r, c.requires.1)) c.keep_terms-end.ensures.0 c.keep_terms-end.ensures.1 c.narrow-size.ensures
-    c.put_bounds.ensures
+    (omega (arith, rule_room_lem r, c.requires.1)) c.keep_terms-end.ensures.0 c.keep_terms-end.ensures.1 refl c.put_bounds.ensures
 
 pub overflow_add-at : goal.overflow_add-at
 overflow_add-at c = omega (arith, rule_room_lem c.requires.0)

@@ -1,27 +1,23 @@
--- `terms::keep_term` meets its contract, by the code of the term's variable.
+-- `terms::keep_term` meets its contract, by what becomes of the term's variable.
 -- Assumes nothing.
 use native.Mathlib.Omega.{arith}
-use mathlib.Core.Path.{ap, ◌∙◌}
-use Rattle.words.specs.Words.{word_at}
-use Rattle.fates.specs.Codes.{decode}
-use Rattle.fates.proofs.Parts.{decode_other}
+use mathlib.Core.Path.{sym, ap, ◌∙◌}
+use Rattle.fates.specs.Maps.{codes, becomes}
 use Rattle.rewriting.proofs.Termwise.{term_dropped, term_kept}
 use Rattle.rewriting.proofs.terms.keep_term.Goals as goal
 
-pub word-code-requires : goal.word-code-requires
-word-code-requires c = omega (arith, c.read_size.ensures, c.requires.1, c.requires.3)
+pub code-requires : goal.code-requires
+code-requires c = omega (arith, c.read_size.ensures, c.requires.1)
 
-pub returns-then-code-eq-OFF : goal.returns-then-code-eq-OFF
-unfolding decode
-returns-then-code-eq-OFF c = term_dropped _ _ _ _ (c.word-code.ensures ∙ ap (word_at c.args.map.now) c.read_size.ensures) (ap decode c.if-code-eq-OFF.true)
+pub returns-in-Off : goal.returns-in-Off
+returns-in-Off c = term_dropped _ _ _ _ (ap (codes c.args.map) (sym c.read_size.ensures) ∙ sym c.code.ensures ∙ ap becomes c.in-Off.is)
 
-pub returns-then-code-eq-ON : goal.returns-then-code-eq-ON
-unfolding decode
-returns-then-code-eq-ON c = term_dropped _ _ _ _ (c.word-code.ensures ∙ ap (word_at c.args.map.now) c.read_size.ensures) (ap decode c.if-code-eq-ON.true)
+pub returns-in-On : goal.returns-in-On
+returns-in-On c = term_dropped _ _ _ _ (ap (codes c.args.map) (sym c.read_size.ensures) ∙ sym c.code.ensures ∙ ap becomes c.in-On.is)
 
-pub returns : goal.returns
-returns c =
-    term_kept _ _ _ _ (c.word-code.ensures ∙ ap (word_at c.args.map.now) c.read_size.ensures) (decode_other _ c.if-code-eq-OFF.false c.if-code-eq-ON.false)
+pub returns-in-New : goal.returns-in-New
+returns-in-New c =
+    term_kept _ _ _ _ (ap (codes c.args.map) (sym c.read_size.ensures) ∙ sym c.code.ensures ∙ ap becomes c.in-New.is)
     c.read_u32-weight.ensures c.read_u32-weight.type_inv c.put_term.ensures
 
 pub read_size-requires : goal.read_size-requires

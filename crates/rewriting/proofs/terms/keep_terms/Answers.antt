@@ -8,7 +8,6 @@ keep_term-end-requires c = (
   keeping_room _ _ _ _ _ c.requires.0 _ _ _ _ (omega (arith, c.loop-i-test.true)) c.loop-i.invariant,
   keeping_variable _ _ _ _ _ c.requires.0 _ _ _ _ (omega (arith, c.loop-i-test.true)) c.loop-i.invariant,
   c.loop-i.invariant.behind,
-  c.requires.3,
 )
 
 pub loop-i-preserved : goal.loop-i-preserved

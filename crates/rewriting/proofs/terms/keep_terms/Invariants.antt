@@ -5,4 +5,4 @@ use Rattle.rewriting.proofs.Termwise.{Keeping}
 use Rattle.rewriting.proofs.terms.keep_terms.Given as goal
 
 abbrev pub invariant-loop-i : goal.invariant-loop-i
-invariant-loop-i l = Keeping l.initial.file l.map l.from l.count l.to l.file (l.from + 6 * l.i) (l.count - l.i) l.end
+invariant-loop-i l = Keeping l.initial.file l.map.words.now l.from l.count l.to l.file (l.from + 6 * l.i) (l.count - l.i) l.end

@@ -2,16 +2,16 @@
 use Prim.Native.Nat.{◌+◌}
 use mathlib.Core.Option.{Option}
 use native.Mathlib.Omega.{arith}
-use mathlib.Core.Path.{◌≡◌, sym, ap, ◌∙◌}
+use mathlib.Core.Path.{◌≡◌, refl, sym, ap, ◌∙◌}
 use Rattle.cells.specs.declared.value.Value.{Value}
 use Rattle.cells.specs.Grammar.{Record, rows_of, column_of}
 use Rattle.cells.specs.Values.{gather_from, gather, same_value}
 use Rattle.rows.specs.Reading.{columns, is_zones, place}
-use Rattle.rows.proofs.Rows.{place_first, more_bytes, is_row, row_held, place_next, malformed_last, any_none, any_last, any_more, any_found}
+use Rattle.rows.proofs.Rows.{more_bytes, is_row, row_held, place_next, malformed_last, any_none, any_last, any_more, any_found}
 use Rattle.rows.proofs.row.among.Goals as goal
 
 pub loop-k-init : goal.loop-k-init
-loop-k-init c = (place_first _ _, any_none _ (rows_of (columns (is_zones c.args.listed)) c.args.s.now))
+loop-k-init c = (refl, any_none _ (rows_of (columns (is_zones c.args.listed)) c.args.s.now))
 
 pub returns-then-same : goal.returns-then-same
 returns-then-same c =
@@ -47,6 +47,3 @@ returns-in_default c =
     let n : a.rows ≡ at.k + 1 = omega (arith, c.requires, l, d.2) in
     let whole = any_last _ (rows_of (columns (is_zones a.listed)) a.s.now) _ d.0 at.invariant.1 ∙ ap (λ (x : Option Record). same_value (gather (column_of (place a.which) x)) a.value) d.1 in
     c.same.ensures ∙ ap (λ (v : Value). same_value v a.value) c.empty.ensures ∙ sym (rw n whole)
-
-pub read_row-requires : goal.read_row-requires
-read_row-requires c = c.loop-k.invariant.0.within

@@ -12,4 +12,4 @@ use Rattle.rows.proofs.row.among.Given as goal
 
 abbrev pub invariant-loop-k : goal.invariant-loop-k
 invariant-loop-k l =
-    Place (is_zones l.listed) l.s l.k l.at × (any (λ x. same_value (gather (column_of (place l.which) x)) l.value) (take l.k (rows_of (columns (is_zones l.listed)) l.s)) ≡ false)
+    Place (is_zones l.listed) l.s l.k l.rest × (any (λ x. same_value (gather (column_of (place l.which) x)) l.value) (take l.k (rows_of (columns (is_zones l.listed)) l.s)) ≡ false)
