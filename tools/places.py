@@ -1,5 +1,6 @@
 #!/usr/bin/env python3
-"""Lists, for each point of docs/DESIGN-PASS.md, the places in src/ that it may speak of. `tools/places.py` prints the counts, `tools/places.py 3` the places of point 3.
+"""Lists, for each point of docs/DESIGN-PASS.md, the places in src/ that it may speak of: `tools/places.py` prints the
+counts, `tools/places.py 3` the places of point 3.
 
 A place that is listed is one to look at: what was made of it, and why what stays stays, stands in the page and beside the place."""
 import collections
