@@ -42,7 +42,7 @@ use Rattle.statements.proofs.Parts.{size_signed}
 use Rattle.statements.proofs.Sums.{sum_none, no_term}
 use Rattle.opb_lines.specs.ReadText.{variables_in, objective_of, plan_of_text}
 use Rattle.opb_lines.specs.Lines.{next_line, lines_from}
-use Rattle.opb_lines.proofs.Lines.{lines_here, lines_none, lines_behind, lines_of}
+use Rattle.opb_lines.proofs.Lines.{lines_here, lines_none, lines_behind, lines_of, next_on}
 use Rattle.opb_fill.specs.Fill.{Says, constraints_from, Reaches, InRange, ConstraintHere}
 use Rattle.opb_fill.proofs.Accepted.{stated, not_objective, constraint_places, rules_are, terms_are, said, lawful_text}
 
@@ -562,3 +562,7 @@ module _ (s : List ℕ) (e : Says s) (ts : List Term) (q : ts ≡ objective_of s
       ∙ ap (λ ts. placed ts t) is_objective_lem
       ∙ ap (placed p.objective) (c ∙ ap (λ m. replicate m 0) n)
       ∙ dense p.variables p.objective (λ x. unsigned (coefficient p.objective x)) w.high w.objective (λ x l. refl)
+
+-- The first constraint behind a line is further on in the text, where the line is there.
+pub goes_on : (t r : Text) → Reaches t.bytes.now (next_line t.bytes.now t.at) r → t.at < length t.bytes.now → length r.bytes.now - r.at < length t.bytes.now - t.at
+goes_on t r n h = omega (arith, n.behind, ap length n.bytes, r.within, next_on t.bytes.now t.at t.within h)

@@ -18,6 +18,7 @@ ghost use Rattle.opb_fill.specs.Fill.{Says, constraints_from, Reaches, InRange, 
 use opb_lines::next_line;
 use statements::{Kind, Signed, kind_at, objective_sum, relation_at, sum_at, term_at};
 use tables::entries::{put_clause, put5};
+use tables::sections::Counted;
 use tokens::Text;
 use words::{clear, narrow, write_two, write_u32};
 
@@ -66,12 +67,6 @@ fn put_rule(t: Text<'_>, first: usize, out: &mut [u8]) -> usize
     let upper = if relation.exact { bound } else { 0 };
     put5(out, narrow(first), narrow(sum.count), mode, bound, upper);
     sum.count
-}
-
-#[derive(Clone, Copy)]
-pub struct Counted {
-    pub rules: usize,
-    pub terms: usize,
 }
 
 // The rules; it answers how many there are, and how many terms they have.

@@ -1,9 +1,7 @@
 -- The goals that the search leaves.
 use native.Mathlib.Omega.{arith}
-use mathlib.Core.Path.{sym, ap}
-use lib.ListN.{length}
-use Rattle.opb_lines.proofs.Lines.{next_on}
-use Rattle.opb_fill.proofs.Filled.{going_here, rule_start, rule_few, rule_space, rule_first, rule_same, rule_part, rule_more_terms, rule_more, rule_count_lem, rule_terms, rule_end}
+use mathlib.Core.Path.{sym}
+use Rattle.opb_fill.proofs.Filled.{going_here, goes_on, rule_start, rule_few, rule_space, rule_first, rule_same, rule_part, rule_more_terms, rule_more, rule_count_lem, rule_terms, rule_end}
 use Rattle.opb_fill.proofs.rule_section.Goals as goal
 
 pub loop-text-init : goal.loop-text-init
@@ -21,10 +19,7 @@ pub overflow_add-first : goal.overflow_add-first
 overflow_add-first c = omega (arith, c.put_rule-first.ensures.0, rule_more_terms c.loop-text.invariant c.loop-text-test.true)
 
 pub loop-text-smaller : goal.loop-text-smaller
-loop-text-smaller c =
-    let text = c.loop-text.text in
-    let next = c.constraint_behind-text-in-loop-text in
-    omega (arith, next.ensures.behind, ap length next.ensures.bytes, next.result.within, next_on text.bytes.now text.at text.within c.loop-text-test.true)
+loop-text-smaller c = goes_on c.loop-text.text _ c.constraint_behind-text-in-loop-text.ensures c.loop-text-test.true
 
 pub loop-text-preserved : goal.loop-text-preserved
 loop-text-preserved c =
