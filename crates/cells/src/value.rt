@@ -85,7 +85,8 @@ pub fn with(v: Value, b: u8) -> Value
     }
 }
 
-// Whether two values of at most 16 bytes are the same bytes.
+// Whether two values are the same bytes, where both have at most 16; all longer ones are alike. It is no derived equality, for that would
+// compare the numbers too, which the bytes already say.
 pub fn same(a: Value, b: Value) -> bool
     ensures { result ≡ same_value a b }
 {

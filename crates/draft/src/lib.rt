@@ -1,7 +1,8 @@
 // The plan file of the mapper's two lists, written into a lent buffer.
 #![tactic(auto)]
 
-ghost use Rattle.std.specs.Prelude.{◌≡◌, true, false, cond, List, [], ◌∷◌, ◌++◌, map, ℕ, ◌+◌, ◌*◌, ◌%◌, ◌≤◌, eqb, length, Some, IfSome};
+ghost use Rattle.std.specs.Prelude.{◌≡◌, true, false, cond, ℕ, ◌+◌, ◌*◌, ◌%◌, ◌≤◌, eqb, Some, IfSome};
+ghost use Rattle.std.specs.Prelude.{List, [], ◌∷◌, ◌++◌, map, length};
 ghost use Rattle.std.specs.Option.{is_some};
 ghost use Rattle.words.specs.Words.{bytes_of};
 ghost use Rattle.words.specs.Writes.{put, front};
@@ -42,8 +43,8 @@ struct Sites<'a> {
     ghost counted: { count ≡ length (site_rows list.now) },
 }
 
-// The buffer and the place in it stay two parameters: a struct that held the buffer would have to say in each contract that it is still the same one.
-// Writes a field's tag and length at a place.
+// Writes a field's tag and length at a place. The buffer and the place stay two parameters, here and below: a struct that held the buffer would have to say in
+// each contract that it is still the same one.
 fn write_head(out: &mut [u8], at: usize, tag: u8, size: usize)
     requires { at + 3 ≤ length out.old }
     ensures { out.new ≡ put at (tag ∷ bytes_of 2 size) out.old }

@@ -164,7 +164,8 @@ fn at_row(fault: Fault, k: usize) -> AtFault
 // "The first row at fault decides, by the lower number": 51, 52, then 53. Without one it answers how many rows there are.
 pub fn judge_list(s: &[u8], listed: Listed) -> Result<usize, AtFault>
     ensures { MatchResult result
-        (λ n. judged (row_fault (is_zones listed) (entries_of (is_zones listed) s.now)) (entries_of (is_zones listed) s.now) ≡ record { fault = 0; rows = n })
+        (λ n. judged (row_fault (is_zones listed) (entries_of (is_zones listed) s.now)) (entries_of (is_zones listed) s.now)
+        ≡ record { fault = 0; rows = n })
         (IsAt (judged (row_fault (is_zones listed) (entries_of (is_zones listed) s.now)) (entries_of (is_zones listed) s.now))) }
 {
     let mut rest = s;
@@ -185,8 +186,8 @@ pub fn judge_list(s: &[u8], listed: Listed) -> Result<usize, AtFault>
     Ok(k)
 }
 
-// A column and a list, by the list. One function for both tables would say less: they answer different things.
-// The column of the zone. "Sites: code, carry metres, zone." "Zones: zone, least, most, and `yes` or `no`".
+// The column of the zone. It stands apart from the other list, which is told by the list too: one answers a column and one a list, and a function for both
+// would say less. "Sites: code, carry metres, zone." "Zones: zone, least, most, and `yes` or `no`".
 fn zone_column(listed: Listed) -> Column
     ensures { place result ≡ zone_column (is_zones listed) }
 {

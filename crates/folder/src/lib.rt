@@ -1,4 +1,4 @@
-// What the program reads from its folder, and what it prints (document 01, "The program and its two lines").
+// What the program reads from its folder (document 01, "The program and its two lines").
 #![tactic(auto)]
 
 pub mod files;
