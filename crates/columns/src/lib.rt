@@ -1,4 +1,6 @@
 // What the walk keeps beside the tallies and the marks: definitions in specs/. The code is the layout's numbers; specs/Layout.antt has the same for contracts.
+// The columns are words behind one another, and no slices or structs: they stand in the two buffers that the caller lends, behind what C reads there, and
+// there is no heap for others.
 #![tactic(auto)]
 
 // Behind the tallies: K, A and B of each rule, and what its two sides need. Side 2 * r is that of the false literals of rule r, 2 * r + 1 that of the true.
@@ -19,11 +21,12 @@ pub const PICKS: usize = HINTS + 1 + format::MAX_VARIABLES; // the variables to 
 
 pub const WEIGHTS: usize = PICKS + format::MAX_VARIABLES; // entry k of the order has its weight at WEIGHTS + k
 
-pub const LIST_COUNTS: usize = WEIGHTS + (format::MAX_TERMS + format::MAX_VARIABLES); // of clause c
+pub const LIST_COUNTS: usize = WEIGHTS + (format::MAX_TERMS + format::MAX_VARIABLES); // clause c has its count at LIST_COUNTS + c
 
 pub const LISTS: usize = LIST_COUNTS + (format::MAX_CLAUSES + 1);
 
 pub const COLUMNS: usize = 4 * (LISTS + (format::MAX_TERMS + format::MAX_VARIABLES));
 
-// The word of what is not there: above every size and every weight.
-pub const NEVER: u32 = 4294967295;
+// The word of what is not there: above every size and every weight. In the code what may not be there is an Option; the columns are bytes that the caller
+// lends, and have one word for it.
+pub const NEVER: u32 = u32::MAX;

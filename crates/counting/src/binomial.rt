@@ -1,4 +1,5 @@
-// Binomials as capped counts: of m over k, and the difference of two with the same lower number.
+// Binomials as capped counts: of m over k, and the difference of two with the same lower number. The upper number is a sum of weights, made where it is
+// asked about, as m + w in a clause and its code, so that a type that keeps it below 2^32 would be made and opened again at each +.
 ghost use Rattle.std.specs.Prelude.{◌≡◌, true, ◌+◌, ◌-◌, ◌≤◌, ◌<◌, min};
 ghost use Rattle.plpb.specs.Count.{cap, capped};
 ghost use Rattle.plpb.specs.Equations.{binom};
@@ -38,10 +39,7 @@ fn lower_half(m: u64, k: u64) -> Report
         }
     }
     Report {
-        count: Count {
-            value: entry as u32,
-            cut: false,
-        },
+        count: Count::from(entry as u32),
         factors: k as u32,
     }
 }
@@ -72,20 +70,15 @@ pub fn binomial(m: u64, k: u64) -> Count
         return Count::ZERO;
     }
     if m < ROWS {
-        return Count {
-            value: tabled(m, k),
-            cut: false,
-        };
+        return Count::from(tabled(m, k));
     }
-    if 17 <= k {
-        if k <= m - 17 {
-            return Count::CUT;
-        }
+    if 17 <= k && k <= m - 17 {
+        return Count::CUT;
     }
     by_factors(m, k).count
 }
 
-// m over k, and its factors. Most callers want the count alone, and a report goes through memory.
+// m over k, and its factors. It has the first two cases of `binomial` again, for speed: most callers want the count alone, and a report goes through memory.
 pub fn reported(m: u64, k: u64) -> Report
     requires { m < 4294967296 }
     ensures count_value { number result.count ≡ capped (binom m k) }
@@ -99,10 +92,7 @@ pub fn reported(m: u64, k: u64) -> Report
     }
     if m < ROWS {
         return Report {
-            count: Count {
-                value: tabled(m, k),
-                cut: false,
-            },
+            count: Count::from(tabled(m, k)),
             factors: 0,
         };
     }
@@ -139,13 +129,7 @@ pub fn difference(m: u64, w: u64, k: u64) -> Count
     requires { m + w < 4294967296 }
     ensures { number result ≡ capped (binom (m + w) k - binom m k) }
 {
-    if k == 0 {
-        return Count::ZERO;
-    }
-    if w == 0 {
-        return Count::ZERO;
-    }
-    if m + w < k {
+    if k == 0 || w == 0 || m + w < k {
         return Count::ZERO;
     }
     if m + w == k {
@@ -166,17 +150,5 @@ pub fn surely_past(m: u64, w: u64, k: u64) -> bool
     requires { m + w < 4294967296 }
     ensures { result ≡ true → cap < binom (m + w) k - binom m k }
 {
-    if k < 19 {
-        return false;
-    }
-    if w == 0 {
-        return false;
-    }
-    if m + w < k {
-        return false;
-    }
-    if m + w - k < 17 {
-        return false;
-    }
-    true
+    19 <= k && 0 < w && k <= m + w && 17 <= m + w - k
 }

@@ -1,5 +1,5 @@
 // The size that a bound of a rule asks for, A or B, where the bound is there; and binomials over it. Numbers and bound go one by one, as the equations that
-// use them have them.
+// use them have them, and each clause bounds the sum that its binomials are of.
 ghost use Rattle.std.specs.Prelude.{◌≡◌, true, ◌+◌, ◌-◌, ◌<◌};
 ghost use Rattle.plpb.specs.Count.{cap, capped};
 ghost use Rattle.plpb.specs.Equations.{over as overSize};

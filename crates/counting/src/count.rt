@@ -1,5 +1,5 @@
-// A count as it is given out: the true number or 4,294,967,295, whichever is smaller, and whether it was cut. It is the project's `given n`, in which a cut
-// count has a value too: an Option of the number would have to find the value again wherever a count is given out or stored.
+// A count as it is given out: the true number or 4,294,967,295, whichever is smaller, and whether it was cut. It is a value with a mark because that is the
+// form asked for (docs/DECISIONS.md), and C sees the same two in `Marked`.
 ghost use Rattle.std.specs.Prelude.{◌≡◌, suc, ◌+◌, ◌*◌, ◌<◌};
 ghost use Rattle.plpb.specs.Count.{cap, given, capped};
 ghost use Rattle.counting.specs.Count.{number, count_words, marked_words};
@@ -47,7 +47,8 @@ impl Count {
         cut: true,
     };
 
-    // Where it stands among counts: a cut one above all others.
+    // Where it stands among counts: a cut one above all others. A derived order would compare the two fields, and say the same only of cut counts whose
+    // value is the cap, which no type says.
     pub fn rank(self) -> u64
         ensures { (result ≡ number self) × (result < 4294967297) }
     {
@@ -68,16 +69,23 @@ impl Count {
     }
 }
 
-// The count of a number that fits 64 bits.
+// The count of a number of 32 bits, which is never cut.
+impl From<u32> for Count {
+    ghost from_gives = { λ n c. number c ≡ n };
+
+    fn from(value: u32) -> Count {
+        Count { value, cut: false }
+    }
+}
+
+// The count of a number of 64 bits. It is told from the cap by its name: `u32::try_from` would cut it at the same place, but because the cap is the largest
+// number of 32 bits, which the reader would have to know.
 impl From<u64> for Count {
     ghost from_gives = { λ n c. number c ≡ capped n };
 
     fn from(n: u64) -> Count {
         if n <= Count::CAP.value as u64 {
-            return Count {
-                value: n as u32,
-                cut: false,
-            };
+            return Count::from(n as u32);
         }
         Count::CUT
     }
@@ -88,15 +96,14 @@ impl From<Count> for Marked {
     ghost from_gives = { λ c m. marked_words m ≡ count_words (given (number c)) };
 
     fn from(count: Count) -> Marked {
-        let n = count.rank();
-        if (Count::CAP.value as u64) < n {
+        if count.cut {
             return Marked {
                 value: Count::CAP.value,
                 cut: 1,
             };
         }
         Marked {
-            value: n as u32,
+            value: count.value,
             cut: 0,
         }
     }

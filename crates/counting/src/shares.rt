@@ -2,7 +2,8 @@
 // The first three functions are the three cases of paper 004's equations (10) to (12), in its order and "read with 'its literal is
 // true' for 'x is true'". C(m, k) is m over k; w is the weight of the variable's literal, N and P are the weights of the rule's false and
 // of its true literals. K − l + 1 is the size a, and u + 1 the size b: an absent bound has no parts, and a size raised to 0 one, which is
-// empty. The letters go one by one: each line reads as its equation does, which a struct's name before each letter would hide.
+// empty. The letters go one by one: each line reads as its equation does, which a struct's name before each letter would hide. So does what is known of
+// them: N + P is K, which 32 bits hold.
 ghost use Rattle.std.specs.Prelude.{◌≡◌, ◌+◌, ◌-◌, ◌≤◌, ◌<◌};
 ghost use Rattle.plpb.specs.Count.{capped};
 ghost use Rattle.plpb.specs.Equations.{over as overSize};
@@ -76,7 +77,7 @@ impl Shares {
         g: Count::ONE,
     };
 
-    // e + g: the parts that are false after the flip.
+    // e + g: the parts that are false after the flip. It and the next are the factors of (6) and of (7), a sum of two letters each.
     pub fn false_after(self) -> Count
         ensures { number result ≡ capped (number self.e + number self.g) }
     {

@@ -2,7 +2,7 @@
 ghost use Rattle.std.specs.Prelude.{◌≡◌, ◌<◌, nat_abs};
 ghost use Rattle.plpb.specs.Search.{third as thirdOf, lbs_bound, linear_bound};
 
-// A third, rounded down, below zero as well.
+// A third, rounded down, below zero as well. It is the library's division, with the clause in the definition's word, which the two bounds cite.
 pub fn third(a: i64) -> i64
     ensures { result ≡ thirdOf a }
 {

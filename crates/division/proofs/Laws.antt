@@ -9,11 +9,26 @@ use native.Mathlib.Numerals.{add-one}
 use native.Mathlib.Omega.{arith}
 use lib.Dec.{leb, ltb, eqb}
 use lib.ListN.{length, get_or}
-use borrow.Author.Tests.{ltb-true, ltb-false, eqb-true, lt-ltb, le-ltb, lt-leb, le-leb, leb-true, leb-false}
+use borrow.Author.Tests.{tests, ltb-true, ltb-false, eqb-true, lt-ltb, leb-true}
+use borrow.Author.Rules.{rules}
+use Rattle.std.specs.List.{fold, sum as total_of}
+use Rattle.std.specs.Prelude.{Some}
+use Rattle.std.specs.Ordering.{is_le, nat_cmp}
+use Rattle.std.specs.declared.ops.RangeInclusive.{RangeInclusive}
+use Rattle.std.specs.Range.{range_inclusive_start, range_inclusive_end, range_inclusive_exhausted, range_inclusive_contains}
 use Rattle.plpb.specs.Lists.{◌and◌, ◌or◌}
 use Rattle.plpb.proofs.Lists.{T_true, false_T}
 use Rattle.division.specs.Split.{sum, whole_parts, one_each, lawful_stake}
 use Rattle.division.specs.Eight.{bad_at, bad_from, extra_at}
+
+-- The library's sum is that of the definition.
+sum_on : (a : ℕ) (l : List ℕ) → fold (λ s x. s + x) a l ≡ a + sum l
+unfolding sum
+sum_on a [] = sym (add-zero a)
+sum_on a (x ∷ xs) = sum_on (a + x) xs ∙ omega arith
+
+pub sum_is : (l : List ℕ) → total_of l ≡ sum l
+sum_is l = sum_on 0 l ∙ omega arith
 
 -- An element is at most the sum.
 pub at_most_lem : (l : List ℕ) (i : ℕ) → get_or l i 0 ≤ sum l
@@ -77,18 +92,35 @@ topped_fit zero bs = omega arith
 topped_fit (suc r) [] = omega arith
 topped_fit (suc r) (b ∷ bs) = omega (arith, topped_fit r bs)
 
--- A stake below 1, and one from 1 on.
-pub low_stake : (s : ℕ) → s < 1 → ltb s 1 ≡ not (lawful_stake s)
-unfolding lawful_stake ◌and◌
-low_stake s h = rw (lt-ltb s 1 h, lt-leb 1 s h)
+-- What a range's `contains` tells of a number is what the two tests of the definition say.
+le_test : (a b : ℕ) → is_le (nat_cmp a b) ≡ leb a b
+le_test a b = search (rules, tests)
 
-pub high_stake : (s : ℕ) → 1 ≤ s → ltb 100 s ≡ not (lawful_stake s)
-unfolding lawful_stake ◌and◌
-high_stake s h = rw (le-leb 1 s h) (by _ refl)
+pub told : {b : Bool} {m n : ℕ} (x : ℕ) {r : RangeInclusive ℕ} → range_inclusive_start r ≡ m → range_inclusive_end r ≡ n → range_inclusive_exhausted r ≡ false
+    → b ≡ range_inclusive_contains (λ i j. Some (nat_cmp i j)) r x → b ≡ (leb m x and leb x n)
+unfolding ◌and◌
+told {m = m} {n = n} x e f g h = rw (← le_test m x, ← le_test x n) (h ∙ rw (e, f, g))
+
+-- The two tests of the number of races are one range.
+counted_by : (x y z w : Bool) → (x ≡ true → z ≡ false) → (x ≡ false → z ≡ true) → (y ≡ true → w ≡ false) → (y ≡ false → w ≡ true)
+    → {A : Type 0} (a b : A) → cond z a (cond w a b) ≡ cond (x and y) b a
+unfolding ◌and◌
+counted_by true true z w p q r s a b = rw (p refl, r refl) refl
+counted_by true false z w p q r s a b = rw (p refl, s refl) refl
+counted_by false y z w p q r s a b = rw (q refl) refl
+
+pub counted : (n : ℕ) {A : Type 0} (a b : A) → cond (eqb n 0) a (cond (ltb 8 n) a b) ≡ cond (leb 1 n and leb n 8) b a
+counted n a b =
+    counted_by (leb 1 n) (leb n 8) (eqb n 0) (ltb 8 n) (λ e. search (rules, tests)) (λ e. search (rules, tests)) (λ e. search (rules, tests)) (λ e. search (rules, tests)) a b
+
+pub few_races : (n : ℕ) → (leb 1 n and leb n 8) ≡ true → (1 ≤ n) × (n ≤ 8)
+unfolding ◌and◌
+few_races n e = both (leb 1 n) (leb n 8) (leb-true 1 n) (leb-true n 8) e
   where
-    by : (t : Bool) → leb s 100 ≡ t → ltb 100 s ≡ not t
-    by true e = le-ltb 100 s (leb-true s 100 e)
-    by false e = lt-ltb 100 s (leb-false s 100 e)
+    both : (x y : Bool) {A B : Type 0} → (x ≡ true → A) → (y ≡ true → B) → (x and y) ≡ true → A × B
+    both true true p q h = (p refl, q refl)
+    both true false p q h = absurd (false_T (sym h) tt)
+    both false y p q h = absurd (false_T (sym h) tt)
 
 -- No stake is bad: each is at most 100, and the first at least 1.
 small : (x y z w : Bool) (s : ℕ) → (z ≡ true → s ≤ 100) → (w ≡ true → s ≡ 0) → cond x (not (y and z)) (not w) ≡ false → s ≤ 100

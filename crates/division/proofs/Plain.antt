@@ -158,9 +158,21 @@ refused_told before ss numbers r e = record { refusal = sym e; parts = rw (e, so
     some WrongCount = unfold refusal_number in refl
     some WrongStake = unfold refusal_number in refl
 
+zeros : (k n : ℕ) → k ≤ n → take {A = ℕ} k (replicate n 0) ≡ replicate k 0
+zeros zero n h = refl
+zeros (suc k) zero h = absurd (not-suc-le-zero h)
+zeros (suc k) (suc n) h = ap (λ (l : List ℕ). 0 ∷ l) (zeros k n (le_of_suc-le-suc h))
+
+first_of : (k n : ℕ) (ss : List ℕ) → length ss ≤ k → k ≤ n → take k (ss ++ replicate n 0) ≡ ss ++ replicate (k - length ss) 0
+first_of k n [] h l = zeros k n l ∙ ap (λ (m : ℕ). replicate m 0) (omega arith)
+first_of zero n (s ∷ ss) h l = absurd (not-suc-le-zero h)
+first_of (suc k) n (s ∷ ss) h l =
+    ap (λ (ts : List ℕ). s ∷ ts) (first_of k n ss (le_of_suc-le-suc h) (omega (arith, l)))
+    ∙ ap (λ (m : ℕ). s ∷ (ss ++ replicate m 0)) (omega arith)
+
 few : (ss : List ℕ) → ltb 8 (length ss) ≡ false → kept ss ≡ record { count = length ss; stakes = ss ++ replicate (8 - length ss) 0 }
 unfolding kept
-few ss m = rw m
+few ss m = ap (λ (l : List ℕ). record { count = length ss; stakes = l }) (first_of 8 8 ss (ltb-false 8 (length ss) m) (omega arith))
 
 module _ (ss : List ℕ) (numbers : ℕ) where
   -- too little room
@@ -170,11 +182,18 @@ module _ (ss : List ℕ) (numbers : ℕ) where
   -- more races than 8
   many : ltb 8 (length ss) ≡ true → Told 0 ss numbers (divided (kept ss) numbers)
   unfolding divided kept
-  many m = rw m (refused_told 0 ss numbers WrongCount (unfold refusal_after split_refusal refusal_number in rw (m, either (eqb (length ss) 0))))
+  many m = rw m (by (eqb (length ss) 0))
     where
       either : (b : Bool) → (b or true) ≡ true
       either true = unfold ◌or◌ in refl
       either false = unfold ◌or◌ in refl
+
+      wrong_count : Told 0 ss numbers (Err WrongCount)
+      wrong_count = refused_told 0 ss numbers WrongCount (unfold refusal_after split_refusal refusal_number in rw (m, either (eqb (length ss) 0)))
+
+      by : (b : Bool) → Told 0 ss numbers (cond b (Err WrongCount) (Err WrongCount))
+      by true = wrong_count
+      by false = wrong_count
 
   -- none
   none : ltb 8 (length ss) ≡ false → eqb (length ss) 0 ≡ true → Told 0 ss numbers (divided (kept ss) numbers)

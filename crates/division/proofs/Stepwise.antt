@@ -7,8 +7,10 @@ use native.Mathlib.Nat.{add-zero, sub-zero, le_of_suc-le-suc, not-suc-le-zero}
 use native.Mathlib.Numerals.{add-one}
 use native.Mathlib.Omega.{arith}
 use lib.ListN.{length, get_or, set, take, drop, drop_of_length-le}
-use lib.Seq.{take_all, drop-cons}
+use lib.Seq.{take_all}
 use mathlib.Core.Bool.{Bool, true, false}
+use Rattle.std.specs.Prelude.{◌||◌}
+use Rattle.std.specs.List.{list_any, enumerate_from}
 use Rattle.plpb.specs.Lists.{◌or◌}
 use Rattle.division.specs.declared.Part.{Part}
 use Rattle.division.specs.Split.{sum, whole_parts, one_each, parts}
@@ -49,25 +51,16 @@ module _ {A : Type 0} where
 
 -- ---- bad stakes
 
--- The stakes from a place on, with the one that stands there.
-pub bad_here : (count : ℕ) (ss : List ℕ) (i : ℕ) → i < length ss
-    → bad_from count i (drop i ss) ≡ (bad_at count i (get_or ss i 0) or bad_from count (i + 1) (drop (i + 1) ss))
-unfolding bad_from
-bad_here count ss i h = rw (add-one i) (ap (bad_from count i) (drop-cons ss i 0 h))
-
-pub bad_found : (count : ℕ) (ss : List ℕ) (i : ℕ) → i < length ss → bad_from count i (drop i ss) ≡ bad_from count 0 ss
-    → bad_at count i (get_or ss i 0) ≡ true → true ≡ bad_from count 0 ss
+-- Each stake is asked with its place.
+or_same : (b c : Bool) → (b || c) ≡ (b or c)
 unfolding ◌or◌
-bad_found count ss i h run e = sym (bad_here count ss i h ∙ ap (λ (b : Bool). b or bad_from count (i + 1) (drop (i + 1) ss)) e) ∙ run
+or_same true c = refl
+or_same false c = refl
 
-pub bad_next : (count : ℕ) (ss : List ℕ) (i : ℕ) → i < length ss → bad_from count i (drop i ss) ≡ bad_from count 0 ss
-    → bad_at count i (get_or ss i 0) ≡ false → bad_from count (i + 1) (drop (i + 1) ss) ≡ bad_from count 0 ss
-unfolding ◌or◌
-bad_next count ss i h run e = sym (bad_here count ss i h ∙ ap (λ (b : Bool). b or bad_from count (i + 1) (drop (i + 1) ss)) e) ∙ run
-
-pub bad_last : (count : ℕ) (ss : List ℕ) (i : ℕ) → length ss ≤ i → bad_from count i (drop i ss) ≡ bad_from count 0 ss → false ≡ bad_from count 0 ss
+pub bad_each : (count i : ℕ) (ss : List ℕ) → list_any (λ (p : ℕ × ℕ). bad_at count p.0 p.1) (enumerate_from i ss) ≡ bad_from count i ss
 unfolding bad_from
-bad_last count ss i h run = sym (ap (bad_from count i) (drop_of_length-le ss {i = i} h)) ∙ run
+bad_each count i [] = refl
+bad_each count i (s ∷ ss) = or_same _ _ ∙ ap (λ (b : Bool). bad_at count i s or b) (ap (λ (j : ℕ). list_any (λ (p : ℕ × ℕ). bad_at count p.0 p.1) (enumerate_from j ss)) (add-one i) ∙ bad_each count (suc i) ss)
 
 -- ---- the elements of the three lists
 
@@ -117,9 +110,6 @@ sums_within [] zero = omega arith
 sums_within [] (suc i) = omega arith
 sums_within (l ∷ ls) zero = omega arith
 sums_within (l ∷ ls) (suc i) = omega (arith, sums_within ls i)
-
-pub sum_last : (ls : List ℕ) (i : ℕ) {at : ℕ} → length ls ≤ i → at ≡ sum (take i ls) → at ≡ sum ls
-sum_last ls i h e = e ∙ ap sum (take_all i ls h)
 
 pub sum_room : (ls : List ℕ) (i : ℕ) {at x : ℕ} → at ≡ sum (take i ls) → x ≡ get_or ls i 0 → at + x ≤ sum ls
 sum_room ls i e f = rw (e, f) (sums_within ls i)

@@ -1,6 +1,6 @@
 -- The split over an array of 8 stakes, 0 where there is no race: what the code works on. proofs/Plain.antt ties it to the plain list of stakes.
 -- Assumes nothing.
-use Rattle.std.specs.Prelude.{ℕ, suc, ◌-◌, Bool, false, not, cond, List, [], ◌∷◌, ◌++◌, ltb, eqb, length, take, replicate, Result, Ok, Err}
+use Rattle.std.specs.Prelude.{ℕ, suc, Bool, false, not, cond, List, [], ◌∷◌, ◌++◌, ltb, eqb, length, take, replicate, Result, Ok, Err}
 use Rattle.plpb.specs.Lists.{◌or◌}
 use Rattle.division.specs.declared.Stakes.{Stakes}
 use Rattle.division.specs.declared.Parts.{Parts}
@@ -9,11 +9,9 @@ use Rattle.division.specs.declared.Refusal.TheVariants.{NoRoom, WrongCount, Wron
 use Rattle.division.specs.declared.Part.{Part}
 use Rattle.division.specs.Split.{lawful_stake, lengths, parts}
 
--- The stakes of a list of races, with 9 for the number of more than 8.
+-- The stakes of a list of races: how many there are, and the first 8, 0 where there is no race.
 unfoldable pub kept : List ℕ → Stakes
-kept ss =
-    cond (ltb 8 (length ss)) (record { count = 9; stakes = replicate 8 0 })
-    (record { count = length ss; stakes = ss ++ replicate (8 - length ss) 0 })
+kept ss = record { count = length ss; stakes = take 8 (ss ++ replicate 8 0) }
 
 -- The parts of as many races as there are.
 unfoldable pub laid : Parts → List Part

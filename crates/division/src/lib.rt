@@ -6,8 +6,8 @@ ghost use Rattle.std.specs.Prelude.{◌≡◌, ◌+◌, ◌*◌, ◌/◌, ◌≤
 ghost use Rattle.division.specs.Split.{sum, whole_parts, one_each, parts};
 ghost use Rattle.division.specs.Eight.{bad_at, bad_from, extra_at, refusal_number, lawful_parts, divided};
 
-// How many races there are, 9 for more than 8, and their stakes, 0 where there is no race. There is no heap, so that a list of 8 at most is an array with
-// a count.
+// How many races there are, and the stakes of the first 8, 0 where there is no race. There is no heap, so that a list of 8 at most is an array with a count;
+// that there are no more is what `divide` tests, and so no fact of the struct.
 #[derive(Clone, Copy)]
 pub struct Stakes {
     pub count: usize,
@@ -28,7 +28,7 @@ pub struct Parts {
     pub parts: [Part; 8],
 }
 
-// What turns a split away: too little room for the races, no race or more than 8, a stake outside its range.
+// What turns a split away: too little room for the races, no race or more than 8, a stake outside its range. Too little room is told by `festival`.
 #[derive(Clone, Copy, PartialEq, Eq)]
 pub enum Refusal {
     NoRoom,
@@ -36,14 +36,16 @@ pub enum Refusal {
     WrongStake,
 }
 
-// A refusal's number, as the C interface hands it out.
-pub fn number_of(refusal: Refusal) -> u32
-    ensures { result ≡ refusal_number refusal }
-{
-    match refusal {
-        Refusal::NoRoom => 21,
-        Refusal::WrongCount => 61,
-        Refusal::WrongStake => 62,
+// Its number, as the C interface hands it out.
+impl From<Refusal> for u32 {
+    ghost from_gives = { λ r n. n ≡ refusal_number r };
+
+    fn from(refusal: Refusal) -> u32 {
+        match refusal {
+            Refusal::NoRoom => 21,
+            Refusal::WrongCount => 61,
+            Refusal::WrongStake => 62,
+        }
     }
 }
 
@@ -51,18 +53,19 @@ pub fn number_of(refusal: Refusal) -> u32
 fn bad_at(count: usize, i: usize, s: usize) -> bool
     ensures { result ≡ bad_at count i s }
 {
-    if i < count { s < 1 || 100 < s } else { s != 0 }
+    if i < count {
+        !(1..=100).contains(&s)
+    } else {
+        s != 0
+    }
 }
 
+// That a sum has 64 bits stands in each clause here that needs it: it is said of another array each time, and a struct would be made anew at each step.
 fn total(s: [usize; 8]) -> usize
     requires { sum s < 2 ^ 64 }
     ensures { result ≡ sum s }
 {
-    let mut t = 0;
-    for x in s.iter() {
-        t += *x;
-    }
-    t
+    s.iter().sum()
 }
 
 // A race's share, rounded down. The product is never formed: it could be too large.
@@ -73,6 +76,7 @@ fn share(n: usize, s: usize, t: usize) -> usize
     n / t * s + n % t * s / t
 }
 
+// The array is written over place by place: `share` asks of its stake that it is no more than all of them, which a closure would have to ask of each number.
 fn whole_parts(n: usize, t: usize, s: [usize; 8]) -> [usize; 8]
     requires { (0 < t) × (sum s ≤ t) × (t ≤ 800) }
     ensures { result ≡ whole_parts n t s }
@@ -101,6 +105,7 @@ fn topped(r: usize, b: [usize; 8]) -> [usize; 8]
     l
 }
 
+// The first place goes on from part to part, so that they are written one after another.
 fn placed(l: [usize; 8]) -> [Part; 8]
     requires { sum l < 2 ^ 64 }
     ensures { result ≡ parts 0 l }
@@ -125,12 +130,10 @@ impl Stakes {
     fn any_bad(self) -> bool
         ensures { result ≡ bad_from self.count 0 self.stakes }
     {
-        for (i, x) in self.stakes.iter().enumerate() {
-            if bad_at(self.count, i, *x) {
-                return true;
-            }
-        }
-        false
+        self.stakes
+            .iter()
+            .enumerate()
+            .any(|(i, x)| bad_at(self.count, i, *x))
     }
 
     // The parts of lawful stakes.
@@ -149,14 +152,11 @@ impl Stakes {
     }
 }
 
-// The parts of `numbers` numbers, or 61 or 62.
+// The parts of `numbers` numbers, or what the split is refused for.
 pub fn divide(s: Stakes, numbers: usize) -> Result<Parts, Refusal>
     ensures { result ≡ divided s numbers }
 {
-    if s.count == 0 {
-        return Err(Refusal::WrongCount);
-    }
-    if 8 < s.count {
+    if !(1..=8).contains(&s.count) {
         return Err(Refusal::WrongCount);
     }
     if s.any_bad() {

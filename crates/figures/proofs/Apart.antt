@@ -1,14 +1,13 @@
 -- A run's numbers are its part of those that all runs take together.
 -- Assumes nothing.
-use Prim.Native.Nat.{ℕ, zero, suc, ◌+◌, ◌*◌, ◌≤◌, ◌<◌}
+use Prim.Native.Nat.{ℕ, zero, suc, ◌+◌, ◌*◌}
 use native.Mathlib.Nat.{zero-add, suc-add, zero-mul, suc-mul, add_comm}
 use native.Mathlib.Omega.{arith}
-use mathlib.Core.Path.{◌≡◌, refl, sym, ap, ◌∙◌}
-use mathlib.Core.List.{List, [], ◌∷◌, ◌++◌}
-use lib.ListN.{length, take, drop}
+use mathlib.Core.Path.{◌≡◌, sym, ap, ◌∙◌}
+use mathlib.Core.List.{◌∷◌, ◌++◌}
+use lib.ListN.{take, drop}
 use lib.Seq.{take_at, drop_at, drop-drop}
-use Rattle.plpb.specs.Plan.{Plan, present}
-use Rattle.plpb.specs.Settings.{Settings}
+use Rattle.plpb.specs.Plan.{present}
 use Rattle.plpb.specs.Search.{search}
 use Rattle.xorwow.specs.declared.Xorwow.{Xorwow}
 use Rattle.xorwow.specs.Xorwow.{stream, after, step, output}

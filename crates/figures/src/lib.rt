@@ -1,12 +1,14 @@
 // What is added up over runs of the search, and the figures of the sums.
 #![tactic(auto)]
 
-ghost use Rattle.std.specs.Prelude.{◌≡◌, cond, ◌≤◌, ◌<◌, eqb, nat_abs};
-ghost use Rattle.figures.specs.Figures.{AtMost, mean_cost, given_out, figures_by, plus, refused_with};
+ghost use Rattle.std.specs.Prelude.{◌≡◌, ◌≤◌, ◌<◌, nat_abs};
+ghost use Rattle.counting.specs.Bound.{bound_of};
+ghost use Rattle.figures.specs.Figures.{AtMost, mean_cost, figures_by, plus, refused_with};
 
 use fractions::{Fraction, SignedFraction, reduce, reduce_signed};
 
-// The runs with a find, the flips of all runs, and what those with a find cost.
+// The runs with a find, the flips of all runs, and what those with a find cost. That they are no more than so many runs come to is no field of them: the
+// bound rises with each run, and sums of 1,000 runs may have one run more added and are then within no bound of 1,000.
 #[derive(Clone, Copy)]
 pub struct Sums {
     pub found: u64,
@@ -26,41 +28,38 @@ pub struct Figures {
     pub cost: SignedFraction,
 }
 
-// The sums with one run more.
+// The sums with one run more. It is no method: what it requires is said of the sums beside the other numbers, as `plus` has them. Finds and cost come side by
+// side, as a run gives them: an Option of the cost would be made here, only to be opened at once.
 pub fn add(s: Sums, finds: u64, flips: u64, cost: i64) -> Sums
     requires { AtMost 1_000 s × (flips ≤ 16_384) × (nat_abs cost ≤ 512_000_000) }
     ensures { result ≡ plus s finds flips cost }
 {
+    let sums = Sums {
+        flips: s.flips + flips,
+        ..s
+    };
     if finds == 0 {
-        return Sums {
-            found: s.found,
-            flips: s.flips + flips,
-            cost: s.cost,
-        };
+        return sums;
     }
     Sums {
         found: s.found + 1,
-        flips: s.flips + flips,
         cost: s.cost + cost,
+        ..sums
     }
 }
 
-// 1 where a mean over so many is there.
-fn mark(found: u64) -> u32
-    ensures { result ≡ cond (eqb found 0) 0 1 }
-{
-    u32::from(found != 0)
-}
+// What is given out of a mean cost that is absent: 0 over 0.
+const ABSENT: SignedFraction = SignedFraction { top: 0, bottom: 0 };
 
-// The mean cost, 0 over 0 where it is absent.
-fn mean_cost(s: Sums) -> SignedFraction
+// The mean cost, where some run has a find.
+fn mean_cost(s: Sums) -> Option<SignedFraction>
     requires { AtMost 1_000 s }
-    ensures { result ≡ given_out (mean_cost s) }
+    ensures { bound_of result ≡ mean_cost s }
 {
     if s.found == 0 {
-        return SignedFraction { top: 0, bottom: 0 };
+        return None;
     }
-    reduce_signed(s.cost, s.found)
+    Some(reduce_signed(s.cost, s.found))
 }
 
 // The figures of so many runs.
@@ -73,10 +72,10 @@ pub fn figures_of(runs: u64, s: Sums) -> Figures
     let cost = mean_cost(s);
     Figures {
         refusal: 0,
-        found: mark(s.found),
+        found: u32::from(cost.is_some()),
         share,
         flips,
-        cost,
+        cost: cost.unwrap_or(ABSENT),
     }
 }
 
@@ -85,12 +84,11 @@ pub fn refused(n: u32) -> Figures
     ensures { result ≡ refused_with n }
 {
     let nothing = Fraction { top: 0, bottom: 0 };
-    let absent = SignedFraction { top: 0, bottom: 0 };
     Figures {
         refusal: n,
         found: 0,
         share: nothing,
         flips: nothing,
-        cost: absent,
+        cost: ABSENT,
     }
 }

@@ -4,8 +4,8 @@ use Prim.Native.Nat.{ℕ, zero, suc, ◌*◌, ◌/◌, ◌<◌, ◌∣◌}
 use native.Mathlib.Nat.{mul_assoc, mul-one, zero-mul, mul-div_cancel', div-mul_cancel, mul-dvd-mul_left, dvd_of_mul-dvd-mul_left, eq-one_of_dvd-one}
 use native.Mathlib.Omega.{arith}
 use mathlib.Core.Path.{◌≡◌, refl, sym, ap, ◌∙◌, subst}
-use lib.IntN.{ℤ, pos, negsuc, nat_abs, neg_ℤ, ◌*ℤ◌, negsuc-*ℤ-pos}
-use Rattle.fractions.specs.Fractions.{gcd, reduced, reduced_z, Lowest, Reduced, ReducedZ, ReducesAll, ReducesAllZ}
+use lib.IntN.{pos, negsuc, nat_abs, neg_ℤ, ◌*ℤ◌, negsuc-*ℤ-pos}
+use Rattle.fractions.specs.Fractions.{gcd, reduced, reduced_z, Lowest, ReducesAll, ReducesAllZ}
 use Rattle.fractions.proofs.Euclid.{gcd_greatest, gcd_positive}
 
 -- a and b are g times what is left of them.

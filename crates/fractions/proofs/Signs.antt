@@ -3,16 +3,12 @@
 use Prim.Native.Nat.{ℕ, zero, suc, ◌/◌, ◌^◌, ◌<◌, ◌≤◌}
 use native.Mathlib.Nat.{div-le_self}
 use native.Mathlib.Omega.{arith}
-use mathlib.Core.Path.{◌≡◌, refl, sym, ap, ap₂, ◌∙◌, subst}
-use mathlib.Core.Bool.{Bool, true, false}
-use lib.Dec.{T}
-use lib.IntN.{ℤ, pos, negsuc, nat_abs, neg_ℤ}
-use lib.Signed.{lt_z, non_neg, quot_z}
+use mathlib.Core.Path.{◌≡◌, ap, ap₂, ◌∙◌}
+use lib.IntN.{ℤ, pos, negsuc, neg_ℤ}
+use lib.Signed.{quot_z}
 use mir.Syntax.{w64}
-use mir.Val.{Fits, SFits, to_z, of_z}
+use mir.Val.{SFits, to_z, of_z}
 use mir.Facts.{to_z-of_z, to_z_pos}
-use borrow.Author.Tests.{le-ltb}
-use Rattle.words.specs.Signed.{complement}
 
 -- A quotient is no larger than what is divided.
 pub quotient_fits : (z : ℤ) (d : ℕ) → SFits w64 z → SFits w64 (quot_z z (pos d))

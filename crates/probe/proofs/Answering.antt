@@ -1,24 +1,29 @@
 -- What the exports answer, by the tests that led there.
 -- Assumes nothing.
-use Prim.Native.Nat.{ℕ, suc, ◌+◌, ◌<◌, ◌≤◌}
+use Prim.Native.Nat.{ℕ, suc, ◌+◌, ◌<◌, zero-le}
 use native.Mathlib.Omega.{arith}
 use mathlib.Core.Bool.{Bool, true, false}
 use Rattle.std.specs.Prelude.{Option}
 use Rattle.std.specs.Bool.{then_some}
 use Rattle.counting.specs.Bound.{bound_of}
 use mathlib.Core.Path.{◌≡◌, refl, ap, ◌∙◌}
-use borrow.Author.Tests.{lt-ltb, le-ltb, le-leb, lt-leb, eq-eqb, ne_eqb}
+use borrow.Author.Tests.{lt-ltb, le-ltb, ltb-true, leb-true, eq-eqb, ne_eqb}
 use mathlib.Core.List.{[], ◌∷◌}
 use Rattle.plpb.specs.Lists.{◌and◌}
-use Rattle.plpb.specs.Plan.{Bound}
 use Rattle.plpb.specs.Count.{cap, given, capped}
 use Rattle.plpb.proofs.Capped.{given_capped}
 use Rattle.counting.specs.Count.{count_words}
 use Rattle.counting.specs.Shares.{capped_shares}
 use Rattle.counting.specs.declared.count.Marked.{Marked}
 use Rattle.counting.proofs.Marks.{words_uncut}
-use Rattle.plpb.specs.Equations.{Standing, out, on, off, Shares, shares}
-use Rattle.probe.specs.Answers.{is_word, number_in, share_words, standing_for, is_within, shares_answer, bound_if}
+use Rattle.plpb.specs.Equations.{Shares, lost, gained}
+use Rattle.format.proofs.Bools.{and_left, and_right}
+use Rattle.rules.specs.declared.place.Stands.{Stands}
+use Rattle.rules.specs.declared.place.Stands.TheVariants.{Out, On, Off}
+use Rattle.rules.specs.declared.state.State.{State}
+use Rattle.rules.specs.Places.{standing_in}
+use Rattle.rules.specs.State.{Balanced, shares_from}
+use Rattle.probe.specs.Answers.{is_word, number_in, share_words, is_within, is_balanced, shares_answer, bound_if}
 
 abbrev none : Shares
 none = record { e = 0; f = 0; g = 0 }
@@ -31,41 +36,36 @@ pub no_word : (m : ℕ) → 4_294_967_295 < m → is_word m ≡ false
 unfolding is_word
 no_word m h = le-ltb m 4_294_967_296 (omega arith)
 
-pub none_wide : (s : Standing) (n p : ℕ) (A B : Bound ℕ) → 4_294_967_295 < n + p → none ≡ shares_answer s n p A B
-unfolding shares_answer ◌and◌
-none_wide s n p A B h = rw (no_word (n + p) h)
+-- Whether a state's numbers go together, by the two tests.
+pub both : (s : State) {t : Bool} → s.n + s.p < 4_294_967_296 → t ≡ is_within (standing_in s.stands) s.n s.p → t ≡ is_balanced s
+unfolding is_balanced ◌and◌
+both s h e = rw (is_word_lem (s.n + s.p) h) e
 
-within : (s : Standing) (n p : ℕ) (A B : Bound ℕ) → n + p < 4_294_967_296 → is_within s n p ≡ true → shares s n p A B ≡ shares_answer s n p A B
-unfolding shares_answer ◌and◌
-within s n p A B h e = rw (is_word_lem (n + p) h, e)
+pub no_sum : (s : State) → 4_294_967_295 < s.n + s.p → false ≡ is_balanced s
+unfolding is_balanced ◌and◌
+no_sum s h = rw (no_word (s.n + s.p) h) refl
 
-none_heavy : (s : Standing) (n p : ℕ) (A B : Bound ℕ) → n + p < 4_294_967_296 → is_within s n p ≡ false → none ≡ shares_answer s n p A B
-unfolding shares_answer ◌and◌
-none_heavy s n p A B h e = rw (is_word_lem (n + p) h, e)
+-- A state whose numbers go together is balanced, and its shares are answered; another's are 0.
+module _ (s : State) where
+  pub balanced : is_balanced s ≡ true → Balanced s
+  unfolding is_balanced is_word is_within lost gained
+  balanced e = by s.stands refl
+    where
+      small : s.n + s.p < 4_294_967_296
+      small = ltb-true (s.n + s.p) 4_294_967_296 (and_left _ _ e)
 
--- The three cases, each with a weight that fits or one that does not.
-module _ (case w n p : ℕ) (A B : Bound ℕ) (small : n + p < 4_294_967_296) where
-  pub answer_out : case ≡ 0 → shares out n p A B ≡ shares_answer (standing_for case w) n p A B
-  unfolding standing_for is_within
-  answer_out h = rw (eq-eqb case 0 h) (within out n p A B small refl)
+      by : (z : Stands) → s.stands ≡ z → Balanced s
+      by Out h = record { small = small; loses = rw h zero-le; gains = rw h zero-le }
+      by (On w) h = record { small = small; loses = rw h (leb-true w s.p (rw h at (and_right _ _ e))); gains = rw h zero-le }
+      by (Off w) h = record { small = small; loses = rw h zero-le; gains = rw h (leb-true w s.n (rw h at (and_right _ _ e))) }
 
-  module _ (one : case ≡ 1) where
-    pub answer_on : w ≤ p → shares (on w) n p A B ≡ shares_answer (standing_for case w) n p A B
-    unfolding standing_for is_within
-    answer_on h = rw one (within (on w) n p A B small (le-leb w p h))
+  pub answered : is_balanced s ≡ true → shares_from s ≡ shares_answer (standing_in s.stands) s.n s.p (bound_of s.a) (bound_of s.b)
+  unfolding is_balanced shares_from shares_answer
+  answered e = rw e refl
 
-    pub none_on : p < w → none ≡ shares_answer (standing_for case w) n p A B
-    unfolding standing_for is_within
-    none_on h = rw one (none_heavy (on w) n p A B small (lt-leb w p h))
-
-  module _ (some : case ≡ 0 → ⊥) (other : case ≡ 1 → ⊥) where
-    pub answer_off : w ≤ n → shares (off w) n p A B ≡ shares_answer (standing_for case w) n p A B
-    unfolding standing_for is_within
-    answer_off h = rw (ne_eqb case 0 some, ne_eqb case 1 other) (within (off w) n p A B small (le-leb w n h))
-
-    pub none_off : n < w → none ≡ shares_answer (standing_for case w) n p A B
-    unfolding standing_for is_within
-    none_off h = rw (ne_eqb case 0 some, ne_eqb case 1 other) (none_heavy (off w) n p A B small (lt-leb w n h))
+  pub unanswered : is_balanced s ≡ false → none ≡ shares_answer (standing_in s.stands) s.n s.p (bound_of s.a) (bound_of s.b)
+  unfolding is_balanced shares_answer
+  unanswered e = rw e refl
 
 -- Capped first or not, three counts are given out alike.
 pub words_capped : (s : Shares) → share_words (capped_shares s) ≡ share_words s

@@ -8,6 +8,8 @@ use Rattle.plpb.specs.Equations.{binom, Standing, out, on, off, Shares, shares}
 use Rattle.plpb.specs.Factors.{factors}
 use Rattle.counting.specs.Count.{count_words, marked_words}
 use Rattle.counting.specs.declared.count.Marked.{Marked}
+use Rattle.rules.specs.declared.state.State.{State}
+use Rattle.rules.specs.Places.{standing_in}
 use Rattle.probe.specs.declared.Three.{Three}
 
 -- The numbers that a binomial is worked out of: those of 32 bits.
@@ -52,6 +54,10 @@ unfoldable pub is_within : Standing → ℕ → ℕ → Bool
 is_within out n p = true
 is_within (on w) n p = leb w p
 is_within (off w) n p = leb w n
+
+-- So a state is, whose numbers go together.
+unfoldable pub is_balanced : State → Bool
+is_balanced s = is_word (s.n + s.p) and is_within (standing_in s.stands) s.n s.p
 
 unfoldable pub shares_answer : Standing → ℕ → ℕ → Bound ℕ → Bound ℕ → Shares
 shares_answer s n p A B = cond (is_word (n + p) and is_within s n p) (shares s n p A B) (record { e = 0; f = 0; g = 0 })

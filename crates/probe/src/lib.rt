@@ -2,19 +2,21 @@
 // Numbers that no lawful plan has are answered by 0.
 #![tactic(auto)]
 
-ghost use Rattle.std.specs.Prelude.{◌≡◌, ◌+◌, ◌<◌};
+ghost use Rattle.std.specs.Prelude.{◌≡◌};
 ghost use Rattle.plpb.specs.Search.{third as thirdOf};
 ghost use Rattle.plpb.specs.Count.{given};
-ghost use Rattle.counting.specs.Bound.{bound_of};
 ghost use Rattle.counting.specs.Count.{number, count_words, marked_words};
 ghost use Rattle.counting.specs.Shares.{shares_in, joined_shares};
 ghost use Rattle.probe.specs.Answers.{binomial_answer, factors_answer, difference_answer, number_in, three_in, three_words};
-ghost use Rattle.probe.specs.Answers.{share_words, bound_if, standing_for, shares_answer};
+ghost use Rattle.probe.specs.Answers.{share_words, bound_if, standing_for, is_within, is_balanced, shares_answer};
+ghost use Rattle.rules.specs.Places.{standing_in};
 
 use counting::binomial::{binomial, difference, reported};
 use counting::count::{Count, Marked};
-use counting::shares::{Shares, literal_absent, literal_false, literal_true};
+use counting::shares::Shares;
 use counting::tightening::third;
+use rules::place::Stands;
+use rules::state::State;
 
 #[repr(C)]
 #[derive(Clone, Copy)]
@@ -37,7 +39,7 @@ impl Three {
 pub extern "C" fn probe_binomial(m: u64, k: u64) -> Marked
     ensures { marked_words result ≡ count_words (given (binomial_answer m k)) }
 {
-    if 4294967295 < m {
+    if u64::from(u32::MAX) < m {
         return Marked::ZERO;
     }
     Marked::from(binomial(m, k))
@@ -48,7 +50,7 @@ pub extern "C" fn probe_binomial(m: u64, k: u64) -> Marked
 pub extern "C" fn probe_factors(m: u64, k: u64) -> u32
     ensures { result ≡ factors_answer m k }
 {
-    if 4294967295 < m {
+    if u64::from(u32::MAX) < m {
         return 0;
     }
     reported(m, k).factors
@@ -61,7 +63,7 @@ pub extern "C" fn probe_difference(m: u32, w: u32, k: u64) -> Marked
 {
     let low = m as u64;
     let more = w as u64;
-    if 4294967295 < low + more {
+    if u64::from(u32::MAX) < low + more {
         return Marked::ZERO;
     }
     Marked::from(difference(low, more, k))
@@ -84,12 +86,10 @@ fn lifted_count(m: Marked) -> Count
     ensures { number result ≡ number_in m }
 {
     if m.cut == 0 {
-        return Count {
-            value: m.value,
-            cut: false,
-        };
+        Count::from(m.value)
+    } else {
+        Count::CUT
     }
-    Count::CUT
 }
 
 impl From<Three> for Shares {
@@ -104,28 +104,37 @@ impl From<Three> for Shares {
     }
 }
 
-// A literal that weighs more than the sum it counts in is answered by 0 too. The cases are numbers in the C interface, and what else it hands over goes one by
-// one to the equations.
-fn shares(case: u32, w: u64, n: u64, p: u64, a: Option<u64>, b: Option<u64>) -> Three
-    requires { n + p < 4294967296 }
-    ensures { three_words result ≡ share_words (shares_answer (standing_for case w) n p (bound_of a) (bound_of b)) }
+// How a variable stands, by the number that C has for the case: the rule does not name it (0), its literal is true (1) or false (any other).
+fn stands(case: u32, w: u32) -> Stands
+    ensures { standing_in result ≡ standing_for case w }
 {
-    if case == 0 {
-        return Three::from(literal_absent(n, p, a, b));
+    match case {
+        0 => Stands::Out,
+        1 => Stands::On(w),
+        _ => Stands::Off(w),
     }
-    if case == 1 {
-        if p < w {
-            return Three::NONE;
-        }
-        return Three::from(literal_true(w, n, p, a, b));
-    }
-    if n < w {
-        return Three::NONE;
-    }
-    Three::from(literal_false(w, n, p, a, b))
 }
 
-// e, f and g of a rule for a variable that it does not name (case 0), or whose literal is true (1) or false (any other).
+// Whether the literal's weight is part of the sum that it counts in, P or N.
+fn is_within(s: State) -> bool
+    ensures { result ≡ is_within (standing_in s.stands) s.n s.p }
+{
+    match s.stands {
+        Stands::Out => true,
+        Stands::On(w) => w <= s.p,
+        Stands::Off(w) => w <= s.n,
+    }
+}
+
+// Whether N and P are a number of 32 bits together, and the literal's weight is part of its sum.
+fn is_balanced(s: State) -> bool
+    ensures { result ≡ is_balanced s }
+{
+    u64::from(s.n) + u64::from(s.p) <= u64::from(u32::MAX) && is_within(s)
+}
+
+// e, f and g of a rule for a variable that stands so, with N and P and with the two sizes where a bound is there. A literal that weighs more than the sum it
+// counts in is answered by 0 too. C has no Option, so a mark stands before each size.
 #[unsafe(no_mangle)]
 pub extern "C" fn probe_shares(
     case: u32,
@@ -139,19 +148,18 @@ pub extern "C" fn probe_shares(
 ) -> Three
     ensures { three_words result ≡ share_words (shares_answer (standing_for case w) n p (bound_if lower a) (bound_if upper b)) }
 {
-    let falses = n as u64;
-    let trues = p as u64;
-    if 4294967295 < falses + trues {
-        return Three::NONE;
+    let state = State {
+        n,
+        p,
+        stands: stands(case, w),
+        a: lower.then_some(a),
+        b: upper.then_some(b),
+    };
+    if is_balanced(state) {
+        Three::from(state.shares())
+    } else {
+        Three::NONE
     }
-    shares(
-        case,
-        w as u64,
-        falses,
-        trues,
-        lower.then_some(a),
-        upper.then_some(b),
-    )
 }
 
 // The shares of a clause's rules so far, joined with those of one more.

@@ -1,105 +1,93 @@
 -- A turn of each loop over the races.
 -- Assumes nothing.
-use Prim.Native.Nat.{ℕ, zero, suc, ◌+◌, ◌-◌, ◌*◌, ◌/◌, ◌≤◌, ◌<◌, ◌^◌}
-use mathlib.Core.Path.{◌≡◌, refl, sym, ap, ap₂, ◌∙◌}
-use mathlib.Core.Bool.{Bool, true, false}
-use mathlib.Core.List.{List, [], ◌∷◌, ◌++◌, append-nil, append_assoc}
+use Prim.Native.Nat.{ℕ, zero, suc, ◌+◌, ◌*◌, ◌/◌, ◌≤◌, ◌<◌}
+use mathlib.Core.Path.{◌≡◌, refl, sym, ap, ◌∙◌}
+use mathlib.Core.List.{List, [], ◌∷◌, ◌++◌}
 use native.Mathlib.Nat.{mul-div-le, mod-lt, mod-add-div, not-suc-le-zero, le_of_suc-le-suc}
 use native.Mathlib.Numerals.{add-one}
 use native.Mathlib.Omega.{arith}
-use borrow.Author.Tests.{lt-ltb, le-ltb, ltb-true, leb-true, leb-false}
-use lib.Dec.{leb, ltb}
-use lib.ListN.{length, get_or, set, take, drop, length-drop, replicate}
-use lib.Seq.{take_all, take-nil, set-get_or, drop-cons}
-use Rattle.division.specs.declared.Stakes.{Stakes}
+use lib.ListN.{length, get_or, set, take, length-append, replicate}
+use lib.Seq.{take-nil, set-get_or, length-take-le}
+use Rattle.std.specs.Simd.{first_chunks}
+use Rattle.division.proofs.Stepwise.{mixed as filled, mixed_next, mixed_last}
 use Rattle.division.specs.declared.Part.{Part}
 use Rattle.division.specs.Eight.{kept}
 use Rattle.races.specs.declared.Race.{Race}
-use Rattle.races.specs.Races.{stakes_of, with_part, placed, placed_at, with_stake, stakes_in, parts_put, put_at}
+use Rattle.races.specs.Races.{stakes_of, with_part, placed, placed_at, stakes_in, parts_put, put_at}
 
 -- ---- stakes taken out of the list
 
--- The stakes of the races before i.
-pub sofar : List Race → ℕ → Stakes
-sofar rs i = kept (stakes_of (take i rs))
+-- The first 8 of some stakes, 0 where there is none.
+abbrev pub eight : List ℕ → List ℕ
+eight ss = take 8 (ss ++ replicate 8 0)
 
-length_snoc : (ss : List ℕ) (k : ℕ) → length (ss ++ k ∷ []) ≡ length ss + 1
-length_snoc [] k = refl
-length_snoc (s ∷ ss) k = ap suc (length_snoc ss k) ∙ (omega arith)
+pub length_eight : (ss : List ℕ) → length (eight ss) ≡ 8
+length_eight ss = length-take-le 8 (ss ++ replicate 8 0) (omega (arith, length-append ss (replicate {A = ℕ} 8 0)))
 
-set_behind : (ss zs : List ℕ) (z k : ℕ) → set (ss ++ z ∷ zs) (length ss) k ≡ (ss ++ k ∷ []) ++ zs
-set_behind [] zs z k = refl
-set_behind (s ∷ ss) zs z k = ap (λ (ts : List ℕ). s ∷ ts) (set_behind ss zs z k)
+zero_at : (k n i : ℕ) → get_or (take k (replicate {A = ℕ} n 0)) i 0 ≡ 0
+zero_at zero n i = refl
+zero_at (suc k) zero i = refl
+zero_at (suc k) (suc n) zero = refl
+zero_at (suc k) (suc n) (suc i) = zero_at k n i
 
-module _ (ss : List ℕ) (k : ℕ) where
-  full : 8 ≤ length ss → kept (ss ++ k ∷ []) ≡ record { count = 9; stakes = replicate 8 0 }
-  unfolding kept
-  full h = rw (lt-ltb 8 (length (ss ++ k ∷ [])) (omega (arith, h, length_snoc ss k)))
+stake_among : (k n : ℕ) (ss : List ℕ) (i : ℕ) → i < k → get_or (take k (ss ++ replicate n 0)) i 0 ≡ get_or ss i 0
+stake_among k n [] i h = zero_at k n i
+stake_among zero n (s ∷ ss) i h = absurd (not-suc-le-zero h)
+stake_among (suc k) n (s ∷ ss) zero h = refl
+stake_among (suc k) n (s ∷ ss) (suc i) h = stake_among k n ss i (le_of_suc-le-suc h)
 
-  over : ltb 8 (length ss) ≡ true → with_stake (kept ss) k ≡ kept (ss ++ k ∷ [])
-  unfolding kept with_stake
-  over m = rw m (sym (full (omega (arith, ltb-true 8 (length ss) m))))
+-- One place of the array.
+pub stake_next : (ss : List ℕ) (i x : ℕ) {l : List ℕ} → i < 8 → l ≡ filled (eight ss) (replicate 8 0) i → x ≡ get_or ss i 0
+    → set l i x ≡ filled (eight ss) (replicate 8 0) (i + 1)
+stake_next ss i x h is e = mixed_next 0 (eight ss) (replicate 8 0) i h (length_eight ss) is (e ∙ sym (stake_among 8 8 ss i h))
 
-  eighth : ltb 8 (length ss) ≡ false → leb 8 (length ss) ≡ true → with_stake (kept ss) k ≡ kept (ss ++ k ∷ [])
-  unfolding kept with_stake
-  eighth m e = rw m (rw e (sym (full (leb-true 8 (length ss) e))))
+pub stakes_all : (ss : List ℕ) (i count : ℕ) {l : List ℕ} → 8 ≤ i → length ss ≡ count → l ≡ filled (eight ss) (replicate 8 0) i
+    → record { count = count; stakes = l } ≡ kept ss
+unfolding kept
+stakes_all ss i count h e is = rw (← e, mixed_last (eight ss) (replicate 8 0) i h (length_eight ss) is) refl
 
-  room : ltb 8 (length ss) ≡ false → leb 8 (length ss) ≡ false → with_stake (kept ss) k ≡ kept (ss ++ k ∷ [])
-  unfolding kept with_stake
-  room m e =
-      let h = leb-false 8 (length ss) e in
-      let n : 8 - length ss ≡ suc (8 - length (ss ++ k ∷ [])) = omega (arith, h, length_snoc ss k) in
-      rw m
-      (rw (e, le-ltb 8 (length (ss ++ k ∷ [])) (omega (arith, h, length_snoc ss k)), n)
-      (ap₂ (λ (c : ℕ) (ts : List ℕ). record { count = c; stakes = ts }) (sym (length_snoc ss k))
-      (set_behind ss (replicate (8 - length (ss ++ k ∷ [])) 0) 0 k)))
+-- Past the last stake there is none.
+pub none_past : (ss : List ℕ) (i : ℕ) → length ss ≤ i → 0 ≡ get_or ss i 0
+none_past [] i h = refl
+none_past (s ∷ ss) zero h = absurd (not-suc-le-zero h)
+none_past (s ∷ ss) (suc i) h = none_past ss i (le_of_suc-le-suc h)
 
-  pub one_more : with_stake (kept ss) k ≡ kept (ss ++ k ∷ [])
-  one_more = by _ refl _ refl
-    where
-      by : (x : Bool) → ltb 8 (length ss) ≡ x → (y : Bool) → leb 8 (length ss) ≡ y → with_stake (kept ss) k ≡ kept (ss ++ k ∷ [])
-      by true m y e = over m
-      by false m true e = eighth m e
-      by false m false e = room m e
-
-stakes_next : (rs : List Race) (i : ℕ) (d : Race) → i < length rs → stakes_of (take i rs) ++ (get_or rs i d).stake ∷ [] ≡ stakes_of (take (suc i) rs)
+-- The stakes of records, and those among plain numbers, place by place.
+pub length_stakes : (rs : List Race) → length (stakes_of rs) ≡ length rs
 unfolding stakes_of
-stakes_next [] i d l = absurd (not-suc-le-zero l)
-stakes_next (r ∷ rs) zero d l = refl
-stakes_next (r ∷ rs) (suc i) d l = ap (λ (ss : List ℕ). r.stake ∷ ss) (stakes_next rs i d (le_of_suc-le-suc l))
+length_stakes [] = refl
+length_stakes (r ∷ rs) = ap suc (length_stakes rs)
 
-pub sofar_start : (rs : List Race) → kept (stakes_of []) ≡ sofar rs 0
-unfolding sofar
-sofar_start rs = refl
+pub stake_at : (rs : List Race) (i : ℕ) (d : Race) → i < length rs → (get_or rs i d).stake ≡ get_or (stakes_of rs) i 0
+unfolding stakes_of
+stake_at [] i d h = absurd (not-suc-le-zero h)
+stake_at (r ∷ rs) zero d h = refl
+stake_at (r ∷ rs) (suc i) d h = stake_at rs i d (le_of_suc-le-suc h)
 
-pub sofar_next : (rs : List Race) (i : ℕ) (d : Race) → i < length rs → with_stake (sofar rs i) (get_or rs i d).stake ≡ sofar rs (i + 1)
-unfolding sofar
-sofar_next rs i d l =
-    one_more (stakes_of (take i rs)) (get_or rs i d).stake ∙ ap kept (stakes_next rs i d l) ∙ ap (λ (k : ℕ). kept (stakes_of (take k rs))) (sym (add-one i))
+pub length_numbers : (ns : List ℕ) → length (stakes_in ns) ≡ length ns / 3
+unfolding stakes_in
+length_numbers [] = refl
+length_numbers (a ∷ []) = refl
+length_numbers (a ∷ b ∷ []) = refl
+length_numbers (a ∷ b ∷ c ∷ ns) = ap suc (length_numbers ns) ∙ omega arith
 
-pub sofar_end : (rs : List Race) (i : ℕ) → length rs ≤ i → sofar rs i ≡ kept (stakes_of rs)
-unfolding sofar
-sofar_end rs i h = ap (λ (xs : List Race). kept (stakes_of xs)) (take_all i rs h)
+third_more : (n : ℕ) → suc (suc (suc n)) / 3 ≡ suc (n / 3)
+third_more n = omega arith
+
+pub record_at : (ns : List ℕ) (i : ℕ) → get_or (get_or (first_chunks 3 (length ns / 3) ns) i []) 0 0 ≡ get_or (stakes_in ns) i 0
+unfolding stakes_in
+record_at [] i = refl
+record_at (a ∷ []) i = refl
+record_at (a ∷ b ∷ []) i = refl
+record_at (a ∷ b ∷ c ∷ ns) zero = ap (λ (k : ℕ). get_or (get_or (first_chunks 3 k (a ∷ b ∷ c ∷ ns)) 0 []) 0 0) (third_more (length ns))
+record_at (a ∷ b ∷ c ∷ ns) (suc i) =
+    ap (λ (k : ℕ). get_or (get_or (first_chunks 3 k (a ∷ b ∷ c ∷ ns)) (suc i) []) 0 0) (third_more (length ns)) ∙ record_at ns i
 
 -- ---- parts put into it
-
--- The place of a record fits, since the records have room.
-pub place_fits : (n i : ℕ) → n * 24 < 2 ^ 63 → i < n → i * 24 < 2 ^ 64
-place_fits n i h l = omega (arith, h, l)
 
 -- The races with the first i parts.
 pub mix : List Part → ℕ → List Race → List Race
 mix ps i rs = placed (take i ps) rs
-
-placed_length : (ps : List Part) (rs : List Race) → length (placed ps rs) ≡ length rs
-unfolding placed
-placed_length [] rs = refl
-placed_length (p ∷ ps) [] = refl
-placed_length (p ∷ ps) (r ∷ rs) = ap suc (placed_length ps rs)
-
-pub mix_length : (ps : List Part) (i : ℕ) (rs : List Race) → length (mix ps i rs) ≡ length rs
-unfolding mix
-mix_length ps i rs = placed_length (take i ps) rs
 
 mixes : (ps : List Part) (i : ℕ) (rs : List Race) (d : Race) → i < length rs
     → set (placed (take i ps) rs) i (placed_at ps i (get_or (placed (take i ps) rs) i d)) ≡ placed (take (suc i) ps) rs
@@ -155,55 +143,8 @@ one_part (suc c) (p ∷ ps) (suc i) r none h k = one_part c ps i r none (le_of_s
 
 -- ---- the same records as plain numbers
 
--- Stakes taken one after another.
-pub with_stakes : Stakes → List ℕ → Stakes
-with_stakes s [] = s
-with_stakes s (k ∷ ks) = with_stakes (with_stake s k) ks
-
-taken_all : (ss ks : List ℕ) → with_stakes (kept ss) ks ≡ kept (ss ++ ks)
-unfolding with_stakes
-taken_all ss [] = ap kept (sym (append-nil ss))
-taken_all ss (k ∷ ks) =
-    ap (λ (s : Stakes). with_stakes s ks) (one_more ss k) ∙ taken_all (ss ++ k ∷ []) ks ∙ ap kept (append_assoc ss (k ∷ []) ks)
-
-pub taking_first : (ns : List ℕ) → with_stakes (kept (stakes_of [])) (stakes_in (drop (3 * 0) ns)) ≡ kept (stakes_in ns)
-unfolding stakes_of
-taking_first ns = taken_all [] (stakes_in ns)
-
-triple : (ns : List ℕ) (i : ℕ) → 3 * i + 3 ≤ length ns
-    → drop (3 * i) ns ≡ get_or ns (3 * i) 0 ∷ get_or ns (3 * i + 1) 0 ∷ get_or ns (3 * i + 2) 0 ∷ drop (3 * (i + 1)) ns
-triple ns i h =
-    let one : suc (3 * i) ≡ 3 * i + 1 = omega arith in
-    let two : suc (3 * i + 1) ≡ 3 * i + 2 = omega arith in
-    let three : suc (3 * i + 2) ≡ 3 * (i + 1) = omega arith in
-    drop-cons ns (3 * i) 0 (omega (arith, h))
-    ∙ ap (λ (k : ℕ). get_or ns (3 * i) 0 ∷ drop k ns) one
-    ∙ ap (λ (xs : List ℕ). get_or ns (3 * i) 0 ∷ xs) (drop-cons ns (3 * i + 1) 0 (omega (arith, h)))
-    ∙ ap (λ (k : ℕ). get_or ns (3 * i) 0 ∷ get_or ns (3 * i + 1) 0 ∷ drop k ns) two
-    ∙ ap (λ (xs : List ℕ). get_or ns (3 * i) 0 ∷ get_or ns (3 * i + 1) 0 ∷ xs) (drop-cons ns (3 * i + 2) 0 (omega (arith, h)))
-    ∙ ap (λ (k : ℕ). get_or ns (3 * i) 0 ∷ get_or ns (3 * i + 1) 0 ∷ get_or ns (3 * i + 2) 0 ∷ drop k ns) three
-
-pub taking_next : (ns : List ℕ) (i : ℕ) (s : Stakes) {t : Stakes} → 3 * i + 3 ≤ length ns → with_stakes s (stakes_in (drop (3 * i) ns)) ≡ kept (stakes_in ns)
-    → t ≡ with_stake s (get_or ns (3 * i) 0) → with_stakes t (stakes_in (drop (3 * (i + 1)) ns)) ≡ kept (stakes_in ns)
-unfolding with_stakes stakes_in
-taking_next ns i s h is e =
-    ap (λ (x : Stakes). with_stakes x (stakes_in (drop (3 * (i + 1)) ns))) e ∙ ap (λ (xs : List ℕ). with_stakes s (stakes_in xs)) (sym (triple ns i h)) ∙ is
-
 three : 0 < 3
 three = omega arith
-
-too_short : (xs : List ℕ) → length xs < 3 → stakes_in xs ≡ []
-unfolding stakes_in
-too_short [] h = refl
-too_short (a ∷ []) h = refl
-too_short (a ∷ b ∷ []) h = refl
-too_short (a ∷ b ∷ c ∷ xs) h = absurd (omega (arith, h))
-
-pub taking_last : (ns : List ℕ) (i : ℕ) (s : Stakes) → length ns / 3 ≤ i → with_stakes s (stakes_in (drop (3 * i) ns)) ≡ kept (stakes_in ns) → s ≡ kept (stakes_in ns)
-unfolding with_stakes
-taking_last ns i s h is =
-    ap (λ (ks : List ℕ). with_stakes s ks)
-    (sym (too_short (drop (3 * i) ns) (omega (arith, length-drop (3 * i) ns, h, mod-add-div (length ns) 3, mod-lt (length ns) three)))) ∙ is
 
 -- Parts put one after another.
 putting : (ps : List Part) (i : ℕ) (ns : List ℕ) → 3 * i + 3 ≤ length ns → put_at ps i (parts_put (take i ps) ns) ≡ parts_put (take (suc i) ps) ns

@@ -1,7 +1,6 @@
 -- "The races stand in the lent list as records of stake, first place and length; the call writes the last two, places from 0." (02, T-10)
 -- Assumes nothing.
-use Rattle.std.specs.Prelude.{ℕ, zero, suc, ◌+◌, ◌*◌, cond, List, [], ◌∷◌, leb, get_or, set, replicate}
-use Rattle.division.specs.declared.Stakes.{Stakes}
+use Rattle.std.specs.Prelude.{ℕ, zero, suc, ◌+◌, ◌*◌, List, [], ◌∷◌, get_or, set}
 use Rattle.division.specs.declared.Part.{Part}
 use Rattle.races.specs.declared.Race.{Race}
 
@@ -24,12 +23,6 @@ unfoldable pub placed_at : List Part → ℕ → Race → Race
 placed_at [] i r = r
 placed_at (p ∷ ps) zero r = with_part p r
 placed_at (p ∷ ps) (suc i) r = placed_at ps i r
-
--- Stakes in an array of 8 with one more; past 8 the count stays at 9.
-unfoldable pub with_stake : Stakes → ℕ → Stakes
-with_stake s k =
-    cond (leb 8 s.count) (record { count = 9; stakes = replicate 8 0 })
-    (record { count = s.count + 1; stakes = set s.stakes s.count k })
 
 -- The records as plain numbers, three for each race: the stakes, and the list with these parts, the first race with the first. Numbers past the last whole
 -- record are no race's.

@@ -2,12 +2,12 @@
 // it back, and leave the rest to functions on values.
 #![tactic(auto)]
 
-ghost use Rattle.std.specs.Prelude.{◌≡◌, [], ◌+◌, ◌*◌, ◌≤◌, length};
+ghost use Rattle.std.specs.Prelude.{◌≡◌, ℕ, List, [], ◌+◌, ◌*◌, ◌≤◌, ◌<◌, length, get_or};
 ghost use Rattle.division.specs.Split.{refusal_after, parts_after};
 ghost use Rattle.division.specs.Eight.{kept, laid};
-ghost use Rattle.races.specs.Races.{stakes_of, with_stake, placed_at, placed, stakes_in, put_at, parts_put};
+ghost use Rattle.races.specs.Races.{stakes_of, placed_at, placed, stakes_in, put_at, parts_put};
 
-use division::{Parts, Stakes, divide, number_of};
+use division::{Parts, Stakes, divide};
 
 // A race's stake, which the caller sets, and its part of the list, which is written: the first place, from 0, and the length.
 #[repr(C)]
@@ -18,61 +18,47 @@ pub struct Race {
     pub length: usize,
 }
 
-fn no_stakes() -> Stakes
-    ensures { result ≡ kept (stakes_of []) }
+// The stakes of so many races, as `stake` tells them place by place, 0 where there is no race: those of records, or those among plain numbers.
+fn stakes_by<F: Fn(usize) -> usize>(count: usize, stake: F) -> Stakes
+    requires { (i : ℕ) → F.pre stake i }
+    ensures { (ss : List ℕ) → length ss ≡ count → ((i s : ℕ) → F.post stake i s → s ≡ get_or ss i 0) → result ≡ kept ss }
 {
-    Stakes {
-        count: 0,
-        stakes: [0; 8],
+    let mut stakes = [0; 8];
+    for (i, x) in stakes.iter_mut().enumerate() {
+        *x = stake(i);
     }
-}
-
-// One race more. Past 8 the count stays at 9.
-fn with_race(s: Stakes, r: Race) -> Stakes
-    ensures { result ≡ with_stake s r.stake }
-{
-    let at = s.count;
-    if 8 <= at {
-        return Stakes {
-            count: 9,
-            stakes: [0; 8],
-        };
-    }
-    let mut next = s;
-    next.stakes[at] = r.stake;
-    next.count = at + 1;
-    next
+    Stakes { count, stakes }
 }
 
 // Race i with its part, or as it was where there is none for it.
+// Both bounds are asked at once: `get` would ask one of them and leave the other.
 fn with_part(p: Parts, i: usize, r: Race) -> Race
     ensures { result ≡ placed_at (laid p) i r }
 {
-    if p.count <= i {
+    if p.count <= i || 8 <= i {
         return r;
     }
-    if 8 <= i {
-        return r;
-    }
-    let parts = p.parts;
-    let part = parts[i];
+    let part = p.parts[i];
     Race {
-        stake: r.stake,
         first: part.first,
         length: part.length,
+        ..r
     }
 }
 
+// The place is tested here: that the stake of a record which `get` finds is the one in the list of all stakes did not follow, as it does in `stakes_in`.
 fn stakes_of(races: &[Race]) -> Stakes
     ensures { result ≡ kept (stakes_of races.now) }
 {
-    let mut s = no_stakes();
-    for r in races {
-        s = with_race(s, *r);
-    }
-    s
+    stakes_by(
+        races.len(),
+        |i|
+            ensures { result ≡ get_or (stakes_of races.entry.now) i 0 }
+        { if i < races.len() { races[i].stake } else { 0 } },
+    )
 }
 
+// This and `put_in` are what the two kinds of records need each: a record is changed in place here, and two numbers of three there.
 fn put_parts(races: &mut [Race], p: Parts)
     ensures { races.new ≡ placed (laid p) races.old }
 {
@@ -92,7 +78,7 @@ pub fn planner_share(races: &mut [Race], numbers: usize) -> u32
             put_parts(races, p);
             0
         }
-        Err(refusal) => number_of(refusal),
+        Err(refusal) => u32::from(refusal),
     }
 }
 
@@ -100,22 +86,13 @@ pub fn planner_share(races: &mut [Race], numbers: usize) -> u32
 pub fn stakes_in(races: &[usize]) -> Stakes
     ensures { result ≡ kept (stakes_in races.now) }
 {
-    let count = races.len() / 3;
-    let mut s = no_stakes();
-    for i in 0..count {
-        s = with_race(s, race_of(races[3 * i], 0, 0));
-    }
-    s
-}
-
-fn race_of(stake: usize, first: usize, length: usize) -> Race
-    ensures { result ≡ record { stake = stake; first = first; length = length } }
-{
-    Race {
-        stake,
-        first,
-        length,
-    }
+    let (records, _rest) = races.as_chunks::<3>();
+    stakes_by(
+        records.len(),
+        |i|
+            ensures { result ≡ get_or (get_or records.entry.now i []) 0 0 }
+        { records.get(i).map_or(0, |r| r[0]) },
+    )
 }
 
 // Writes one race's part, where there is one for it.
@@ -123,11 +100,18 @@ fn put_part(races: &mut [usize], i: usize, p: Parts)
     requires { 3 * i + 3 ≤ length races.old }
     ensures { races.new ≡ put_at (laid p) i races.old }
 {
-    let r = with_part(p, i, race_of(0, races[3 * i + 1], races[3 * i + 2]));
+    let race = Race {
+        stake: 0,
+        first: races[3 * i + 1],
+        length: races[3 * i + 2],
+    };
+    let r = with_part(p, i, race);
     races[3 * i + 1] = r.first;
     races[3 * i + 2] = r.length;
 }
 
+// The records are told by their places: the library says nothing of what a slice ends as that it lent as arrays (`as_chunks_mut`), and after a loop over
+// `chunks_exact_mut` what the slice ends as did not follow from what each chunk was left as.
 pub fn put_in(races: &mut [usize], p: Parts)
     ensures { races.new ≡ parts_put (laid p) races.old }
 {

@@ -1,15 +1,16 @@
 -- The sizes A and B worked out without a sign are those of the normal form: a sum of integers raised to 0 is a difference of naturals.
 -- Assumes nothing.
-use Prim.Native.Nat.{ℕ, zero, suc, ◌+◌, ◌-◌, ◌≤◌}
+use Prim.Native.Nat.{ℕ, zero, suc, ◌+◌, ◌-◌, ◌≤◌, ◌<◌, ◌^◌}
 use native.Mathlib.Omega.{arith}
 use mathlib.Core.Path.{◌≡◌, refl, sym, ap, ◌∙◌}
 use mathlib.Core.Bool.{Bool, true, false, not, cond, beq}
 use lib.Dec.{ltb, eqb}
 use lib.IntN.{ℤ, pos, negsuc, neg_ℤ, nat_abs, sub_ℕ, ◌+ℤ◌, ◌-ℤ◌, +ℤ_assoc, +ℤ_comm, neg_ℤ-+ℤ}
 use borrow.Author.Tests.{ltb-true}
+use mir.Syntax.{w64}
 use Rattle.plpb.specs.Plan.{Bound, absent, present, map_bound, Rule}
 use Rattle.std.specs.Bool.{then_some}
-use Rattle.std.specs.Int.{is_negative as signed_below}
+use Rattle.std.specs.Int.{is_negative as signed_below, saturate_unsigned}
 use Rattle.plpb.specs.Normal.{is_negative, rise, raised, K, size_a, size_b}
 use Rattle.std.specs.Prelude.{Option, Some, None}
 use Rattle.counting.specs.Bound.{bound_of}
@@ -55,6 +56,35 @@ raised_minus m (pos zero) = omega arith
 raised_minus m (pos (suc n)) = raised_sub m (suc n)
 raised_minus m (negsuc n) = refl
 
+-- `reach` is such a sum, and the library's, which is cut at 0 too: a size and a bound of 32 bits do not come to the upper end of 64.
+reach_minus : (base : ℕ) (l : ℤ) → raised (pos (base + 1) -ℤ l) ≡ reach base (is_negative l) (nat_abs l)
+unfolding reach
+reach_minus base l = raised_minus (base + 1) l
+
+reach_plus : (base : ℕ) (u : ℤ) → raised (pos (base + 1) +ℤ u) ≡ reach base (not (is_negative u)) (nat_abs u)
+unfolding reach
+reach_plus base u = raised_plus (base + 1) u ∙ turned (is_negative u)
+  where
+    turned : (t : Bool) → cond t (base + 1 - nat_abs u) (base + 1 + nat_abs u) ≡ cond (not t) (base + 1 + nat_abs u) (base + 1 - nat_abs u)
+    turned true = refl
+    turned false = refl
+
+reach_small : (base m : ℕ) → base < 2 ^ 32 → m ≤ 2 ^ 32 → (up : Bool) → reach base up m < 2 ^ 64
+unfolding reach
+reach_small base m b h true = omega arith
+reach_small base m b h false = omega arith
+
+near : (z : ℤ) {r : ℕ} → raised z ≡ r → r < 2 ^ 64 → saturate_unsigned w64 z ≡ r
+unfolding raised
+near (pos n) e h = omega arith
+near (negsuc n) e h = omega arith
+
+pub lower_reached : (base : ℕ) (l : ℤ) → base < 2 ^ 32 → nat_abs l ≤ 2 ^ 32 → saturate_unsigned w64 (pos (base + 1) -ℤ l) ≡ reach base (is_negative l) (nat_abs l)
+lower_reached base l b h = near (pos (base + 1) -ℤ l) (reach_minus base l) (reach_small base (nat_abs l) b h (is_negative l))
+
+pub upper_reached : (base : ℕ) (u : ℤ) → base < 2 ^ 32 → nat_abs u ≤ 2 ^ 32 → saturate_unsigned w64 (pos (base + 1) +ℤ u) ≡ reach base (not (is_negative u)) (nat_abs u)
+upper_reached base u b h = near (pos (base + 1) +ℤ u) (reach_plus base u) (reach_small base (nat_abs u) b h (not (is_negative u)))
+
 pos_minus : (k d : ℕ) → d ≤ k → pos k -ℤ pos d ≡ pos (k - d)
 pos_minus k zero h = ap pos (omega arith)
 pos_minus k (suc d) h = at (ltb k (suc d)) refl
@@ -68,8 +98,7 @@ swap_last x y z = +ℤ_assoc x y z ∙ ap (λ s. x +ℤ s) (+ℤ_comm y z) ∙ s
 
 -- K − (l + d) + 1 with the positive weights K − d.
 lower_number : (k d : ℕ) (l : ℤ) → d ≤ k → reach (k - d) (is_negative l) (nat_abs l) ≡ raised (pos k -ℤ (l +ℤ pos d) +ℤ pos 1)
-unfolding reach
-lower_number k d l h = sym (ap raised apart ∙ raised_minus (k - d + 1) l)
+lower_number k d l h = sym (ap raised apart ∙ reach_minus (k - d) l)
   where
     without : pos k -ℤ (l +ℤ pos d) ≡ pos (k - d) -ℤ l
     without =
@@ -82,15 +111,10 @@ lower_number k d l h = sym (ap raised apart ∙ raised_minus (k - d + 1) l)
 
 -- u + d + 1
 upper_number : (d : ℕ) (u : ℤ) → reach d (not (is_negative u)) (nat_abs u) ≡ raised (u +ℤ pos d +ℤ pos 1)
-unfolding reach
-upper_number d u = sym (ap raised apart ∙ raised_plus (d + 1) u ∙ about (is_negative u))
+upper_number d u = sym (ap raised apart ∙ reach_plus d u)
   where
     apart : u +ℤ pos d +ℤ pos 1 ≡ pos (d + 1) +ℤ u
     apart = +ℤ_assoc u (pos d) (pos 1) ∙ +ℤ_comm u (pos (d + 1))
-
-    about : (b : Bool) → cond b (d + 1 - nat_abs u) (d + 1 + nat_abs u) ≡ cond (not b) (d + 1 + nat_abs u) (d + 1 - nat_abs u)
-    about true = refl
-    about false = refl
 
 -- ---- of a rule
 

@@ -22,12 +22,13 @@ use Rattle.rules.specs.declared.place.Stands.{Stands}
 use Rattle.rules.specs.declared.place.Stands.TheVariants.{Out, On, Off}
 use Rattle.rules.specs.declared.sums.Sums.{Sums}
 use Rattle.rules.specs.declared.state.State.{State}
-use Rattle.rules.specs.Terms.{terms_at, Readable}
+use Rattle.rules.specs.Terms.{bits_in, terms_at, Readable}
 use Rattle.rules.specs.Sums.{Summed}
 use Rattle.rules.specs.Places.{standing_in}
 use Rattle.rules.specs.Rules.{EntryAt, rule_at, RuleInside, RuleReadable, lower_size, upper_size}
 use Rattle.rules.specs.State.{Balanced, StateOf, Made, Seen, holds_in, shares_from, opposite, Turned}
-use Rattle.rules.proofs.Finding.{lost_in_P, gained_beside_P}
+use Rattle.rules.proofs.Summing.{summed_small}
+use Rattle.rules.proofs.Finding.{lost_in_P, gained_beside_P, stands_zero}
 use Rattle.rules.proofs.Sizes.{rule_lower, rule_upper}
 
 -- ---- what a state says of its rule
@@ -103,6 +104,12 @@ state_made {f} g {at} {a} {e} {s} {r} d m small none h =
 
     stands : standing_in r.stands ≡ standing a 0 ts
     stands = ap standing_in h.stands ∙ sym none ∙ ap (standing a 0) same
+
+-- .. as it does wherever its terms can be read.
+pub state_read : {tables terms assignment : List ℕ} {at : ℕ} {e : Entry} {s : Sums} {r : State} → EntryAt (word_at tables) at e → RuleReadable tables terms assignment at → Summed (bits_in assignment) (terms_at (word_at terms) e.first e.count) s → Made e s r → StateOf (bits_in assignment) 0 (rule_at (word_at tables) (word_at terms) at) r
+state_read {terms = terms} entry r sums h =
+    let body = entry_readable entry r in
+    state_made (word_at terms) entry sums (summed_small body sums) (stands_zero _ _ _ body.lawful) h
 
 -- Seen from another variable, the rest is as it was.
 pub state_seen : {a : Assignment} {x y : ℕ} {q : Rule} {z : Stands} {s r : State} → StateOf a y q s → standing_in z ≡ standing a x q.terms → Seen z s r → StateOf a x q r

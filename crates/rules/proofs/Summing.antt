@@ -48,6 +48,10 @@ literal_added {s = s} h d =
       trues = d.trues ∙ ap₂ (λ b n. cond b n 0 + s.p) h.truth h.sized;
     }
 
+-- .. and it fits where its term does.
+pub literal_room : {a : Assignment} {t : Term} {l : Literal} {s : Sums} → LiteralOf a t l → Room (size t) s → Room l.size s
+literal_room h r = rw h.sized r
+
 module _ (a : Assignment) where
   none_summed : Summed a [] (record { k = 0; rise = 0; p = 0 })
   unfolding K rise P sum_by

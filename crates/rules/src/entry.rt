@@ -3,8 +3,10 @@ ghost use Rattle.std.specs.Prelude.{◌≡◌, ◌+◌, ◌*◌, ◌≤◌, leng
 ghost use Rattle.counting.specs.Bound.{bound_of};
 ghost use Rattle.words.specs.Words.{word_at, signed};
 ghost use Rattle.format.specs.File.{bound_of as bound_in};
+ghost use Rattle.format.specs.Modes.{mode_number};
 ghost use Rattle.rules.specs.Rules.{EntryAt};
 
+use format::Mode;
 use words::{index, to_signed, word};
 
 #[derive(Clone, Copy)]
@@ -15,15 +17,16 @@ pub struct Entry {
     pub upper: Option<i32>,
 }
 
-// The bound in a word of the table, which a rule of one mode is without.
-fn read_bound(tables: &[u8], at: usize, mode: u32, without: u32) -> Option<i32>
+// The bound in a word of the table, which a rule of one mode is without. The rule's own mode is a word of any table, and so any number: one that is no mode has
+// both bounds.
+fn read_bound(tables: &[u8], at: usize, mode: u32, without: Mode) -> Option<i32>
     requires { 4 * at + 4 ≤ length tables.now }
-    ensures { bound_of result ≡ bound_in without mode (signed (word_at tables.now at)) }
+    ensures { bound_of result ≡ bound_in (mode_number without) mode (signed (word_at tables.now at)) }
 {
-    (mode != without).then_some(to_signed(word(tables, at)))
+    (mode != without as u32).then_some(to_signed(word(tables, at)))
 }
 
-// The entry whose five words begin at a word of the table. Mode 2 has no lower bound, mode 1 no upper bound.
+// The entry whose five words begin at a word of the table.
 pub fn read_entry(tables: &[u8], at: usize) -> Entry
     requires { 4 * at + 20 ≤ length tables.now }
     ensures { EntryAt (word_at tables.now) at result }
@@ -32,7 +35,7 @@ pub fn read_entry(tables: &[u8], at: usize) -> Entry
     Entry {
         first: index(tables, at),
         count: index(tables, at + 1),
-        lower: read_bound(tables, at + 3, mode, 2),
-        upper: read_bound(tables, at + 4, mode, 1),
+        lower: read_bound(tables, at + 3, mode, Mode::Upper),
+        upper: read_bound(tables, at + 4, mode, Mode::Lower),
     }
 }

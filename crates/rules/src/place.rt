@@ -10,8 +10,9 @@ use crate::term::read_literal;
 use words::word;
 
 impl Entry {
-    // The place among all terms of that which names x. The entry's terms are taken from the last to the first, all of them: most rules are short, and where
-    // the search ends is hard to foretell. They are told by their places, and not as a sub-slice, since the place that is found is one of the whole table.
+    // The place among all terms of that which names x. The entry's terms are taken from the last to the first, all of them, which is faster than to stop at
+    // the one: most rules are short, and where the search ends is hard to foretell. They are told by their places, and not as a sub-slice, since the place
+    // that is found is one of the whole table.
     pub fn find(self, terms: &[u8], x: u32) -> Option<usize>
         requires { 8 * (self.first + self.count) ≤ length terms.now }
         ensures { Found (word_at terms.now) self.first self.count x result }

@@ -1,29 +1,14 @@
-// The sizes A and B that the two bounds of a rule ask for, worked out without a sign.
+// The sizes A and B that the two bounds of a rule ask for, raised to 0. Each is the line of its equation.
 ghost use Rattle.std.specs.Prelude.{◌≡◌};
 ghost use Rattle.counting.specs.Bound.{bound_of};
-ghost use Rattle.rules.specs.Rules.{reach as reachOf, lower_size, upper_size};
-
-use words::magnitude;
-
-// base + 1 + m or base + 1 − m, the latter no less than 0. The sign goes beside the size: the opposite of a bound need not fit 32 bits.
-fn reach(base: u32, up: bool, m: u32) -> u64
-    ensures { result ≡ reachOf base up m }
-{
-    let next = base as u64 + 1;
-    let by = m as u64;
-    if up {
-        next + by
-    } else {
-        next.saturating_sub(by)
-    }
-}
+ghost use Rattle.rules.specs.Rules.{lower_size, upper_size};
 
 // A = K − l + 1 with the raised l: the positive weights and 1 less l.
 pub fn lower_size(lower: Option<i32>, positive: u32) -> Option<u64>
     ensures { bound_of result ≡ lower_size positive (bound_of lower) }
 {
     let l = lower?;
-    Some(reach(positive, l.is_negative(), magnitude(l)))
+    Some((u64::from(positive) + 1).saturating_sub_signed(i64::from(l)))
 }
 
 // B = u + 1 with the raised u: what the bounds rise by and 1 and u.
@@ -31,5 +16,5 @@ pub fn upper_size(upper: Option<i32>, rise: u32) -> Option<u64>
     ensures { bound_of result ≡ upper_size rise (bound_of upper) }
 {
     let u = upper?;
-    Some(reach(rise, !u.is_negative(), magnitude(u)))
+    Some((u64::from(rise) + 1).saturating_add_signed(i64::from(u)))
 }

@@ -16,7 +16,8 @@ use crate::size::{lower_size, upper_size};
 use crate::sums::Sums;
 use counting::shares::{Shares, literal_absent, literal_false, literal_true};
 
-// N, P, how the variable stands, and the sizes A and B.
+// N, P, how the variable stands, and the sizes A and B. That it is balanced is no field of it: it may be seen from a variable that stands in any way, or held
+// against another P, and is then not balanced until more is known.
 #[derive(Clone, Copy)]
 pub struct State {
     pub n: u32,
@@ -124,7 +125,7 @@ pub fn read_state_from(tables: &[u8], terms: &[u8], assignment: &[u8], at: usize
     requires { RuleReadable tables.now terms.now assignment.now at }
     ensures { StateOf (bits_in assignment.now) x (rule_at (word_at tables.now) (word_at terms.now) at) result }
 {
-    let s = read_state(tables, terms, assignment, at);
-    let place = read_entry(tables, at).find(terms, x);
-    s.seen(stands_at(terms, assignment, place))
+    let e = read_entry(tables, at);
+    let s = State::of(e, e.scan(terms, assignment));
+    s.seen(stands_at(terms, assignment, e.find(terms, x)))
 }

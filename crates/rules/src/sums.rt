@@ -1,10 +1,8 @@
 // The sums of a rule's terms under an assignment, in one pass over them.
 ghost use Rattle.std.specs.Prelude.{◌≡◌, cond, ◌+◌, ◌<◌};
-ghost use Rattle.plpb.specs.Normal.{size};
 ghost use Rattle.words.specs.Words.{word_at};
-ghost use Rattle.format.specs.Tables.{term_of};
-ghost use Rattle.rules.specs.Terms.{bits_in, terms_at, TermReadable, Readable};
-ghost use Rattle.rules.specs.Sums.{Summed, Room, Added, AddedTerm};
+ghost use Rattle.rules.specs.Terms.{bits_in, terms_at, Readable};
+ghost use Rattle.rules.specs.Sums.{Summed, Room, Added};
 
 use crate::entry::Entry;
 use crate::term::{Literal, read_literal};
@@ -17,7 +15,7 @@ pub struct Sums {
     pub p: u32,
 }
 
-// A weight goes into a sum where its literal is of the kind that is summed.
+// A weight goes into a sum where its literal is of the kind that is summed. The test is a fact of the literal, as the definition's `cond` has it.
 fn plus_if(test: bool, w: u32, n: u32) -> u32
     requires { w + n < 4294967296 }
     ensures { result ≡ cond test w 0 + n }
@@ -46,22 +44,16 @@ impl Sums {
     }
 }
 
-fn add_term(s: Sums, terms: &[u8], assignment: &[u8], i: usize) -> Sums
-    requires { TermReadable terms.now assignment.now i × Room (size (term_of (word_at terms.now) i)) s }
-    ensures { AddedTerm (bits_in assignment.now) (term_of (word_at terms.now) i) s result }
-{
-    s.with(read_literal(terms, assignment, i))
-}
-
 impl Entry {
-    // The sums of its terms. They are taken from the last to the first: what is summed is then that of a rest of the list.
+    // The sums of its terms. They are taken from the last to the first: what is summed is then that of a rest of the list. They are told by their places in the
+    // whole table, as in `find`: the definition (`terms_at`) has first and count.
     pub fn scan(self, terms: &[u8], assignment: &[u8]) -> Sums
         requires { Readable terms.now assignment.now self.first self.count }
         ensures { Summed (bits_in assignment.now) (terms_at (word_at terms.now) self.first self.count) result }
     {
         let mut sums = Sums::NONE;
         for k in (0..self.count).rev() {
-            sums = add_term(sums, terms, assignment, self.first + k);
+            sums = sums.with(read_literal(terms, assignment, self.first + k));
         }
         sums
     }

@@ -1,12 +1,15 @@
-// Numbers in byte slices, little-endian: "All numbers are little-endian; coefficients and bounds are signed 32-bit, the rest unsigned."
+// Numbers in byte slices, little-endian: "All numbers are little-endian; coefficients and bounds are signed 32-bit, the rest unsigned." A slice and a
+// place in it go one by one, and the place is bounded by a clause, as where the library reads a byte by its index: each caller works the place out anew.
 #![tactic(auto)]
 
-ghost use Rattle.std.specs.Prelude.{◌≡◌, [], ◌∷◌, ◌++◌, ◌+◌, ◌*◌, ◌/◌, ◌%◌, ◌≤◌, ◌<◌, length, drop, replicate, nat_abs};
+ghost use Rattle.std.specs.Prelude.{◌≡◌, [], ◌∷◌, ◌++◌, ◌+◌, ◌*◌, ◌≤◌, ◌<◌};
+ghost use Rattle.std.specs.Prelude.{length, drop, replicate, nat_abs};
 ghost use Rattle.words.specs.Words.{num_at, bytes_of, word_at, signed, unsigned};
 ghost use Rattle.words.specs.Writes.{put, put_words};
 ghost use Rattle.words.specs.Tests.{Decides, ZeroWords};
 
-// The number of 2 bytes at a place.
+// The number of 2 bytes at a place. The library has a `from_le_bytes` for each size, on an array of its own, so that a size as a const parameter would be
+// matched once more inside.
 pub fn read_u16(s: &[u8], at: usize) -> u32
     requires { at + 2 ≤ length s.now }
     ensures { result ≡ num_at 2 s.now at }
@@ -22,13 +25,6 @@ pub fn read_u32(s: &[u8], at: usize) -> u32
     u32::from_le_bytes([s[at], s[at + 1], s[at + 2], s[at + 3]])
 }
 
-// A byte as a number.
-pub fn byte_word(b: u8) -> u32
-    ensures { result ≡ b }
-{
-    u32::from(b)
-}
-
 // A length, a count or a place as a word of a table. It is `as` and no more, but proofs cite its clause: what a word holds.
 pub fn narrow(n: usize) -> u32
     requires { n < 4_294_967_296 }
@@ -37,6 +33,7 @@ pub fn narrow(n: usize) -> u32
     n as u32
 }
 
+// The number of 2 bytes as a size or a count.
 pub fn read_size(s: &[u8], at: usize) -> usize
     requires { at + 2 ≤ length s.now }
     ensures { result ≡ num_at 2 s.now at }
@@ -52,7 +49,7 @@ pub fn word(s: &[u8], i: usize) -> u32
     read_u32(s, 4 * i)
 }
 
-// The same as a count or an index.
+// The word at an index as a count or an index.
 pub fn index(s: &[u8], i: usize) -> usize
     requires { 4 * i + 4 ≤ length s.now }
     ensures { result ≡ word_at s.now i }
@@ -82,6 +79,7 @@ pub fn magnitude(v: i32) -> u32
     v.unsigned_abs()
 }
 
+// The signed number of 4 bytes at a place.
 pub fn read_i32(s: &[u8], at: usize) -> i32
     requires { at + 4 ≤ length s.now }
     ensures { result ≡ signed (num_at 4 s.now at) }
@@ -122,7 +120,7 @@ pub fn zeros(s: &[u8], from: usize, end: usize) -> bool
 {
     let mut all = true;
     for i in from..end {
-        all = all & (word(s, i) == 0);
+        all &= word(s, i) == 0;
     }
     all
 }
@@ -135,7 +133,8 @@ pub fn copy(from: &[u8], to: &mut [u8])
     to[..from.len()].copy_from_slice(from);
 }
 
-// Fills a slice with 0.
+// Fills a slice with 0. The clause of the library's `fill` is on clones: where a number's clone is the number, the bytes are these. That premise is met
+// here, and a caller that wants the bytes themselves cites them.
 pub fn clear(s: &mut [u8])
     ensures { s.new ≡ replicate (length s.old) 0 }
 {
@@ -143,6 +142,7 @@ pub fn clear(s: &mut [u8])
 }
 
 // Writes the 2 low bytes of a number at a place.
+// It and `write_u32` are no one function over the number of bytes: a word is written with all its bytes, and here it is a length, of which the low ones are.
 pub fn write_u16(s: &mut [u8], at: usize, v: usize)
     requires { at + 2 ≤ length s.old }
     ensures { s.new ≡ put at (bytes_of 2 v) s.old }

@@ -50,7 +50,8 @@ fn number(counter: u32, v: u32) -> u32
     counter.wrapping_add(v)
 }
 
-// Writes the next k numbers and answers the state after them.
+// Writes the next k numbers and answers the state after them. The count goes beside the buffer: it is of numbers, where a slice's length is of bytes, and each
+// run writes over the first of one buffer that the caller lends to all.
 pub fn fill(g: Xorwow, numbers: &mut [u8], k: usize) -> Xorwow
     requires { 4 * k ≤ length numbers.old }
     ensures { (result ≡ after k g) × (numbers.new ≡ front (word_bytes (stream k g)) numbers.old) }

@@ -1,17 +1,18 @@
 -- `division::bad_at` meets its contract, by whether there is a race.
 -- Assumes nothing.
+use mathlib.Core.Bool.{not}
+use mathlib.Core.Path.{ap}
 use borrow.Author.Tests.{lt-ltb, le-ltb}
+use Rattle.division.specs.Split.{lawful_stake}
 use Rattle.division.specs.Eight.{bad_at}
-use Rattle.division.proofs.Laws.{low_stake, high_stake}
+use Rattle.division.proofs.Laws.{told}
 use Rattle.division.proofs.bad_at.Goals as goal
 
-pub returns-then-s-lt1 : goal.returns-then-s-lt1
-unfolding bad_at
-returns-then-s-lt1 c = rw (lt-ltb _ _ c.if-i-count.true) (low_stake _ c.if-s-lt1.true)
-
-pub returns-else-s-lt1 : goal.returns-else-s-lt1
-unfolding bad_at
-returns-else-s-lt1 c = rw (lt-ltb _ _ c.if-i-count.true) (high_stake _ c.if-s-lt1.false)
+pub returns-then-i-count : goal.returns-then-i-count
+unfolding bad_at lawful_stake
+returns-then-i-count c =
+    let r = c.new.ensures in
+    rw (lt-ltb _ _ c.if-i-count.true) (ap not (told _ r.start r.end r.exhausted c.contains.ensures.value))
 
 pub returns-else-i-count : goal.returns-else-i-count
 unfolding bad_at

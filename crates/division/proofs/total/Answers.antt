@@ -1,19 +1,16 @@
--- The goals that the search leaves.
-use native.Mathlib.Omega.{arith}
-use mathlib.Core.Path.{refl}
-use Rattle.division.specs.Split.{sum}
-use Rattle.division.proofs.Stepwise.{sum_next, sum_room, sum_last}
+-- `division::total` meets its contract: the library's sum is that of the definition.
+-- Assumes nothing.
+use Prim.Native.Nat.{◌<◌, ◌^◌}
+use borrow.Author.Rules.{rules}
+use mathlib.Core.Path.{◌≡◌, ◌∙◌}
+use Rattle.std.specs.List.{sum as total_of}
+use Rattle.division.proofs.Laws.{sum_is}
 use Rattle.division.proofs.total.Goals as goal
 
-pub loop-x-init : goal.loop-x-init
-unfolding sum
-loop-x-init c = refl
-
-pub overflow_add-t : goal.overflow_add-t
-overflow_add-t c = record { fits = omega (arith, sum_room c.args.s c.loop-x.x-index c.loop-x.invariant refl, c.requires) }
-
-pub loop-x-preserved : goal.loop-x-preserved
-loop-x-preserved c = sum_next c.args.s c.loop-x.x-index c.loop-x.invariant refl
+pub sum-requires-clause-fits : goal.sum-requires-clause-fits
+sum-requires-clause-fits c =
+    let h : total_of c.args.s < 2 ^ 64 = rw (sum_is c.args.s) c.requires in search rules
 
 pub returns : goal.returns
-returns c = sum_last c.args.s _ (omega (arith, c.loop-x-test.false)) c.loop-x.invariant
+returns c =
+    let e : c.sum.result ≡ total_of c.args.s = search rules in e ∙ sum_is c.args.s

@@ -22,26 +22,11 @@ module _ (x y : ℤ) (f : nat_abs x ≤ 512_000_000_000) (g : nat_abs y ≤ 512_
   fits : SFits w64 (x +ℤ y)
   fits = small_fits (x +ℤ y) (omega (arith, size_sum x y))
 
-  sum_fits : SFits w64 (to_z w64 (of_z w64 x) +ℤ to_z w64 (of_z w64 y))
-  sum_fits = rw is fits
-
   sum_is : to_z w64 (of_z w64 (to_z w64 (of_z w64 x) +ℤ to_z w64 (of_z w64 y))) ≡ x +ℤ y
   sum_is = rw is (to_z-of_z fits)
 
 pub returns-then-finds-eq0 : goal.returns-then-finds-eq0
 returns-then-finds-eq0 c = plus_none c.args.s _ _ c.args.cost c.if-finds-eq0.true (held c.args.s.cost c.requires.0.cost)
 
-pub overflow_add-result-4 : goal.overflow_add-result-4
-overflow_add-result-4 c = sum_fits c.args.s.cost c.args.cost c.requires.0.cost c.requires.2
-
 pub returns : goal.returns
 returns c = plus_find c.args.s _ _ c.args.cost (omega arith) (sum_is c.args.s.cost c.args.cost c.requires.0.cost c.requires.2)
-
-pub overflow_add-result : goal.overflow_add-result
-overflow_add-result c = omega (arith, c.requires.0.flips)
-
-pub overflow_add-result-2 : goal.overflow_add-result-2
-overflow_add-result-2 c = omega (arith, c.requires.0.found)
-
-pub overflow_add-result-3 : goal.overflow_add-result-3
-overflow_add-result-3 c = omega (arith, c.requires.0.flips)

@@ -11,9 +11,6 @@ use Rattle.figures.proofs.mean_cost.Goals as goal
 pub returns-then-s-eq0 : goal.returns-then-s-eq0
 returns-then-s-eq0 c = mean_absent c.args.s c.if-s-eq0.true
 
-pub reduce_signed-requires : goal.reduce_signed-requires
-reduce_signed-requires c = (omega arith, omega (arith, c.requires.found))
-
 pub returns : goal.returns
 returns c =
     let s = c.args.s in

@@ -7,11 +7,11 @@ use Rattle.probe.specs.Answers.{binomial_answer}
 use Rattle.probe.proofs.Answering.{is_word_lem, no_word, given_by}
 use Rattle.probe.proofs.probe_binomial.Goals as goal
 
-pub returns-then-m-gt4294967295 : goal.returns-then-m-gt4294967295
+pub returns-then-from-m : goal.returns-then-from-m
 unfolding binomial_answer
-returns-then-m-gt4294967295 c = rw (no_word _ c.if-m-gt4294967295.true) (words_uncut 0 (omega arith))
+returns-then-from-m c = rw (no_word c.args.m (omega (arith, c.if-from-m.true, c.from.ensures))) (words_uncut 0 (omega arith))
 
 pub returns : goal.returns
 unfolding binomial_answer
 returns c =
-    rw (is_word_lem c.args.m (omega (arith, c.if-m-gt4294967295.false))) (c.from.ensures ∙ given_by _ c.binomial.ensures)
+    rw (is_word_lem c.args.m (omega (arith, c.if-from-m.false, c.from.ensures))) (c.from-2.ensures ∙ given_by _ c.binomial.ensures)

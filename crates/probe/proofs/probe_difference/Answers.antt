@@ -8,12 +8,12 @@ use Rattle.probe.specs.Answers.{difference_answer}
 use Rattle.probe.proofs.Answering.{is_word_lem, no_word, given_by}
 use Rattle.probe.proofs.probe_difference.Goals as goal
 
-pub returns-then-low-more-gt4294967295 : goal.returns-then-low-more-gt4294967295
+pub returns-then-from-low : goal.returns-then-from-low
 unfolding difference_answer
-returns-then-low-more-gt4294967295 c = rw (no_word _ c.if-low-more-gt4294967295.true) (words_uncut 0 (omega arith))
+returns-then-from-low c = rw (no_word (c.args.m + c.args.w) (omega (arith, c.if-from-low.true, c.from.ensures))) (words_uncut 0 (omega arith))
 
 pub returns : goal.returns
 unfolding difference_answer
 returns c =
     let at = c.args in
-    rw (is_word_lem (at.m + at.w) (omega (arith, c.if-low-more-gt4294967295.false))) (c.from.ensures ∙ given_by _ c.difference.ensures)
+    rw (is_word_lem (at.m + at.w) (omega (arith, c.if-from-low.false, c.from.ensures))) (c.from-2.ensures ∙ given_by _ c.difference.ensures)

@@ -5,9 +5,9 @@ use Rattle.probe.specs.Answers.{factors_answer}
 use Rattle.probe.proofs.Answering.{is_word_lem, no_word}
 use Rattle.probe.proofs.probe_factors.Goals as goal
 
-pub returns-then-m-gt4294967295 : goal.returns-then-m-gt4294967295
+pub returns-then-from-m : goal.returns-then-from-m
 unfolding factors_answer
-returns-then-m-gt4294967295 c = rw (no_word _ c.if-m-gt4294967295.true)
+returns-then-from-m c = rw (no_word c.args.m (omega (arith, c.if-from-m.true, c.from.ensures)))
 
 pub returns : goal.returns
 unfolding factors_answer

@@ -25,4 +25,4 @@ returns-in-Err c =
     let races = c.args.races.now in
     let d = sym (ap (λ (s : Stakes). divided s c.args.numbers) c.stakes_of.ensures) ∙ sym c.divide.ensures ∙ c.in-Err.is in
     let t = subst (λ (r : Result Parts Refusal). Told 0 (stakes_of races) c.args.numbers r) d (divided_told (stakes_of races) c.args.numbers) in
-    (c.number_of.ensures ∙ t.refusal, ap (λ (ps : List Part). placed ps races) t.parts)
+    (c.from.ensures ∙ t.refusal, ap (λ (ps : List Part). placed ps races) t.parts)

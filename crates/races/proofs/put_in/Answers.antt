@@ -1,22 +1,13 @@
 -- The goals that the search leaves.
-use native.Mathlib.Omega.{arith}
 use mathlib.Core.Path.{refl, ◌∙◌}
 use lib.ListN.{length}
 use Rattle.division.specs.Eight.{laid}
 use Rattle.races.proofs.Turns.{putting_first, putting_next, putting_last, in_list}
 use Rattle.races.proofs.put_in.Goals as goal
 
--- src/lib.rt:141:5
 pub loop-i-init : goal.loop-i-init
 loop-i-init c = (putting_first (laid c.args.p) c.args.races.now, refl)
 
--- src/lib.rt:142:9
-pub put_part-requires : goal.put_part-requires
-put_part-requires c =
-    let l = c.loop-i in
-    omega (arith, in_list (length c.args.races.now) l.i c.loop-i-test.true, l.invariant.1)
-
--- src/lib.rt:141:5
 pub loop-i-preserved : goal.loop-i-preserved
 loop-i-preserved c =
     let s = c.args in
@@ -24,11 +15,6 @@ loop-i-preserved c =
     let h = in_list (length s.races.now) l.i c.loop-i-test.true in
     (putting_next (laid s.p) s.races.now l.i h l.invariant.0 c.put_part.ensures, c.put_part.auto.races ∙ l.invariant.1)
 
--- src/lib.rt:136:1
-pub shape_of-races : goal.shape_of-races
-shape_of-races c = c.loop-i.invariant.1
-
--- src/lib.rt:136:1
 pub returns : goal.returns
 returns c =
     let s = c.args in

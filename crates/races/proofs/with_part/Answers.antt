@@ -7,18 +7,18 @@ use lib.ListN.{length}
 use Rattle.division.specs.Eight.{laid}
 use Rattle.races.specs.Races.{with_part}
 use Rattle.races.proofs.Turns.{no_part, no_place, one_part}
+use Rattle.races.proofs.with_part.Goals.{then-p-i-via-then-p-i, then-p-i-via-else-p-i+then-i-ge8}
 use Rattle.races.proofs.with_part.Goals as goal
 
 pub returns-then-p-i : goal.returns-then-p-i
 unfolding laid
-returns-then-p-i c = let p = c.args.p in sym (no_part p.count p.parts c.args.i c.args.r c.if-p-i.true)
-
-pub returns-then-i-ge8 : goal.returns-then-i-ge8
-unfolding laid
-returns-then-i-ge8 c =
+returns-then-p-i c =
     let p = c.args.p in
     let n : length p.parts ≡ 8 = search rules in
-    sym (no_place p.count p.parts c.args.i c.args.r (omega (arith, n, c.if-i-ge8.true)))
+    elim c.then-p-i.branch [
+      | then-p-i-via-then-p-i w ↦ sym (no_part p.count p.parts c.args.i c.args.r w.if-p-i.true)
+      | then-p-i-via-else-p-i+then-i-ge8 w ↦ sym (no_place p.count p.parts c.args.i c.args.r (omega (arith, n, w.if-i-ge8.true)))
+    ]
 
 pub returns : goal.returns
 unfolding laid with_part

@@ -5,7 +5,6 @@ use native.Mathlib.Omega.{arith}
 use mathlib.Core.Path.{◌≡◌}
 use Rattle.plpb.specs.Equations.{binom}
 use Rattle.plpb.proofs.Binomial.{absorb_quotient}
-use Rattle.counting.proofs.Words.{word_product}
 use Rattle.counting.proofs.binomial.absorbed.Goals as goal
 
 from_before : (e m k : ℕ) → 0 < m → 0 < k → e ≡ binom (m - 1) (k - 1) → e * m / k ≡ binom m k
@@ -15,9 +14,6 @@ from_before e (suc m) (suc k) p q h =
     let less : suc m - 1 ≡ m = omega arith in
     let less' : suc k - 1 ≡ k = omega arith in
     rw h (rw (less, less') (absorb_quotient m k))
-
-pub overflow_mul-result : goal.overflow_mul-result
-overflow_mul-result c = record { fits = word_product (omega arith) (omega arith) }
 
 pub returns : goal.returns
 returns c = from_before _ _ _ c.requires.1 c.requires.2 c.requires.4

@@ -15,7 +15,7 @@ returns-then-m-k c = sym (ap capped (binom_vanishes _ _ c.if-m-k.true) ∙ cappe
 -- What stands in the table is no more than the cap.
 pub returns-then-m-lt-ROWS : goal.returns-then-m-lt-ROWS
 returns-then-m-lt-ROWS c =
-    c.tabled.ensures ∙ sym (row_small c.args.m c.args.k (omega (arith, c.if-m-lt-ROWS.true)) (omega (arith, c.if-m-k.false)))
+    c.from.ensures ∙ c.tabled.ensures ∙ sym (row_small c.args.m c.args.k (omega (arith, c.if-m-lt-ROWS.true)) (omega (arith, c.if-m-k.false)))
 
 -- In the middle of a row above the table everything is past the cap.
 pub returns-then-k-m : goal.returns-then-k-m

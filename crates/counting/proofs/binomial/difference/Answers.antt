@@ -5,16 +5,16 @@ use native.Mathlib.Omega.{arith}
 use mathlib.Core.Path.{sym, ◌∙◌}
 use Rattle.counting.proofs.Difference.{none_taken, none_added, too_few, all_taken, one_taken, gain_cut, gain_exact}
 use Rattle.counting.proofs.Marks.{number_cut, number_uncut}
+use Rattle.counting.proofs.binomial.difference.Goals.{then-k-eq0-via-then-k-eq0, then-k-eq0-via-else-k-eq0+then-w-eq0, then-k-eq0-via-else-k-eq0+else-w-eq0+then-m-w}
 use Rattle.counting.proofs.binomial.difference.Goals as goal
 
 pub returns-then-k-eq0 : goal.returns-then-k-eq0
-returns-then-k-eq0 c = none_taken _ _ _ c.if-k-eq0.true
-
-pub returns-then-w-eq0 : goal.returns-then-w-eq0
-returns-then-w-eq0 c = none_added _ _ _ c.if-w-eq0.true
-
-pub returns-then-m-w : goal.returns-then-m-w
-returns-then-m-w c = too_few _ _ _ c.if-m-w.true
+returns-then-k-eq0 c =
+    elim c.then-k-eq0.branch [
+      | then-k-eq0-via-then-k-eq0 w ↦ none_taken _ _ _ w.if-k-eq0.true
+      | then-k-eq0-via-else-k-eq0+then-w-eq0 w ↦ none_added _ _ _ w.if-w-eq0.true
+      | then-k-eq0-via-else-k-eq0+else-w-eq0+then-m-w w ↦ too_few _ _ _ w.if-m-w.true
+    ]
 
 pub returns-then-m-w-2 : goal.returns-then-m-w-2
 returns-then-m-w-2 c = all_taken _ _ _ (omega (arith, c.if-w-eq0.false)) c.if-m-w-2.true

@@ -70,4 +70,4 @@ loop-i-preserved c = (omega arith, next _ _ _ c.loop-i.invariant.1, c.if-entry.f
 
 pub returns : goal.returns
 returns c =
-    let i = c.loop-i.invariant in record { count_value = whole _ _ _ _ i.0 c.loop-i-test.false i.1 i.2; factors_value = all_tried _ _ _ _ i.0 c.loop-i-test.false (omega arith) i.1 i.2 }
+    let i = c.loop-i.invariant in record { count_value = c.from.ensures ∙ whole _ _ _ _ i.0 c.loop-i-test.false i.1 i.2; factors_value = all_tried _ _ _ _ i.0 c.loop-i-test.false (omega arith) i.1 i.2 }

@@ -15,4 +15,4 @@ returns-then-m-k c =
 
 pub returns-then-m-lt-ROWS : goal.returns-then-m-lt-ROWS
 returns-then-m-lt-ROWS c =
-    let given = c.args in record { count_value = c.tabled.ensures ∙ sym (row_small given.m given.k (omega (arith, c.if-m-lt-ROWS.true)) (omega (arith, c.if-m-k.false))); factors_value = factors_small given.m given.k (omega arith) }
+    let given = c.args in record { count_value = c.from.ensures ∙ c.tabled.ensures ∙ sym (row_small given.m given.k (omega (arith, c.if-m-lt-ROWS.true)) (omega (arith, c.if-m-k.false))); factors_value = factors_small given.m given.k (omega arith) }

@@ -1,14 +1,9 @@
 -- `tens_from_0` meets its contract: tens 0 to 20 of the constants are those of the triangle that Pascal's rule makes, as the checker computes.
 -- Assumes nothing.
-use native.Mathlib.Omega.{arith}
 use Rattle.plpb.specs.Factors.{row_below, rows_from, triangle}
 use Rattle.counting.specs.Pascal.{ten_at}
-use Rattle.counting.proofs.Tens.{same_ten, Others, beyond}
+use Rattle.counting.proofs.Tens.{same_ten}
 use Rattle.counting.proofs.pascal.tens_from_0.Goals as goal
-
-pub tens_from_21-requires : goal.tens_from_21-requires
-unfolding Others
-tens_from_21-requires c = (beyond _ 0 21 c.in_default.in_default-own.rest (omega arith), c.requires)
 
 pub returns-in-0 : goal.returns-in-0
 unfolding ten_at triangle rows_from row_below

@@ -2,12 +2,8 @@
 -- Assumes nothing.
 use Rattle.plpb.specs.Factors.{row_below, rows_from, triangle}
 use Rattle.counting.specs.Pascal.{ten_at}
-use Rattle.counting.proofs.Tens.{same_ten, Others, beyond}
+use Rattle.counting.proofs.Tens.{same_ten}
 use Rattle.counting.proofs.pascal.tens_from_21.Goals as goal
-
-pub tens_from_42-requires : goal.tens_from_42-requires
-unfolding Others
-tens_from_42-requires c = (beyond _ 21 21 c.in_default.in_default-own.rest c.requires.0, c.requires.1)
 
 pub returns-in-21 : goal.returns-in-21
 unfolding ten_at triangle rows_from row_below

@@ -4,14 +4,8 @@ use mir.Syntax.{w64}
 use mathlib.Core.Path.{◌∙◌, ap}
 use mir.Facts.{to_z-of_z}
 use Rattle.plpb.specs.Search.{lbs_bound, third}
-use Rattle.counting.proofs.Signed.{sum_is, double_read_fits, sum_read_fits}
+use Rattle.counting.proofs.Signed.{sum_is, sum_read_fits}
 use Rattle.counting.proofs.tightening.lbs_bound.Goals as goal
-
-pub overflow_mul-cost : goal.overflow_mul-cost
-overflow_mul-cost c = double_read_fits _ _ c.requires.0 c.requires.1 c.ranges.least c.ranges.cost
-
-pub overflow_add-least : goal.overflow_add-least
-overflow_add-least c = sum_read_fits _ _ c.requires.0 c.requires.1 c.ranges.least c.ranges.cost
 
 pub returns : goal.returns
 unfolding lbs_bound

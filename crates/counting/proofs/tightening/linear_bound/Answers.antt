@@ -7,9 +7,6 @@ use Rattle.plpb.specs.Search.{linear_bound}
 use Rattle.counting.proofs.Signed.{small_fits, size_sum}
 use Rattle.counting.proofs.tightening.linear_bound.Goals as goal
 
-pub overflow_sub-result : goal.overflow_sub-result
-overflow_sub-result c = rw (to_z-of_z c.ranges.cost) (small_fits _ (omega (arith, size_sum c.args.cost (negsuc 0))))
-
 pub returns : goal.returns
 unfolding linear_bound
 returns c = rw (to_z-of_z c.ranges.cost) (to_z-of_z (small_fits _ (omega (arith, size_sum c.args.cost (negsuc 0)))))

@@ -3,9 +3,6 @@
 use Rattle.rules.proofs.Finding.{stands_on, stands_off}
 use Rattle.rules.proofs.place.stands_at.Goals as goal
 
-pub read_literal-l-requires : goal.read_literal-l-requires
-read_literal-l-requires c = rw c.in-Some.is at c.requires
-
 pub returns-then-l : goal.returns-then-l
 returns-then-l c = rw c.in-Some.is (stands_on c.read_literal-l.ensures c.if-l.true)
 

@@ -1,14 +1,14 @@
 -- `Count::from` meets its contract: up to the cap a number is itself, past it it is cut.
 -- Assumes nothing.
 use native.Mathlib.Omega.{arith}
-use mathlib.Core.Path.{sym}
+use mathlib.Core.Path.{sym, ◌∙◌}
 use Rattle.plpb.specs.Count.{cap}
 use Rattle.plpb.proofs.Capped.{capped_small, capped_large}
 use Rattle.counting.proofs.count.CountFromU64.from.Goals as goal
 
 pub returns-then-n : goal.returns-then-n
 unfolding cap
-returns-then-n c = sym (capped_small _ (omega (arith, c.if-n.true)))
+returns-then-n c = c.from.ensures ∙ sym (capped_small _ (omega (arith, c.if-n.true)))
 
 pub returns : goal.returns
 unfolding cap

@@ -5,14 +5,10 @@ use mathlib.Core.Path.{sym, ◌∙◌, ap, ap₂}
 use Rattle.plpb.specs.Count.{capped}
 use Rattle.counting.specs.Count.{number}
 use Rattle.counting.proofs.Marks.{number_cut, number_uncut}
-use Rattle.counting.proofs.Words.{rank_product}
 use Rattle.counting.proofs.count.CountMul.mul.Goals as goal
 
 pub returns-then-self : goal.returns-then-self
 returns-then-self c = c.times_cut.ensures ∙ sym (ap (λ a. capped (a * number c.args.other)) (number_cut c.args.self c.if-self.true))
-
-pub overflow_mul-self : goal.overflow_mul-self
-overflow_mul-self c = record { fits = rank_product c.struct_known-1.given.0.fits c.rank.ensures.1 }
 
 pub returns : goal.returns
 returns c =

@@ -1,16 +1,16 @@
--- `Marked::from` meets its contract: what stands past the cap was cut.
+-- `Marked::from` meets its contract: the mark tells what was cut.
 -- Assumes nothing.
 use native.Mathlib.Omega.{arith}
-use mathlib.Core.Path.{◌∙◌, ap}
+use mathlib.Core.Path.{sym, ◌∙◌, ap}
 use Rattle.plpb.specs.Count.{cap, given}
 use Rattle.counting.specs.Count.{count_words}
-use Rattle.counting.proofs.Marks.{words_cut, words_uncut}
+use Rattle.counting.proofs.Marks.{number_cut, number_uncut, words_cut, words_uncut}
 use Rattle.counting.proofs.count.MarkedFromCount.from.Goals as goal
 
-pub returns-then-n : goal.returns-then-n
+pub returns-then-count : goal.returns-then-count
 unfolding cap
-returns-then-n c = words_cut _ c.if-n.true ∙ ap (λ n. count_words (given n)) c.rank-n.ensures.0
+returns-then-count c = words_cut _ (omega arith) ∙ ap (λ n. count_words (given n)) (sym (number_cut _ c.if-count.true))
 
 pub returns : goal.returns
 unfolding cap
-returns c = words_uncut _ (omega (arith, c.if-n.false)) ∙ ap (λ n. count_words (given n)) c.rank-n.ensures.0
+returns c = words_uncut _ (omega (arith, c.well_formed)) ∙ ap (λ n. count_words (given n)) (sym (number_uncut _ c.if-count.false))

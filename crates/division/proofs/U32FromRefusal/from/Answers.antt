@@ -1,7 +1,7 @@
--- `division::number_of` meets its contract, by the refusal.
+-- A refusal as a number meets its contract, by the refusal.
 -- Assumes nothing.
 use Rattle.division.specs.Eight.{refusal_number}
-use Rattle.division.proofs.number_of.Goals as goal
+use Rattle.division.proofs.U32FromRefusal.from.Goals as goal
 
 pub returns-in-NoRoom : goal.returns-in-NoRoom
 unfolding refusal_number
