@@ -1,15 +1,13 @@
 -- Laws of a field of locks judged entry by entry: an entry at fault decides, and one without passes on to those behind it.
 -- Assumes nothing.
-use Prim.Native.Nat.{ℕ, suc, ◌+◌, ◌*◌, ◌-◌, ◌/◌, ◌≤◌, ◌<◌}
+use Prim.Native.Nat.{ℕ, suc, ◌+◌, ◌*◌, ◌-◌, ◌≤◌, ◌<◌}
 use native.Mathlib.Omega.{arith}
 use mathlib.Core.Path.{◌≡◌, refl, sym, ap, ap₂, ◌∙◌}
 use mathlib.Core.Bool.{Bool, true, false}
 use mathlib.Core.List.{List}
 use lib.ListN.{get_or}
-use borrow.Author.Tests.{ne_eqb}
 use Rattle.words.specs.Words.{num_at}
-use Rattle.format.specs.File as File
-use Rattle.format.specs.File.{tag_at, length_at, refuse, entries_fault, locks_fault}
+use Rattle.format.specs.File.{tag_at, refuse, entries_fault}
 use Rattle.bodies.specs.Locks.{entry_fault}
 use Rattle.bodies.proofs.Tags.{tag_byte}
 
@@ -64,14 +62,3 @@ module _ (s : List ℕ) (n v count i : ℕ) where
       ap (entries_fault n v s (3 * i)) (one_more x 0 some number fault)
       ∙ passed _ _ _ (sym (here x 0 some number fault))
       ∙ ap₂ (λ (y a : ℕ). entries_fault n y s a (count - (i + 1))) (sym number) (next x 0 some number fault)
-
--- The field's fault, by its tag.
-module _ (s : List ℕ) (st : File.State) where
-  pub locks_none : (get_or s st.at 0 ≡ 6 → ⊥) → 0 ≡ locks_fault s st
-  unfolding locks_fault
-  locks_none n = rw (ne_eqb (tag_at s st.at) 6 (λ e. n (tag_byte s st.at ∙ e)))
-
-  pub locks_some :
-      (f k : ℕ) → get_or s st.at 0 ≡ 6 → f ≡ entries_fault st.variables 0 s (st.at + 3) (k / 3) → k ≡ num_at 2 s (st.at + 1) → f ≡ locks_fault s st
-  unfolding locks_fault length_at
-  locks_some f k e p q = p ∙ rw (q, sym (tag_byte s st.at) ∙ e)

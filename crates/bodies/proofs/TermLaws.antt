@@ -8,7 +8,10 @@ use mathlib.Core.List.{List}
 use lib.Dec.{leb, ltb, eqb}
 use lib.IntN.{ℤ, pos, nat_abs}
 use native.Mathlib.Decide.{dec_lt}
-use borrow.Author.Tests.{le-leb, lt-leb}
+use borrow.Author.Tests.{le-leb, lt-leb, le-ltb, lt-ltb}
+use Rattle.std.specs.Prelude.{None}
+use Rattle.format.specs.declared.Mode.TheVariants.{Lower, Upper, Both}
+use Rattle.format.specs.Modes.{Moded}
 use Rattle.format.proofs.Bools.{and_stop, and_false}
 use Rattle.plpb.specs.Lists.{◌and◌, ◌or◌, all}
 use Rattle.plpb.specs.Plan.{Term, rising, rising_above}
@@ -21,6 +24,11 @@ and_true : (b : Bool) → b ≡ (b and true)
 unfolding ◌and◌
 and_true true = refl
 and_true false = refl
+
+and_assoc : (a b c : Bool) → (a and (b and c)) ≡ ((a and b) and c)
+unfolding ◌and◌
+and_assoc true b c = refl
+and_assoc false b c = refl
 
 -- A mode that lacks a bound asks of it that it is 0.
 pub lacks_lower : (m l u : ℕ) → m ≡ 2 → l ≤ 1_000_000_000 → u ≤ 1_000_000_000 → eqb l 0 ≡ bounds_lawful m (pos l) (pos u)
@@ -40,27 +48,52 @@ module _ (m l u : ℕ) where
   unfolding bounds_lawful
   wide_upper h = sym (and_stop _ _ (and_stop _ _ (and_false _ _ (lt-leb u 1_000_000_000 h))))
 
-  -- Mode 3 has both bounds, and there is no other.
+  -- Mode 3 has both bounds.
   pub lacks_none : m ≡ 3 → l ≤ 1_000_000_000 → u ≤ 1_000_000_000 → true ≡ bounds_lawful m (pos l) (pos u)
   unfolding bounds_lawful ◌and◌ ◌or◌
   lacks_none e a b = rw (e, le-leb l 1_000_000_000 a, le-leb u 1_000_000_000 b)
 
-  pub no_mode : (m ≡ 1 → ⊥) → (m ≡ 2 → ⊥) → (m ≡ 3 → ⊥) → false ≡ bounds_lawful m (pos l) (pos u)
-  unfolding bounds_lawful
-  no_mode a b c = sym (and_stop _ _ (and_stop _ _ (and_stop _ _ (and_stop _ _ (by (dec_lt 3 m))))))
-    where
-      by : Dec (3 < m) → (leb 1 m and leb m 3) ≡ false
-      by (yes h) = and_false _ _ (lt-leb m 3 h)
-      by (no n) = and_stop _ _ (lt-leb 1 m (omega (arith, a, b, c, n)))
+-- A byte that is no mode.
+pub no_mode : (m : ℕ) (l u : ℤ) → Moded m None → false ≡ bounds_lawful m l u
+unfolding bounds_lawful
+no_mode m l u n = sym (and_stop _ _ (and_stop _ _ (and_stop _ _ (and_stop _ _ (by (dec_lt 3 m))))))
+  where
+    by : Dec (3 < m) → (leb 1 m and leb m 3) ≡ false
+    by (yes h) = and_false _ _ (lt-leb m 3 h)
+    by (no k) = and_stop _ _ (lt-leb 1 m (omega (arith, λ (e : 1 ≡ m). n Lower e, λ (e : 2 ≡ m). n Upper e, λ (e : 3 ≡ m). n Both e, k)))
 
 -- Only the sizes of bounds and weights are judged.
-pub bounds_size : (mode : ℕ) (l u : ℤ) → bounds_lawful mode (pos (nat_abs l)) (pos (nat_abs u)) ≡ bounds_lawful mode l u
+bounds_size : (mode : ℕ) (l u : ℤ) → bounds_lawful mode (pos (nat_abs l)) (pos (nat_abs u)) ≡ bounds_lawful mode l u
 unfolding bounds_lawful
 bounds_size mode l u = refl
+
+pub by_sizes :
+    (mode : ℕ) {l u x y : ℤ} {a b : ℕ} → a ≡ nat_abs x → x ≡ l → b ≡ nat_abs y → y ≡ u → {r : Bool} → r ≡ bounds_lawful mode (pos a) (pos b)
+    → r ≡ bounds_lawful mode l u
+by_sizes mode {l} {u} e p f q h = h ∙ rw (e, p, f, q) (bounds_size mode l u)
 
 pub term_size_lem : (n v : ℕ) (x : ℕ) (w : ℤ) → term_lawful n v (record { variable = x; weight = pos (nat_abs w) }) ≡ term_lawful n v (record { variable = x; weight = w })
 unfolding term_lawful weight_lawful
 term_size_lem n v x w = refl
+
+-- A term's number is judged first, then its weight.
+module _ (n v x k : ℕ) where
+  pub unfit : (ltb v x and leb x n) ≡ false → false ≡ term_lawful n v (record { variable = x; weight = pos k })
+  unfolding term_lawful
+  unfit e = sym (and_assoc (ltb v x) (leb x n) _ ∙ and_stop _ _ e)
+
+  module _ (e : (ltb v x and leb x n) ≡ true) where
+    fit : weight_lawful (pos k) ≡ term_lawful n v (record { variable = x; weight = pos k })
+    unfolding term_lawful ◌and◌
+    fit = sym (and_assoc (ltb v x) (leb x n) _ ∙ rw e)
+
+    pub fit_some : 0 < k → leb k 1_000_000 ≡ term_lawful n v (record { variable = x; weight = pos k })
+    unfolding weight_lawful ◌and◌
+    fit_some h = rw (lt-ltb 0 k h) at fit
+
+    pub fit_none : k ≤ 0 → false ≡ term_lawful n v (record { variable = x; weight = pos k })
+    unfolding weight_lawful ◌and◌
+    fit_none h = rw (le-ltb 0 k h) at fit
 
 pub lawful_start : (n : ℕ) (ts : List Term) → lawful_above n 0 ts ≡ terms_lawful n ts
 unfolding lawful_above terms_lawful rising

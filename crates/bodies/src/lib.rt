@@ -5,6 +5,7 @@ ghost use Rattle.std.specs.Prelude.{◌≡◌};
 ghost use Rattle.bodies.specs.Faults.{number};
 
 pub mod locks;
+pub mod rising;
 pub mod terms;
 
 // What may be wrong with a field of a plan file.
@@ -20,12 +21,12 @@ pub enum Fault {
     WrongLock,
 }
 
-impl Fault {
-    // The number under which docs/REFUSALS.md has the fault. The goals of the cast `self as u32`, which was tried, do not tell the variant.
-    pub fn number(self) -> u32
-        ensures { result ≡ number self }
-    {
-        match self {
+// The number under which docs/REFUSALS.md has the fault. The goals of a cast of the fault do not tell the variant, so that the numbers are not the enum's own.
+impl From<Fault> for u32 {
+    ghost from_gives = { λ fault n. n ≡ number fault };
+
+    fn from(fault: Fault) -> u32 {
+        match fault {
             Fault::CutShort => 1,
             Fault::WrongTag => 2,
             Fault::WrongLength => 3,

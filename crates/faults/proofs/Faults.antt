@@ -3,14 +3,19 @@
 use Prim.Native.Nat.{ℕ, ◌+◌, ◌-◌, ◌/◌, ◌≤◌, ◌<◌}
 use native.Mathlib.Omega.{arith}
 use native.Mathlib.Decide.{dec_lt}
-use mathlib.Core.Path.{◌≡◌, sym, ap, ◌∙◌}
+use mathlib.Core.Path.{◌≡◌, refl, sym, ap, ◌∙◌}
 use mathlib.Core.Bool.{Bool, true, false, not}
 use mathlib.Core.List.{List}
 use lib.Dec.{ltb, leb}
 use lib.IntN.{ℤ}
 use lib.ListN.{length, get_or, take, drop, length-drop}
 use Rattle.std.proofs.lemmas.List.{length-take-le}
-use borrow.Author.Tests.{ne_eqb, lt-ltb, le-ltb, eqb-true, leb-true, le-leb, lt-leb}
+use borrow.Author.Tests.{ne_eqb, lt-ltb, le-ltb, eqb-true, leb-true, tests}
+use borrow.Author.Rules.{rules}
+use Rattle.std.specs.Prelude.{Some}
+use Rattle.std.specs.Ordering.{is_le, nat_cmp}
+use Rattle.std.specs.declared.ops.RangeInclusive.{RangeInclusive}
+use Rattle.std.specs.Range.{range_inclusive_start, range_inclusive_end, range_inclusive_exhausted, range_inclusive_contains}
 use Rattle.plpb.specs.Lists.{◌and◌, ◌or◌, all}
 use Rattle.plpb.specs.Plan.{rising, rising_above}
 use Rattle.words.specs.Words.{num_at, signed}
@@ -18,6 +23,9 @@ use Rattle.format.proofs.Bools.{and_left}
 use Rattle.format.specs.File as File
 use Rattle.format.specs.File.{tag_at, length_at, length_lawful, refuse, past_limits, bounds_lawful, lower_at, upper_at, mode_at, wrong_bounds, terms_in, terms_at, field_terms, entries_fault, locks_fault}
 use Rattle.format.specs.Limits.{terms_lawful}
+use Rattle.format.specs.declared.Tag.{Tag}
+use Rattle.format.specs.declared.Tag.TheVariants.{Variables, Objective, Clause, Rule, End, Locks}
+use Rattle.format.specs.Tags.{tag_number}
 use Rattle.faults.specs.Faults.{body_fault, Headed}
 use Rattle.bodies.proofs.Tags.{tag_byte}
 use Rattle.bodies.proofs.Parts.{terms_part, entries_part}
@@ -33,27 +41,28 @@ ltb_same a b c d f g = by (dec_lt c d)
     by (yes h) = lt-ltb a b (g h) ∙ sym (lt-ltb c d h)
     by (no n) = le-ltb a b (not_lt (λ h. n (f h))) ∙ sym (le-ltb c d (not_lt n))
 
-pub ltb_not : (a b : ℕ) → ltb a b ≡ not (leb b a)
-ltb_not a b = by (dec_lt a b)
-  where
-    by : Dec (a < b) → ltb a b ≡ not (leb b a)
-    by (yes h) = lt-ltb a b h ∙ sym (ap not (lt-leb b a h))
-    by (no n) = le-ltb a b (not_lt n) ∙ sym (ap not (le-leb b a (not_lt n)))
+-- A number's comparison says at most just where the test of the definitions does.
+le_test : (a b : ℕ) → is_le (nat_cmp a b) ≡ leb a b
+le_test a b = search (rules, tests)
+
+-- What a range's `contains` tells of a number is what the two tests of the definition say.
+pub between : {b : Bool} {m n : ℕ} (x : ℕ) {r : RangeInclusive ℕ} → range_inclusive_start r ≡ m → range_inclusive_end r ≡ n → range_inclusive_exhausted r ≡ false
+    → b ≡ range_inclusive_contains (λ i j. Some (nat_cmp i j)) r x → b ≡ (leb m x and leb x n)
+unfolding ◌and◌
+between {m = m} {n = n} x e f g h = rw (← le_test m x, ← le_test x n) (h ∙ rw (e, f, g))
+
+-- Which tag it is says which number the file has there.
+pub told : {t u : Tag} {n : ℕ} → tag_number t ≡ n → t ≡ u → n ≡ tag_number u
+told e p = sym e ∙ ap tag_number p
 
 module _ (s : List ℕ) (at : ℕ) where
-  tag_is : (k : ℕ) → get_or s at 0 ≡ k → tag_at s at ≡ k
-  tag_is k e = sym (tag_byte s at) ∙ e
-
-  tag_not : (k : ℕ) → (get_or s at 0 ≡ k → ⊥) → tag_at s at ≡ k → ⊥
-  tag_not k n e = n (tag_byte s at ∙ e)
-
-  pub count_size : Headed s at → get_or s at 0 ≡ 1 → num_at 2 s (at + 1) ≡ 2
+  pub count_size : Headed s at → tag_at s at ≡ 1 → num_at 2 s (at + 1) ≡ 2
   unfolding length_at length_lawful
-  count_size h e = eqb-true _ _ (rw (tag_is 1 e) at h.lawful)
+  count_size h e = eqb-true _ _ (rw (e) at h.lawful)
 
-  pub rule_size : Headed s at → get_or s at 0 ≡ 4 → 15 ≤ num_at 2 s (at + 1)
+  pub rule_size : Headed s at → tag_at s at ≡ 4 → 15 ≤ num_at 2 s (at + 1)
   unfolding length_at length_lawful
-  rule_size h e = leb-true _ _ (and_left _ _ (rw (tag_is 4 e) at h.lawful))
+  rule_size h e = leb-true _ _ (and_left _ _ (rw (e) at h.lawful))
 
   pub body_room : Headed s at → at + 3 + num_at 2 s (at + 1) ≤ length s
   unfolding length_at
@@ -61,35 +70,45 @@ module _ (s : List ℕ) (at : ℕ) where
 
 -- The tests of a body, by its tag.
 module _ (s : List ℕ) (st : File.State) where
-  pub limits_count : (b : Bool) (n : ℕ) → get_or s st.at 0 ≡ 1 → b ≡ not (leb 1 n and leb n 512) → n ≡ num_at 2 s (st.at + 3) → b ≡ past_limits s st
+  pub limits_count : (b : Bool) (n : ℕ) → tag_at s st.at ≡ 1 → b ≡ not (leb 1 n and leb n 512) → n ≡ num_at 2 s (st.at + 3) → b ≡ past_limits s st
   unfolding past_limits
-  limits_count b n e p q = p ∙ rw (q, tag_is s st.at 1 e)
+  limits_count b n e p q = p ∙ rw (q, e)
 
-  pub limits_clause : get_or s st.at 0 ≡ 3 → leb 512 st.clauses ≡ past_limits s st
+  pub limits_clause : tag_at s st.at ≡ 3 → leb 512 st.clauses ≡ past_limits s st
   unfolding past_limits
-  limits_clause e = rw (tag_is s st.at 3 e)
+  limits_clause e = rw (e)
 
   pub limits_rule :
-      (b : Bool) (n : ℕ) → get_or s st.at 0 ≡ 4 → b ≡ (leb 1_024 st.rules or ltb 6_000 (st.terms + (n - 9) / 6)) → n ≡ num_at 2 s (st.at + 1)
+      (b : Bool) (n : ℕ) → tag_at s st.at ≡ 4 → b ≡ (leb 1_024 st.rules or ltb 6_000 (st.terms + (n - 9) / 6)) → n ≡ num_at 2 s (st.at + 1)
       → b ≡ past_limits s st
   unfolding past_limits terms_in length_at
-  limits_rule b n e p q = p ∙ rw (q, tag_is s st.at 4 e)
+  limits_rule b n e p q = p ∙ rw (q, e)
 
-  pub limits_none : (get_or s st.at 0 ≡ 1 → ⊥) → (get_or s st.at 0 ≡ 3 → ⊥) → (get_or s st.at 0 ≡ 4 → ⊥) → false ≡ past_limits s st
+  pub limits_none :
+      (t : Tag) → tag_number t ≡ tag_at s st.at → (t ≡ Variables → ⊥) → (t ≡ Clause → ⊥) → (t ≡ Rule → ⊥) → false ≡ past_limits s st
   unfolding past_limits
-  limits_none a b c =
-      rw (ne_eqb _ 1 (tag_not s st.at 1 a), ne_eqb _ 3 (tag_not s st.at 3 b), ne_eqb _ 4 (tag_not s st.at 4 c))
+  limits_none Variables e a b c = absurd (a refl)
+  limits_none Objective e a b c = rw (sym e)
+  limits_none Clause e a b c = absurd (b refl)
+  limits_none Rule e a b c = absurd (c refl)
+  limits_none End e a b c = rw (sym e)
+  limits_none Locks e a b c = rw (sym e)
 
 module _ (s : List ℕ) (at : ℕ) where
-  pub bounds_none : (get_or s at 0 ≡ 4 → ⊥) → false ≡ wrong_bounds s at
+  pub bounds_none : (t : Tag) → tag_number t ≡ tag_at s at → (t ≡ Rule → ⊥) → false ≡ wrong_bounds s at
   unfolding wrong_bounds ◌and◌
-  bounds_none n = rw (ne_eqb _ 4 (tag_not s at 4 n))
+  bounds_none Variables e n = rw (sym e)
+  bounds_none Objective e n = rw (sym e)
+  bounds_none Clause e n = rw (sym e)
+  bounds_none Rule e n = absurd (n refl)
+  bounds_none End e n = rw (sym e)
+  bounds_none Locks e n = rw (sym e)
 
   pub bounds_some :
-      (b : Bool) (l u : ℤ) → get_or s at 0 ≡ 4 → b ≡ bounds_lawful (get_or s (at + 3) 0) l u → l ≡ signed (num_at 4 s (at + 4)) → u ≡ signed (num_at 4 s (at + 8))
+      (b : Bool) (l u : ℤ) → tag_at s at ≡ 4 → b ≡ bounds_lawful (get_or s (at + 3) 0) l u → l ≡ signed (num_at 4 s (at + 4)) → u ≡ signed (num_at 4 s (at + 8))
       → not b ≡ wrong_bounds s at
   unfolding wrong_bounds lower_at upper_at mode_at tag_at ◌and◌
-  bounds_some b l u e p q r = rw (p, q, r, tag_is s at 4 e) (ap (λ (m : ℕ). not (bounds_lawful m (signed (num_at 4 s (at + 4))) (signed (num_at 4 s (at + 8))))) (tag_byte s (at + 3)))
+  bounds_some b l u e p q r = rw (p, q, r, e) (ap (λ (m : ℕ). not (bounds_lawful m (signed (num_at 4 s (at + 4))) (signed (num_at 4 s (at + 8))))) (tag_byte s (at + 3)))
 
   -- The terms of a body, and the entries of locks, read from the part that it is.
   module _ (h : Headed s at) {e : ℕ} (ends : e ≡ at + 3 + length_at s at) where
@@ -97,17 +116,17 @@ module _ (s : List ℕ) (at : ℕ) where
     part_length from l = length-take-le (e - from) (drop from s) (omega (arith, length-drop from s, h.room))
 
     pub terms_objective :
-        (b : Bool) (n : ℕ) → get_or s at 0 ≡ 2
+        (b : Bool) (n : ℕ) → tag_at s at ≡ 2
         → b ≡ terms_lawful n (terms_at (take (e - (at + 3)) (drop (at + 3) s)) 0 (length (take (e - (at + 3)) (drop (at + 3) s)) / 6))
         → b ≡ terms_lawful n (field_terms s at)
     unfolding field_terms terms_in
     terms_objective b n t p =
         let m : e - (at + 3) ≡ length_at s at = omega arith in
         let k = part_length (at + 3) (omega arith) ∙ m in
-        p ∙ ap (terms_lawful n) (terms_part s (at + 3) (e - (at + 3)) _ (omega (arith, k)) ∙ ap (λ (i : ℕ). terms_at s (at + 3) (i / 6)) k) ∙ rw (tag_is s at 2 t)
+        p ∙ ap (terms_lawful n) (terms_part s (at + 3) (e - (at + 3)) _ (omega (arith, k)) ∙ ap (λ (i : ℕ). terms_at s (at + 3) (i / 6)) k) ∙ rw (t)
 
     pub terms_rule :
-        (b : Bool) (n : ℕ) → get_or s at 0 ≡ 4
+        (b : Bool) (n : ℕ) → tag_at s at ≡ 4
         → b ≡ terms_lawful n (terms_at (take (e - (at + 12)) (drop (at + 12) s)) 0 (length (take (e - (at + 12)) (drop (at + 12) s)) / 6))
         → b ≡ terms_lawful n (field_terms s at)
     unfolding field_terms terms_in length_at
@@ -115,7 +134,7 @@ module _ (s : List ℕ) (at : ℕ) where
         let long = rule_size s at h t in
         let m : e - (at + 12) ≡ num_at 2 s (at + 1) - 9 = omega arith in
         let k = part_length (at + 12) (omega (arith, long)) ∙ m in
-        p ∙ ap (terms_lawful n) (terms_part s (at + 12) (e - (at + 12)) _ (omega (arith, k, m)) ∙ ap (λ (i : ℕ). terms_at s (at + 12) (i / 6)) k) ∙ rw (tag_is s at 4 t)
+        p ∙ ap (terms_lawful n) (terms_part s (at + 12) (e - (at + 12)) _ (omega (arith, k, m)) ∙ ap (λ (i : ℕ). terms_at s (at + 12) (i / 6)) k) ∙ rw (t)
 
     pub entries_body :
         (f n : ℕ) → f ≡ entries_fault n 0 (take (e - (at + 3)) (drop (at + 3) s)) 0 (length (take (e - (at + 3)) (drop (at + 3) s)) / 3)
@@ -125,9 +144,30 @@ module _ (s : List ℕ) (at : ℕ) where
         let k = part_length (at + 3) (omega arith) ∙ m in
         p ∙ entries_part s (at + 3) (e - (at + 3)) n _ (omega (arith, k)) ∙ ap (λ (i : ℕ). entries_fault n 0 s (at + 3) (i / 3)) k
 
-  pub terms_none : (n : ℕ) → (get_or s at 0 ≡ 2 → ⊥) → (get_or s at 0 ≡ 4 → ⊥) → true ≡ terms_lawful n (field_terms s at)
+  pub terms_none : (t : Tag) (n : ℕ) → tag_number t ≡ tag_at s at → (t ≡ Objective → ⊥) → (t ≡ Rule → ⊥) → true ≡ terms_lawful n (field_terms s at)
   unfolding field_terms terms_lawful rising rising_above all ◌and◌
-  terms_none n a b = rw (ne_eqb _ 2 (tag_not s at 2 a), ne_eqb _ 4 (tag_not s at 4 b))
+  terms_none Variables n e a b = rw (sym e)
+  terms_none Objective n e a b = absurd (a refl)
+  terms_none Clause n e a b = rw (sym e)
+  terms_none Rule n e a b = absurd (b refl)
+  terms_none End n e a b = rw (sym e)
+  terms_none Locks n e a b = rw (sym e)
+
+-- The entries of locks, by the tag.
+module _ (s : List ℕ) (st : File.State) where
+  pub locks_none : (t : Tag) → tag_number t ≡ tag_at s st.at → (t ≡ Locks → ⊥) → 0 ≡ locks_fault s st
+  unfolding locks_fault
+  locks_none Variables e n = rw (sym e)
+  locks_none Objective e n = rw (sym e)
+  locks_none Clause e n = rw (sym e)
+  locks_none Rule e n = rw (sym e)
+  locks_none End e n = rw (sym e)
+  locks_none Locks e n = absurd (n refl)
+
+  pub locks_some :
+      (f k : ℕ) → tag_at s st.at ≡ 6 → f ≡ entries_fault st.variables 0 s (st.at + 3) (k / 3) → k ≡ num_at 2 s (st.at + 1) → f ≡ locks_fault s st
+  unfolding locks_fault length_at
+  locks_some f k e p q = p ∙ rw (q, e)
 
 -- The tests of a body, in their order.
 module _ (s : List ℕ) (st : File.State) where
@@ -146,3 +186,15 @@ module _ (s : List ℕ) (st : File.State) where
   pub fine : past_limits s st ≡ false → wrong_bounds s st.at ≡ false → terms_lawful st.variables (field_terms s st.at) ≡ true → locks_fault s st ≡ body_fault s st
   unfolding body_fault refuse
   fine a b c = rw (a, b, c)
+
+  -- A byte that is no tag has none of the bodies that are judged.
+  pub untagged : ((t : Tag) → tag_number t ≡ tag_at s st.at → ⊥) → 0 ≡ body_fault s st
+  unfolding body_fault refuse past_limits wrong_bounds field_terms terms_lawful rising rising_above all locks_fault ◌and◌
+  untagged n =
+      rw (
+        ne_eqb _ 1 (λ e. n Variables (sym e)),
+        ne_eqb _ 2 (λ e. n Objective (sym e)),
+        ne_eqb _ 3 (λ e. n Clause (sym e)),
+        ne_eqb _ 4 (λ e. n Rule (sym e)),
+        ne_eqb _ 6 (λ e. n Locks (sym e)),
+      )

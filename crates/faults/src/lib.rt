@@ -4,7 +4,8 @@
 ghost use Rattle.std.specs.Prelude.{◌≡◌, not, ◌+◌, leb, ltb};
 ghost use Rattle.plpb.specs.Lists.{◌and◌, ◌or◌};
 ghost use Rattle.format.specs.Limits.{terms_lawful};
-ghost use Rattle.format.specs.File.{length_at, past_limits, wrong_bounds, field_terms, locks_fault};
+ghost use Rattle.format.specs.Tags.{tag_number};
+ghost use Rattle.format.specs.File.{tag_at, length_at, past_limits, wrong_bounds, field_terms, locks_fault};
 ghost use Rattle.bodies.specs.Faults.{found};
 ghost use Rattle.faults.specs.Faults.{state_of, body_fault, Headed};
 
@@ -40,10 +41,11 @@ pub struct State {
 fn count_wrong(variables: u32) -> bool
     ensures { result ≡ not (leb 1 variables and leb variables 512) }
 {
-    if variables < 1 { true } else { 512 < variables }
+    !(1..=512).contains(&variables)
 }
 
-// One rule more than the most that there may be, or its terms above 6,000.
+// One rule more than the most that there may be, or its terms above 6,000. The terms go by what is left of the 6,000, since any two numbers may be told and
+// their sum may be too large.
 pub fn rules_full<const MOST: usize>(rules: usize, terms: usize, more: usize) -> bool
     ensures { result ≡ (leb MOST rules or ltb 6_000 (terms + more)) }
 {
@@ -56,33 +58,30 @@ pub fn rules_full<const MOST: usize>(rules: usize, terms: usize, more: usize) ->
     6000 - terms < more
 }
 
-// A field whose head has nothing wrong, and where reading is before it.
+// A field whose head has nothing wrong, its tag, and where reading is before it.
 #[derive(Clone, Copy)]
 struct Field<'a> {
     file: &'a [u8],
     st: State,
+    tag: Tag,
     ghost headed: { Headed file.now st.at },
+    ghost tagged: { tag_number tag ≡ tag_at file.now st.at },
 }
 
 impl<'a> Field<'a> {
     fn past_limits(self) -> bool
         ensures { result ≡ past_limits self.entry.file.now (state_of self.entry.st) }
     {
-        let file = self.file;
-        let st = self.st;
-        let at = st.at;
-        let tag = file[at];
-        if tag == Tag::Variables as u8 {
-            return count_wrong(words::read_u16(file, at + 3));
+        let at = self.st.at;
+        match self.tag {
+            Tag::Variables => count_wrong(words::read_u16(self.file, at + 3)),
+            Tag::Clause => 512 <= self.st.clauses,
+            Tag::Rule => {
+                let size = words::read_size(self.file, at + 1);
+                rules_full::<1024>(self.st.rules, self.st.terms, (size - 9) / 6)
+            }
+            _ => false,
         }
-        if tag == Tag::Clause as u8 {
-            return 512 <= st.clauses;
-        }
-        if tag == Tag::Rule as u8 {
-            let size = words::read_size(file, at + 1);
-            return rules_full::<1024>(st.rules, st.terms, (size - 9) / 6);
-        }
-        false
     }
 
     // "6: mode outside 1 to 3, a bound outside ±1,000,000,000, an absent bound not 0."
@@ -91,14 +90,14 @@ impl<'a> Field<'a> {
     {
         let file = self.file;
         let at = self.st.at;
-        if file[at] != Tag::Rule as u8 {
-            return false;
+        match self.tag {
+            Tag::Rule => !bounds_lawful(
+                file[at + 3],
+                words::read_i32(file, at + 4),
+                words::read_i32(file, at + 8),
+            ),
+            _ => false,
         }
-        !bounds_lawful(
-            file[at + 3],
-            words::read_i32(file, at + 4),
-            words::read_i32(file, at + 8),
-        )
     }
 
     // Where it ends.
@@ -111,37 +110,36 @@ impl<'a> Field<'a> {
     fn right_terms(self) -> bool
         ensures { result ≡ terms_lawful self.entry.st.variables (field_terms self.entry.file.now self.entry.st.at) }
     {
-        let file = self.file;
         let at = self.st.at;
         let variables = self.st.variables;
-        if file[at] == Tag::Objective as u8 {
-            return terms_lawful(&file[at + 3..self.end()], variables);
+        match self.tag {
+            Tag::Objective => terms_lawful(&self.file[at + 3..self.end()], variables),
+            Tag::Rule => terms_lawful(&self.file[at + 12..self.end()], variables),
+            _ => true,
         }
-        if file[at] == Tag::Rule as u8 {
-            return terms_lawful(&file[at + 12..self.end()], variables);
-        }
-        true
     }
 
     // "5 for a wrong number as in terms, 10 for another value (after 5 of that entry)"
     fn locks_fault(self) -> Result<(), Fault>
         ensures { found result ≡ locks_fault self.entry.file.now (state_of self.entry.st) }
     {
-        let file = self.file;
         let at = self.st.at;
-        if file[at] != Tag::Locks as u8 {
-            return Ok(());
+        match self.tag {
+            Tag::Locks => entries_fault(&self.file[at + 3..self.end()], self.st.variables),
+            _ => Ok(()),
         }
-        entries_fault(&file[at + 3..self.end()], self.st.variables)
     }
 }
 
-// ".., 4, 6, then 5 from left to right."
+// ".., 4, 6, then 5 from left to right." Where the byte is no tag, nothing is asked of the body: the head is refused.
 pub fn body_fault(file: &[u8], st: State) -> Result<(), Fault>
     requires { Headed file.now st.at }
     ensures { found result ≡ body_fault file.now (state_of st) }
 {
-    let field = Field { file, st };
+    let Some(tag) = Tag::of(file[st.at]) else {
+        return Ok(());
+    };
+    let field = Field { file, st, tag };
     if field.past_limits() {
         return Err(Fault::TooLarge);
     }

@@ -49,7 +49,7 @@ pub lock_coefficient : (p : Plan) (x : ℕ) → 1 ≤ x → x ≤ p.variables �
 unfolding lock_of
 lock_coefficient p x a b = rw (variable_here p x a b) (among_coefficient p.locks x)
 
--- .. for every variable that the tables have a place for.
+-- The same for every variable that the tables have a place for.
 pub lock_dense :
     (p : Plan) (x : ℕ) → all (term_within p.variables) (lock_terms p) ≡ true → 1 ≤ x → unsigned (coefficient (lock_terms p) x) ≡ lock_word (lock_of p x)
 unfolding unsigned lock_word

@@ -155,7 +155,7 @@ module _ (p : Plan) (l : RoomyPlan p) (tables terms : List ℕ) where
   unfolding Holds table_words
   holds_sections h = spelt_sections p l (word_at tables) (word_at terms) (spells_left (word_at tables) 0 (base_words p) (order_words p) (table_spelt h.0)) (terms_read_lem h.1)
 
-  -- .. and of which the order is.
+  -- Of tables that hold a plan the order is the plan's.
   pub holds_arranged : Holds p tables terms → Arranged p (word_at tables)
   unfolding Holds table_words
   holds_arranged h =

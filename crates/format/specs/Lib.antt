@@ -2,6 +2,7 @@
 pub mod Limits
 pub mod File
 pub mod Tags
+pub mod Modes
 pub mod Writer
 pub mod Layout
 pub mod Tables

@@ -1,10 +1,12 @@
-// The plan file, the tables and the plan that both stand for: definitions in specs/, theorems in proofs/. The code is the layout's numbers;
-// specs/Layout.antt has the same for contracts, and each crate that uses both ties the two.
+// The plan file, the tables and the plan that both stand for: definitions in specs/, theorems in proofs/. The code is the tags, the modes and the
+// layout's numbers; specs/Layout.antt has the numbers for contracts, and each crate that uses both ties the two.
 #![tactic(auto)]
 
 ghost use Rattle.format.specs.Tags.{Tagged};
+ghost use Rattle.format.specs.Modes.{Moded};
 
-// What a field of a plan file is: its first byte (docs/FORMAT.md).
+// What a field of a plan file is: its first byte (docs/FORMAT.md). `of` answers an option and is no `TryFrom`, whose error would be a type that says nothing
+// more than `None` does; the same holds of a mode.
 #[derive(Clone, Copy, PartialEq, Eq)]
 pub enum Tag {
     Variables = 1,
@@ -27,6 +29,28 @@ impl Tag {
             4 => Some(Tag::Rule),
             5 => Some(Tag::End),
             6 => Some(Tag::Locks),
+            _ => None,
+        }
+    }
+}
+
+// Which of its bounds a rule has: "Mode 1 is lower only, 2 upper only, 3 both".
+#[derive(Clone, Copy, PartialEq, Eq)]
+pub enum Mode {
+    Lower = 1,
+    Upper = 2,
+    Both = 3,
+}
+
+impl Mode {
+    // The mode that a byte is, if it is one.
+    pub fn of(byte: u8) -> Option<Mode>
+        ensures { Moded byte result }
+    {
+        match byte {
+            1 => Some(Mode::Lower),
+            2 => Some(Mode::Upper),
+            3 => Some(Mode::Both),
             _ => None,
         }
     }
@@ -71,7 +95,7 @@ pub const TABLE_WORDS: usize = ORDER + MAX_TERMS + MAX_VARIABLES;
 
 pub const TERM_WORDS: usize = 2 * (MAX_TERMS + MAX_VARIABLES);
 
-// .. of the last of k rules, at 5 * k more.
+// The last of k rules has its first term at LAST_FIRST + 5 * k, how many it has at LAST_COUNT + 5 * k, and its upper bound at LAST_UPPER + 5 * k.
 pub const LAST_FIRST: usize = RULES - 5;
 
 pub const LAST_COUNT: usize = RULE_COUNT - 5;
@@ -103,8 +127,8 @@ pub const TALLIES: usize = 4 * (UNSATISFIED + 1);
 // A byte for each variable: an assignment, and the marks of a search.
 pub const ASSIGNMENT: usize = MAX_VARIABLES;
 
-// Behind the marks a word for each variable, the number of its last flip in a try: where these words begin in bytes, and that of a variable, at its number
-// more.
+// Behind the marks stands a word for each variable, the number of its last flip in a try: these words begin at byte STAMP_BYTE, and variable x has the word
+// STAMPS + x.
 pub const STAMP_BYTE: usize = MAX_VARIABLES;
 
 pub const STAMPS: usize = MAX_VARIABLES / 4 - 1;

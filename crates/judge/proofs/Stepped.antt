@@ -7,7 +7,7 @@ use mathlib.Core.Bool.{Bool, true, false, cond}
 use mathlib.Core.List.{List}
 use Rattle.std.specs.Prelude.{Option, None, Some, Result, Ok, Err, IsErrAnd}
 use lib.Dec.{ltb, eqb, T}
-use lib.ListN.{length, get_or}
+use lib.ListN.{length}
 use borrow.Author.Tests.{lt-ltb, eq-eqb, ne_eqb, ltb-false, leb-false, eqb-true}
 use Rattle.plpb.specs.Lists.{◌or◌}
 use Rattle.words.specs.Words.{num_at}
@@ -28,7 +28,6 @@ use Rattle.bodies.specs.Faults.{number}
 use Rattle.bodies.proofs.Found.{fault_numbered}
 use Rattle.faults.specs.Faults.{stage_of, state_of, Headed}
 use Rattle.judge.specs.Fields.{TakenAt, ending, Steps}
-use Rattle.bodies.proofs.Tags.{tag_byte}
 use Rattle.faults.proofs.Faults.{count_size, rule_size, body_room}
 
 -- What a field with no fault says of the counts.
@@ -41,11 +40,8 @@ module _ (s : List ℕ) (st : File.State) (c : Clean s st) where
   clean_headed : Headed s st.at
   clean_headed = record { room = c.body; lawful = c.size }
 
-  as_byte : (k : ℕ) → tag_at s st.at ≡ k → get_or s st.at 0 ≡ k
-  as_byte k e = tag_byte s st.at ∙ e
-
   pub clean_count : tag_at s st.at ≡ 1 → st.at + 3 + 2 ≤ length s
-  clean_count e = omega (arith, body_room s st.at clean_headed, count_size s st.at clean_headed (as_byte 1 e))
+  clean_count e = omega (arith, body_room s st.at clean_headed, count_size s st.at clean_headed e)
 
   pub clean_clause : tag_at s st.at ≡ 3 → st.clauses < 512
   unfolding past_limits
@@ -65,7 +61,7 @@ module _ (s : List ℕ) (st : File.State) (c : Clean s st) where
 
   pub clean_size : tag_at s st.at ≡ 4 → 15 ≤ length_at s st.at
   unfolding length_at
-  clean_size e = rule_size s st.at clean_headed (as_byte 4 e)
+  clean_size e = rule_size s st.at clean_headed e
 
   pub clean_end : tag_at s st.at ≡ 5 → length_at s st.at ≡ 0
   unfolding length_lawful

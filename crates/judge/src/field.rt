@@ -11,6 +11,13 @@ use bodies::Fault;
 use faults::{Stage, State, body_fault};
 use format::Tag;
 
+// A file, and where reading it is.
+#[derive(Clone, Copy)]
+pub struct Reader<'a> {
+    pub file: &'a [u8],
+    pub st: State,
+}
+
 // A field's tag, where its body begins, and the next place.
 #[derive(Clone, Copy)]
 pub struct Taken {
@@ -53,41 +60,45 @@ fn length_lawful(tag: Tag, size: usize) -> bool
     }
 }
 
-// "In a field: 1 for the head, 2, 3, 1 for the body, .."
-fn head(file: &[u8], at: usize, stage: Stage) -> Result<Taken, Fault>
-    ensures fault { found result ≡ head_fault file.now at (stage_of stage) }
-    ensures taken { IfOk result (λ field. TakenAt file.now at field) }
-{
-    let left = file.len().saturating_sub(at);
-    if left < 3 {
-        return Err(Fault::CutShort);
+impl<'a> Reader<'a> {
+    // "In a field: 1 for the head, 2, 3, 1 for the body, .."
+    fn head(self) -> Result<Taken, Fault>
+        ensures fault { found result ≡ head_fault self.entry.file.now self.entry.st.at (stage_of self.entry.st.stage) }
+        ensures taken { IfOk result (λ field. TakenAt self.entry.file.now self.entry.st.at field) }
+    {
+        let at = self.st.at;
+        let left = self.file.len().saturating_sub(at);
+        if left < 3 {
+            return Err(Fault::CutShort);
+        }
+        let Some(tag) = Tag::of(self.file[at]) else {
+            return Err(Fault::WrongTag);
+        };
+        if !may_stand(self.st.stage, tag) {
+            return Err(Fault::WrongTag);
+        }
+        let size = words::read_size(self.file, at + 1);
+        if !length_lawful(tag, size) {
+            return Err(Fault::WrongLength);
+        }
+        if left - 3 < size {
+            return Err(Fault::CutShort);
+        }
+        let body = at + 3;
+        Ok(Taken {
+            tag,
+            body,
+            next: body + size,
+        })
     }
-    let Some(tag) = Tag::of(file[at]) else {
-        return Err(Fault::WrongTag);
-    };
-    if !may_stand(stage, tag) {
-        return Err(Fault::WrongTag);
-    }
-    let size = words::read_size(file, at + 1);
-    if !length_lawful(tag, size) {
-        return Err(Fault::WrongLength);
-    }
-    if left - 3 < size {
-        return Err(Fault::CutShort);
-    }
-    let body = at + 3;
-    Ok(Taken {
-        tag,
-        body,
-        next: body + size,
-    })
-}
 
-pub fn take(file: &[u8], st: State) -> Result<Taken, Fault>
-    ensures fault { found result ≡ fault file.now (state_of st) }
-    ensures taken { IfOk result (λ field. TakenAt file.now st.at field) }
-{
-    let taken = head(file, st.at, st.stage)?;
-    body_fault(file, st)?;
-    Ok(taken)
+    // The field that stands there, with nothing at fault in its head or its body.
+    pub fn take(self) -> Result<Taken, Fault>
+        ensures fault { found result ≡ fault self.entry.file.now (state_of self.entry.st) }
+        ensures taken { IfOk result (λ field. TakenAt self.entry.file.now self.entry.st.at field) }
+    {
+        let taken = self.head()?;
+        body_fault(self.file, self.st)?;
+        Ok(taken)
+    }
 }

@@ -8,7 +8,7 @@ ghost use Rattle.faults.specs.Faults.{state_of};
 ghost use Rattle.bodies.specs.Faults.{number};
 ghost use Rattle.judge.specs.Fields.{TakenAt, ending, Steps};
 
-use crate::field::Taken;
+use crate::field::{Reader, Taken};
 use bodies::Fault;
 use faults::{Stage, State};
 use format::Tag;
@@ -16,47 +16,66 @@ use verdict::Refusal;
 
 mod field;
 
-// The state behind a field.
-fn behind(file: &[u8], st: State, field: Taken) -> State
-    requires { (fault file.now (state_of st) ≡ 0) × TakenAt file.now st.at field }
-    ensures { state_of result ≡ next file.now (state_of st) }
-{
-    let at = field.next;
-    match field.tag {
-        Tag::Variables => State {
-            at,
-            stage: Stage::Objective,
-            variables: words::read_u16(file, field.body),
-            ..st
-        },
-        Tag::Objective => State {
-            at,
-            stage: Stage::Locks,
-            ..st
-        },
-        Tag::Locks => State {
-            at,
-            stage: Stage::Clause,
-            ..st
-        },
-        Tag::Clause => State {
-            at,
-            stage: Stage::Rule,
-            clauses: st.clauses + 1,
-            ..st
-        },
-        Tag::Rule => State {
-            at,
-            stage: Stage::MoreRules,
-            rules: st.rules + 1,
-            terms: st.terms + (at - field.body - 9) / 6,
-            ..st
-        },
-        Tag::End => State {
-            at,
-            stage: Stage::MoreRules,
-            ..st
-        },
+impl<'a> Reader<'a> {
+    // The state behind a field.
+    fn behind(self, field: Taken) -> State
+        requires { (fault self.file.now (state_of self.st) ≡ 0) × TakenAt self.file.now self.st.at field }
+        ensures { state_of result ≡ next self.entry.file.now (state_of self.entry.st) }
+    {
+        let at = field.next;
+        let st = self.st;
+        match field.tag {
+            Tag::Variables => State {
+                at,
+                stage: Stage::Objective,
+                variables: words::read_u16(self.file, field.body),
+                ..st
+            },
+            Tag::Objective => State {
+                at,
+                stage: Stage::Locks,
+                ..st
+            },
+            Tag::Locks => State {
+                at,
+                stage: Stage::Clause,
+                ..st
+            },
+            Tag::Clause => State {
+                at,
+                stage: Stage::Rule,
+                clauses: st.clauses + 1,
+                ..st
+            },
+            Tag::Rule => State {
+                at,
+                stage: Stage::MoreRules,
+                rules: st.rules + 1,
+                terms: st.terms + (at - field.body - 9) / 6,
+                ..st
+            },
+            Tag::End => State {
+                at,
+                stage: Stage::MoreRules,
+                ..st
+            },
+        }
+    }
+
+    // One field read: the state behind it, or none behind the end field. It is a rule of the project that the answer is taken apart by `let .. else` and the
+    // refusal answered with its offset (docs/DECISIONS.md, "Language forms of document 01").
+    fn go_on(self) -> Result<Option<State>, Refusal>
+        ensures { Steps self.entry.file.now self.entry.st result }
+    {
+        let answer = self.take();
+        let Ok(taken) = answer else {
+            return Err(refusal(answer.unwrap_err(), self.st.at));
+        };
+        if taken.tag == Tag::End {
+            finish(self.file, taken.next)?;
+            return Ok(None);
+        }
+        Ok(Some(self.behind(taken)))
     }
 }
 
@@ -64,7 +83,7 @@ fn refusal(fault: Fault, offset: usize) -> Refusal
     ensures { result ≡ record { number = number fault; offset = offset } }
 {
     Refusal {
-        number: fault.number(),
+        number: u32::from(fault),
         offset,
     }
 }
@@ -77,21 +96,6 @@ fn finish(file: &[u8], next: usize) -> Result<(), Refusal>
         return Err(refusal(Fault::BytesAfterEnd, next));
     }
     Ok(())
-}
-
-// One field read: the state behind it, or none behind the end field.
-fn go_on(file: &[u8], st: State) -> Result<Option<State>, Refusal>
-    ensures { Steps file.now st result }
-{
-    let answer = field::take(file, st);
-    let Ok(taken) = answer else {
-        return Err(refusal(answer.unwrap_err(), st.at));
-    };
-    if taken.tag == Tag::End {
-        finish(file, taken.next)?;
-        return Ok(None);
-    }
-    Ok(Some(behind(file, st, taken)))
 }
 
 // What a file comes to. A field takes three bytes at least, so that there are fewer fields than bytes.
@@ -107,7 +111,7 @@ pub fn judge(file: &[u8]) -> Result<(), Refusal>
         terms: 0,
     };
     for _field in 0..file.len() {
-        match go_on(file, st)? {
+        match (Reader { file, st }).go_on()? {
             Some(next) => st = next,
             None => return Ok(()),
         }

@@ -1,23 +1,23 @@
 -- The parts of the test, and the whole of them: what the counts tell, and in which order the parts are joined.
 -- Assumes nothing.
 use Prim.Native.Nat.{ℕ, ◌*◌, ◌-◌, ◌≤◌}
-use mathlib.Core.Path.{◌≡◌, refl, sym, ◌∙◌}
+use mathlib.Core.Path.{◌≡◌, refl, sym, ◌∙◌, subst}
 use mathlib.Core.Bool.{Bool, true, false, not}
-use lib.Dec.{leb}
+use lib.Dec.{leb, T}
 use borrow.Author.Tests.{leb-true, not-true, not-false}
 use Rattle.plpb.specs.Lists.{◌and◌}
 use Rattle.format.proofs.Bools.{and_left, and_right, and_first, and_assoc}
 use Rattle.format.specs.Good.{every_from, zeros_from, counts_good, objective_good, locks_good, clauses_good, rules_good, rule_good, base_good}
 use Rattle.format.specs.Layout.{term_word_count}
 
--- The chain of the rules and the test of each are one loop, with the zero words behind.
-pub rules_last : (chain every rest : Bool) → (chain and every and rest) ≡ (chain and rest and every)
+-- The rules are tested where their chain is good, before the zero words behind.
+pub rules_joined : (chain every rest : Bool) → chain ≡ true → (every and rest) ≡ (chain and rest and every)
 unfolding ◌and◌
-rules_last false every rest = refl
-rules_last true true true = refl
-rules_last true true false = refl
-rules_last true false true = refl
-rules_last true false false = refl
+rules_joined false every rest e = absurd (subst (λ b. T (not b)) e tt)
+rules_joined true true true e = refl
+rules_joined true true false e = refl
+rules_joined true false true e = refl
+rules_joined true false false e = refl
 
 -- The counts, of the numbers that were read; what the branch on their test tells.
 pub record Limited (variables clauses rules total : ℕ) : Type 0 where

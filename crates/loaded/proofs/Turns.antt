@@ -11,7 +11,6 @@ use Rattle.plpb.specs.Lists.{◌and◌}
 use Rattle.format.proofs.Bools.{and_assoc, and_right}
 use Rattle.format.specs.Good.{every_from, link_good, chain_from, term_good, terms_from}
 use Rattle.format.proofs.Good.{left_of, chain_step, chain_fail, chain_end}
-use Rattle.format.proofs.Chains.{link_parts}
 
 and_true : (b : Bool) → (b and true) ≡ b
 unfolding ◌and◌
@@ -55,9 +54,6 @@ module _ (first count : ℕ → ℕ) (e at i : ℕ) {a n : ℕ} {r : Bool} (p : 
 
   pub chain_refused : (m : ℕ) → i < m → not r ≡ true → chain_from first count e at i (m - i) ≡ false
   chain_refused m l t = chain_fail first count e at i m l (sym link_read ∙ not-true r t)
-
-  pub link_start : at ≤ e → not r ≡ false → at ≡ first i
-  link_start l t = sym (link_parts first count e at i l (link_good_lem t)).start
 
 -- An entry that passed its test ends within the chain.
 pub link_fits : (x n at e : ℕ) {r : Bool} → r ≡ (eqb x at and leb 1 n and leb n (e - at)) → at ≤ e → not r ≡ false → at + n ≤ e

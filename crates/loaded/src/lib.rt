@@ -1,21 +1,22 @@
 // The test of tables: refusal 22 is for "tables that no accepted loading leaves". One pass over both tables, each loop one piece of the
 // definition `good_by`; the order has its own (crate ordered). Good tables are the rule and are read whole in any case, so a loop that only
-// compares words does not stop at the first fault: without a way out it takes 16 bytes at a time.
+// compares words does not stop at the first fault: without a way out it takes 16 bytes at a time. For that the tests of a word are joined by `&`, where those
+// of crate bodies, which look alike, have a way out at the first fault of a file; and a mode is any word here, not a byte.
 #![tactic(auto)]
 
 ghost use Rattle.std.specs.Prelude.{◌≡◌, ℕ, Bool, ◌+◌, ◌*◌, ◌-◌, ◌≤◌, ◌<◌, leb, ltb, eqb, nat_abs, length};
 ghost use Rattle.plpb.specs.Lists.{◌and◌};
 ghost use Rattle.words.specs.Words.{word_at, signed};
 ghost use Rattle.format.specs.Limits.{max_variables, max_clauses, max_rules, max_terms, max_weight, weight_lawful};
-ghost use Rattle.format.specs.Layout.{table_size, term_size, clause_first_at, clause_count_at, rule_first_at, rule_count_at};
+ghost use Rattle.format.specs.Layout.{table_size, term_size, rule_first_at, rule_count_at};
 ghost use Rattle.format.specs.File.{bounds_lawful};
 ghost use Rattle.format.specs.Tables.{is_loaded};
 ghost use Rattle.format.specs.Good.{every_from, zeros_from, chain_from, terms_from};
 ghost use Rattle.format.specs.Good.{objective_good, locks_good, clauses_good, rules_good, rule_good, base_good};
 
 use format::{
-    CLAUSE_COUNT, CLAUSES, LOCKS, MAX_CLAUSES, MAX_RULES, MAX_TERMS, MAX_VARIABLES, OBJECTIVE,
-    RULE_COUNT, RULE_LOWER, RULE_MODE, RULE_UPPER, RULES, RULES_END, TABLES, TERM_WORDS, TERMS,
+    CLAUSES, LOCKS, MAX_CLAUSES, MAX_RULES, MAX_TERMS, MAX_VARIABLES, Mode, OBJECTIVE, RULE_COUNT,
+    RULE_LOWER, RULE_MODE, RULE_UPPER, RULES, RULES_END, TABLES, TERM_WORDS, TERMS,
 };
 use ordered::order_good;
 use words::{index, magnitude, narrow, to_signed, word, zeros};
@@ -56,12 +57,12 @@ fn bounds_good(mode: u32, lower: u32, upper: u32) -> bool
 {
     let l = size(lower);
     let u = size(upper);
-    (1 <= mode)
-        & (mode <= 3)
+    (Mode::Lower as u32 <= mode)
+        & (mode <= Mode::Both as u32)
         & (l <= 1000000000)
         & (u <= 1000000000)
-        & (!(mode == 2) | (l == 0))
-        & (!(mode == 1) | (u == 0))
+        & ((mode != Mode::Upper as u32) | (l == 0))
+        & ((mode != Mode::Lower as u32) | (u == 0))
 }
 
 // The counts within the limits.
@@ -85,7 +86,8 @@ struct Counted<'a> {
     rules: usize,
     total: usize,
     ghost long: { (table_size ≤ length tables.now) × (term_size ≤ length terms.now) },
-    ghost counts: { (variables ≡ word_at tables.now 0) × (clauses ≡ word_at tables.now 1) × (rules ≡ word_at tables.now 2) × (total ≡ word_at tables.now 3) },
+    ghost counts: { (variables ≡ word_at tables.now 0) × (clauses ≡ word_at tables.now 1)
+        × (rules ≡ word_at tables.now 2) × (total ≡ word_at tables.now 3) },
     ghost limits: { (variables ≤ max_variables) × (clauses ≤ max_clauses) × (rules ≤ max_rules) × (total ≤ max_terms) },
 }
 
@@ -100,7 +102,7 @@ impl<'a> Counted<'a> {
     {
         let mut all = true;
         for x in 1..self.variables + 1 {
-            all = all & test(word(self.tables, before + x));
+            all &= test(word(self.tables, before + x));
         }
         all & zeros(
             self.tables,
@@ -121,28 +123,31 @@ impl<'a> Counted<'a> {
         )
     }
 
-    // The clauses share out the rules in order.
-    fn clause_chain(self) -> bool
+    // A chain of entries, of which the first stands at word FIRST and each has WIDTH words. An entry's first two words say where its places begin, which is
+    // where those of the entry before end, and how many they are; those of the last end at `end`.
+    fn chain<const FIRST: usize, const WIDTH: usize>(self, entries: usize, end: usize) -> bool
+        requires inside { 4 * (FIRST + WIDTH * entries + 2) ≤ length self.tables.now }
         ensures { result
-            ≡ chain_from (λ c. word_at self.entry.tables.now (clause_first_at c)) (λ c. word_at self.entry.tables.now (clause_count_at c))
-            self.entry.rules 0 0 self.entry.clauses }
+            ≡ chain_from (λ i. word_at self.entry.tables.now (FIRST + WIDTH * i)) (λ i. word_at self.entry.tables.now (FIRST + 1 + WIDTH * i))
+            end 0 0 entries }
     {
         let mut at = 0;
-        for c in 0..self.clauses {
-            let count = index(self.tables, CLAUSE_COUNT + 2 * c);
-            if !link_good(index(self.tables, CLAUSES + 2 * c), count, at, self.rules) {
+        for i in 0..entries {
+            let count = index(self.tables, FIRST + 1 + WIDTH * i);
+            if !link_good(index(self.tables, FIRST + WIDTH * i), count, at, end) {
                 return false;
             }
             at += count;
         }
-        at == self.rules
+        at == end
     }
 
-    // The clauses, and 0 beyond the last.
+    // The clauses share out the rules in order, and 0 stands beyond the last.
     fn clauses_good(self) -> bool
         ensures { result ≡ clauses_good (word_at self.entry.tables.now) }
     {
-        self.clause_chain() & zeros(self.tables, CLAUSES + 2 * self.clauses, RULES)
+        self.chain::<CLAUSES, 2>(self.clauses, self.rules)
+            & zeros(self.tables, CLAUSES + 2 * self.clauses, RULES)
     }
 
     // A rule's terms, named by their places in the table: from one up to another.
@@ -155,53 +160,37 @@ impl<'a> Counted<'a> {
         let mut above = 0;
         for i in from..to {
             let variable = word(self.terms, 2 * i);
-            all = all & term_good(above, variable, word(self.terms, 2 * i + 1), variables);
+            all &= term_good(above, variable, word(self.terms, 2 * i + 1), variables);
             above = variable;
         }
         all
     }
 
-    // A rule, whose terms stand from a place up to another.
-    fn rule_good(self, r: usize, from: usize, to: usize) -> bool
-        requires from_value { from ≡ word_at self.tables.now (rule_first_at r) }
-        requires to_value { to ≡ from + word_at self.tables.now (rule_count_at r) }
-        requires in_bounds { (r < self.rules) × (to ≤ self.total) }
+    // A rule, whose terms are among the terms that there are.
+    fn rule_good(self, r: usize) -> bool
+        requires in_bounds { (r < self.rules)
+            × (word_at self.tables.now (rule_first_at r) + word_at self.tables.now (rule_count_at r) ≤ self.total) }
         ensures { result ≡ rule_good (word_at self.entry.tables.now) (word_at self.entry.terms.now) r }
     {
+        let first = index(self.tables, RULES + 5 * r);
+        let count = index(self.tables, RULE_COUNT + 5 * r);
         let mode = word(self.tables, RULE_MODE + 5 * r);
         let lower = word(self.tables, RULE_LOWER + 5 * r);
         let upper = word(self.tables, RULE_UPPER + 5 * r);
-        bounds_good(mode, lower, upper) & self.rule_terms(from, to)
+        bounds_good(mode, lower, upper) & self.rule_terms(first, first + count)
     }
 
-    // The rules share out the terms in order, and each is lawful.
-    fn rule_chain(self) -> bool
-        ensures { result
-            ≡ (chain_from (λ r. word_at self.entry.tables.now (rule_first_at r)) (λ r. word_at self.entry.tables.now (rule_count_at r))
-            self.entry.total 0 0 self.entry.rules
-            and every_from (rule_good (word_at self.entry.tables.now) (word_at self.entry.terms.now)) 0 self.entry.rules) }
-    {
-        let mut at = 0;
-        for r in 0..self.rules {
-            let count = index(self.tables, RULE_COUNT + 5 * r);
-            if !link_good(index(self.tables, RULES + 5 * r), count, at, self.total) {
-                return false;
-            }
-            if !self.rule_good(r, at, at + count) {
-                return false;
-            }
-            at += count;
-        }
-        at == self.total
-    }
-
-    // The rules, and 0 beyond the last.
+    // The rules share out the terms in order, each is lawful, and 0 stands beyond the last.
     fn rules_good(self) -> bool
         ensures { result
             ≡ (rules_good (word_at self.entry.tables.now)
             and every_from (rule_good (word_at self.entry.tables.now) (word_at self.entry.terms.now)) 0 self.entry.rules) }
     {
-        self.rule_chain() & zeros(self.tables, RULES + 5 * self.rules, RULES_END)
+        if !self.chain::<RULES, 5>(self.rules, self.total) {
+            return false;
+        }
+        (0..self.rules).all(|r| self.rule_good(r))
+            & zeros(self.tables, RULES + 5 * self.rules, RULES_END)
     }
 
     // The locks: 0, 1 or 2 for each variable, 0 beyond the last.
@@ -217,7 +206,8 @@ impl<'a> Counted<'a> {
     }
 }
 
-// The base of tables of full size, and the terms.
+// The base of tables of full size, and the terms. The two come as they are lent, here and in `order_good`: what a struct of them holds is known only once the
+// tests before have passed.
 fn base_good(tables: &[u8], terms: &[u8]) -> bool
     requires table_size_in_bounds { table_size ≤ length tables.now }
     requires term_size_in_bounds { term_size ≤ length terms.now }
@@ -245,7 +235,7 @@ fn base_good(tables: &[u8], terms: &[u8]) -> bool
         & counted.locks_good()
 }
 
-// Whether an accepted loading leaves these tables, for any bytes: format/proofs/IsLoaded.antt says that `isLoaded` is just that.
+// Whether an accepted loading leaves these tables, for any bytes: format/proofs/IsLoaded.antt says that `is_loaded` is just that.
 pub fn good(tables: &[u8], terms: &[u8]) -> bool
     ensures { result ≡ is_loaded tables.now terms.now }
 {

@@ -50,7 +50,7 @@ standing_at_lem a x v (suc j) (u ∷ ts) t h e =
     let l : u.variable < (get_or ts j no_term).variable = rising_at u.variable j ts above (omega arith) in
     rw (ne_eqb u.variable x (λ s. omega arith)) (standing_at_lem a x u.variable j ts above (omega arith) e)
 
--- .. so P moves by that term's weight.
+-- P moves by the weight of that term.
 pub P_moved : (a : Assignment) (x j : ℕ) (ts : List Term) → T (rising ts) → 0 < x → x ≤ length a → j < length ts → (get_or ts j no_term).variable ≡ x → P (flip a x) ts ≡ moved (literal_true a (literal (get_or ts j no_term))) (size (get_or ts j no_term)) (P a ts)
 unfolding rising moved lost gained
 P_moved a x j ts t low high h e =

@@ -6,14 +6,16 @@ use mathlib.Core.Path.{◌≡◌, sym, ap, ap₂, ◌∙◌}
 use mathlib.Core.Bool.{Bool, true, false, not, ◌&&◌}
 use mathlib.Core.List.{List}
 use lib.Dec.{leb, ltb, eqb}
-use borrow.Author.Tests.{ltb-true, not-true, not-false, le-ltb, lt-ltb, lt-leb, le-leb}
+use borrow.Author.Rules.{rules}
+use borrow.Author.Tests.{ltb-true, not-true, not-false, le-ltb, lt-ltb, tests}
+use Rattle.std.specs.Ordering.{is_le, is_lt, nat_cmp}
 use Rattle.plpb.specs.Lists.{◌and◌}
 use Rattle.plpb.specs.Normal.{is_negative}
 use Rattle.words.specs.Words.{word_at, signed}
 use Rattle.order.specs.Order.{Place, spelled, word_place}
 use Rattle.format.specs.Layout.{clause_count_at, clause_first_at, rule_count_at, rule_first_at}
 use Rattle.format.specs.Good.{place_good, word_good, entry_good}
-use Rattle.format.proofs.Bools.{and_left, and_right, and_first, and_false, and_stop, both}
+use Rattle.format.proofs.Bools.{and_left, and_right, and_first, and_stop, both}
 use Rattle.format.proofs.Sound.{Sound, good_sound, clause_within, rule_within}
 use Rattle.ordered.specs.Ready.{Ready}
 
@@ -29,25 +31,30 @@ module _ {tables terms : List ℕ} (y : Ready tables terms) where
 
 -- ---- a place that there is
 
+le_test : (a b : ℕ) → is_le (nat_cmp a b) ≡ leb a b
+le_test a b = search (rules, tests)
+
+lt_test : (a b : ℕ) → is_lt (nat_cmp a b) ≡ ltb a b
+lt_test a b = search (rules, tests)
+
 module _ (f : ℕ → ℕ) (c r i : ℕ) where
   pub no_clause : f 1 ≤ c → false ≡ place_good f (record { clause = c; rule = r; term = i })
   unfolding place_good
   no_clause h =
       sym (and_stop _ _ (and_stop _ _ (and_stop _ _ (le-ltb c (f 1) h))))
 
-  pub too_low : r < f (clause_first_at c) → false ≡ place_good f (record { clause = c; rule = r; term = i })
-  unfolding place_good
-  too_low h = sym (and_stop _ _ (and_stop _ _ (and_false _ _ (lt-leb (f (clause_first_at c)) r h))))
+  -- The clause is there, and its rules are those from one up to another.
+  module _ (h : c < f 1) {first count : ℕ} (e : first ≡ f (clause_first_at c)) (n : count ≡ f (clause_count_at c)) where
+    among : {b : Bool} → b ≡ (is_le (nat_cmp first r) && is_lt (nat_cmp r (first + count))) → b ≡ (leb (f (clause_first_at c)) r and ltb r (f (clause_first_at c) + f (clause_count_at c)))
+    among m = m ∙ rw (e, n, le_test (f (clause_first_at c)) r, lt_test r (f (clause_first_at c) + f (clause_count_at c))) (both _ _)
 
-  pub too_high : f (clause_first_at c) + f (clause_count_at c) ≤ r → false ≡ place_good f (record { clause = c; rule = r; term = i })
-  unfolding place_good
-  too_high h = sym (and_stop _ _ (and_false _ _ (le-ltb r (f (clause_first_at c) + f (clause_count_at c)) h)))
+    pub outside : {b : Bool} → b ≡ (is_le (nat_cmp first r) && is_lt (nat_cmp r (first + count))) → b ≡ false → false ≡ place_good f (record { clause = c; rule = r; term = i })
+    unfolding place_good ◌and◌
+    outside m t = rw (lt-ltb c (f 1) h) (sym (and_stop _ _ (sym (among m) ∙ t)))
 
-  pub one_there : c < f 1 → f (clause_first_at c) ≤ r → r < f (clause_first_at c) + f (clause_count_at c) → ltb i (f (rule_count_at r)) ≡ place_good f (record { clause = c; rule = r; term = i })
-  unfolding place_good
-  one_there h k l =
-      sym
-      (and_first _ _ (and_first _ _ (and_first _ _ (lt-ltb c (f 1) h) ∙ le-leb (f (clause_first_at c)) r k) ∙ lt-ltb r (f (clause_first_at c) + f (clause_count_at c)) l))
+    pub one_there : {b : Bool} → b ≡ (is_le (nat_cmp first r) && is_lt (nat_cmp r (first + count))) → b ≡ true → ltb i (f (rule_count_at r)) ≡ place_good f (record { clause = c; rule = r; term = i })
+    unfolding place_good ◌and◌
+    one_there m t = rw (lt-ltb c (f 1) h) (sym (and_first _ _ (sym (among m) ∙ t)))
 
 -- What a good place says, for what is read next.
 pub record There (f : ℕ → ℕ) (c r i : ℕ) : Type 0 where

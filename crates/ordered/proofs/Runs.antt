@@ -1,12 +1,13 @@
 -- One turn of each loop of the test, and the parts joined.
 -- Assumes nothing.
-use Prim.Native.Nat.{ℕ, suc, ◌+◌, ◌-◌, ◌≤◌, ◌<◌}
+use Prim.Native.Nat.{ℕ, zero, suc, ◌+◌, ◌-◌, ◌≤◌, ◌<◌}
 use native.Mathlib.Numerals.{add-one}
 use native.Mathlib.Omega.{arith}
 use mathlib.Core.Path.{◌≡◌, refl, sym, ap, ap₂, ◌∙◌}
 use mathlib.Core.Bool.{Bool, true, false, not, ◌&&◌}
 use mathlib.Core.List.{List}
 use lib.Dec.{eqb}
+use Rattle.std.specs.List.{list_all, range_with_len}
 use borrow.Author.Tests.{lt-leb, le-leb, not-true, not-false}
 use Rattle.plpb.specs.Lists.{◌and◌}
 use Rattle.words.specs.Words.{word_at}
@@ -15,7 +16,7 @@ use Rattle.order.specs.Order.{word_place}
 use Rattle.format.specs.Layout.{end_at, entry_at, order_at, table_word_count, term_room}
 use Rattle.format.specs.Good.{every_from, zeros_from, entry_good, entries_from, run_good, order_good}
 use Rattle.format.proofs.Bools.{and_first, and_stop, and_false, both}
-use Rattle.format.proofs.Good.{left_of, every_step, every_fail, zeros_are}
+use Rattle.format.proofs.Good.{left_of, zeros_are}
 
 -- ---- entries
 
@@ -53,16 +54,19 @@ module _ (f g : ℕ → ℕ) (x : ℕ) {from to : ℕ} (p : from ≡ f (end_at (
 
 -- ---- all runs
 
-module _ (p : ℕ → Bool) (i e : ℕ) {b : Bool} (l : i < e) (h : b ≡ p i) where
-  pub runs_turn : not b ≡ false → every_from p i (e - i) ≡ every_from p (i + 1) (e - (i + 1))
-  runs_turn n = every_step p i e l (sym h ∙ not-false b n)
+and_same : (a b : Bool) → (a && b) ≡ (a and b)
+unfolding ◌and◌
+and_same true b = refl
+and_same false b = refl
 
-  pub runs_refused : not b ≡ true → false ≡ every_from p i (e - i)
-  runs_refused n = sym (every_fail p i e l (sym h ∙ not-true b n))
-
-pub runs_end : (p : ℕ → Bool) (i e : ℕ) → e ≤ i → every_from p i (e - i) ≡ true
+-- The library's test of a list of numbers in a row is the definition's.
+pub every_row : (p : ℕ → Bool) (i k : ℕ) → list_all p (range_with_len i k) ≡ every_from p i k
 unfolding every_from
-runs_end p i e h = let z : e - i ≡ 0 = omega arith in rw z refl
+every_row p i zero = refl
+every_row p i (suc k) = and_same _ _ ∙ ap (λ b. p i and b) (every_row p (i + 1) k ∙ ap (λ j. every_from p j k) (add-one i))
+
+pub every_range : (p : ℕ → Bool) (n : ℕ) → list_all p (range_with_len 1 (n + 1 - 1)) ≡ every_from p 1 n
+every_range p n = every_row p 1 (n + 1 - 1) ∙ ap (every_from p 1) (omega arith)
 
 -- ---- the whole
 

@@ -1,5 +1,6 @@
 // The test of the order in tables whose base is good: one pass over its words, without memory of its own. Each run is of rising rules and of terms that name
 // its variable, and the runs together are as many as the terms; so none of them lacks a term (format/proofs/GoodOrder.antt).
+// The tests of a word, and the last ones of the whole, are joined by `&` as in `loaded`: good tables are read whole in any case.
 #![tactic(auto)]
 
 ghost use Rattle.std.specs.Prelude.{◌≡◌, true, ◌-◌, ◌≤◌, ◌<◌};
@@ -35,10 +36,7 @@ impl<'a> Base<'a> {
         }
         let first = index(self.tables, CLAUSES + 2 * c);
         let count = index(self.tables, CLAUSE_COUNT + 2 * c);
-        if r < first {
-            return false;
-        }
-        if first + count <= r {
+        if !(first..first + count).contains(&r) {
             return false;
         }
         place.term < index(self.tables, RULE_COUNT + 5 * r)
@@ -106,12 +104,7 @@ impl<'a> Base<'a> {
         requires { variables ≤ 512 }
         ensures { result ≡ every_from (run_good (word_at self.entry.tables.now) (word_at self.entry.terms.now)) 1 variables }
     {
-        for x in 1..variables + 1 {
-            if !self.run_good(x) {
-                return false;
-            }
-        }
-        true
+        (1..variables + 1).all(|x| self.run_good(x))
     }
 }
 
@@ -123,7 +116,7 @@ pub fn order_good(tables: &[u8], terms: &[u8]) -> bool
 {
     let variables = index(tables, 0);
     let total = index(tables, 3);
-    if !(word(tables, ENDS) == 0) {
+    if word(tables, ENDS) != 0 {
         return false;
     }
     if !(Base { tables, terms }).runs_good(variables) {

@@ -13,15 +13,18 @@ use words::{narrow, to_signed};
 
 pub mod parts;
 
-const RULE: u32 = 2; // the rule's number stands above the sign
+// The sign is the lowest bit of a word. Above it stand the rule, the clause, the place among the rule's terms, and whether the clause has more than one rule:
+// each constant is the lowest bit of its part.
+const RULE: u32 = 2;
 
 const CLAUSE: u32 = 4096;
 
 const TERM: u32 = 4194304;
 
-const SEVERAL: u32 = 2147483648;
+pub const SEVERAL: u32 = 2147483648; // the words of places in clauses of more than one rule begin here
 
-// The rule, the clause and the place among the rule's terms that a word tells.
+// The rule, the clause and the place among the rule's terms that a word tells: three lines that only look alike, since each part has its own place and its own
+// room in the word; one function would be told both, as two numbers that say less than the names do.
 pub fn rule_in(w: u32) -> usize
     ensures { result ≡ (word_place w).rule }
 {
@@ -48,7 +51,7 @@ pub fn is_negative_word(weight: u32) -> bool
 }
 
 impl Place {
-    // The place that a word tells.
+    // The place that a word tells. It is no `From`, because the word tells more, so that what it is read from is not the same said otherwise.
     pub fn of(w: u32) -> Place
         ensures { place_of result ≡ word_place w }
     {

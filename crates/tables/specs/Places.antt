@@ -26,7 +26,7 @@ pub record Found (s : List ℕ) (at : ℕ) (rs : List Rule) (cs : List Clause) :
   pub rules : contents.rules ≡ rs
   pub clauses : contents.clauses ≡ cs
 
--- .. as some rules and clauses.
+-- From a place on a file reads as some rules and clauses.
 abbrev pub Reads : List ℕ → ℕ → Type 0
 Reads s at = (rs : List Rule) × (cs : List Clause) × Found s at rs cs
 

@@ -1,4 +1,5 @@
-// The entries of the tables, each written at the front of the part that is lent.
+// The entries of the tables, each written at the front of the part that is lent. What `objective` adds to tables that stand looks alike, but is told by its
+// word in the whole table, of which its contract speaks.
 ghost use Rattle.std.specs.Prelude.{◌≡◌, ◌+◌, ◌*◌, ◌/◌, ◌≤◌, ◌<◌, [], ◌∷◌, length};
 ghost use Rattle.words.specs.Words.{word_bytes};
 ghost use Rattle.words.specs.Writes.{front};
@@ -7,24 +8,16 @@ ghost use Rattle.format.specs.Tables.{rule_entries, term_entries};
 ghost use Rattle.tables.specs.Places.{RuleHere};
 
 use crate::fields;
-use words::{byte_word, narrow, write_word};
+use words::{narrow, write_word};
 
-// The words of an entry, one behind the other.
-fn put_entry(out: &mut [u8], entry: &[u32])
+// The words of an entry, one behind the other. Whoever has the words of one calls it.
+pub fn put_entry(out: &mut [u8], entry: &[u32])
     requires { 4 * length entry.now ≤ length out.old }
     ensures { out.new ≡ front (word_bytes entry.now) out.old }
 {
-    for i in 0..entry.len() {
-        write_word(out, i, entry[i]);
+    for (i, w) in entry.iter().enumerate() {
+        write_word(out, i, *w);
     }
-}
-
-// Five words, as a rule's entry has them.
-pub fn put5(out: &mut [u8], a: u32, b: u32, c: u32, d: u32, e: u32)
-    requires { 20 ≤ length out.old }
-    ensures { out.new ≡ front (word_bytes (a ∷ b ∷ c ∷ d ∷ e ∷ [])) out.old }
-{
-    put_entry(out, &[a, b, c, d, e]);
 }
 
 // The counts of variables, clauses, rules and terms.
@@ -53,7 +46,7 @@ pub fn put_rule(file: &[u8], at: usize, first: usize, out: &mut [u8])
     ensures { out.new ≡ front (word_bytes (rule_entries first (rule_at file.now at ∷ []))) out.old }
 {
     let terms = narrow(fields::terms_of(file, at));
-    let mode = byte_word(file[at + 3]);
+    let mode = u32::from(file[at + 3]);
     let lower = words::read_u32(file, at + 4);
     let upper = words::read_u32(file, at + 8);
     put_entry(out, &[narrow(first), terms, mode, lower, upper]);
@@ -70,7 +63,8 @@ fn put_term(file: &[u8], at: usize, out: &mut [u8])
     );
 }
 
-// "each rule's terms are written into the term table after those of the rules before it": out begins where those end.
+// "each rule's terms are written into the term table after those of the rules before it": out begins where those end. A term has six bytes in the file and
+// eight in the table, so that its number says both places.
 pub fn put_terms(terms: &[u8], out: &mut [u8])
     requires { 8 * (length terms.now / 6) ≤ length out.old }
     ensures { out.new ≡ front (word_bytes (term_entries (terms_at terms.now 0 (length terms.now / 6)))) out.old }

@@ -1,5 +1,7 @@
 // The tables filled from a plan file that was judged lawful (document 01, "The plan file").
 // The whole file is judged before a byte is written; then each section of the tables is filled by a loop of its own, and last the order, from the others.
+// The two tables come one by one, as the C interface lends them, and each section is lent as the part of the tables that it is: a slice whose length a clause
+// says. An array type for it would have to be made of the part by a conversion that may fail, and no caller could meet that failure.
 #![tactic(auto)]
 
 ghost use Rattle.std.specs.Prelude.{◌≡◌, ◌≤◌, length};

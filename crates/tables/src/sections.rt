@@ -1,4 +1,5 @@
-// The sections of the tables, filled from a file that was judged lawful. Each is lent whole and filled to its end: "unused entries are 0".
+// The sections of the tables, filled from a file that was judged lawful. Each is lent whole and filled to its end: "unused entries are 0". Each walk over
+// clauses or rules is a loop of its own, for the reason that the head of `fields` gives.
 ghost use Rattle.std.specs.Prelude.{◌≡◌, ℕ, cond, map, eqb, ◌+◌, ◌*◌, ◌≤◌, ◌<◌, length};
 ghost use Rattle.plpb.specs.Lists.{row};
 ghost use Rattle.plpb.specs.Plan.{Term};
@@ -10,7 +11,7 @@ ghost use Rattle.format.specs.Tables.{term_words};
 ghost use Rattle.tables.specs.Places.{Accepts, plan_of_file};
 ghost use Rattle.tables.specs.declared.sections.Entry.{Entry};
 ghost use Rattle.tables.specs.Sections.{objective_words, clause_words, rule_words, lock_words, placed, Lays};
-ghost use Rattle.format.specs.Layout.{clause_section_size, rule_section_size, term_size};
+ghost use Rattle.format.specs.Layout.{objective_size, clause_section_size, rule_section_size, lock_section_size, term_size};
 
 use crate::{Lawful, entries, fields};
 use format::Tag;
@@ -33,7 +34,8 @@ fn coefficient(file: &[u8], at: usize) -> Entry
     }
 }
 
-// A lock's word: 1 for locked at 0, 2 for locked at 1.
+// A lock's word: 1 for locked at 0, 2 for locked at 1. The word is what stands in the tables that C lends again, and it is written as soon as it is known: an
+// enum would be made of the byte and turned into the word in one line.
 fn lock_word(value: u8) -> u32
     ensures { result ≡ cond (eqb value 1) 2 1 }
 {
@@ -55,7 +57,7 @@ fn lock(file: &[u8], at: usize) -> Entry
 fn put_words<F: Fn(usize) -> Entry>(n: usize, entry: F, out: &mut [u8])
     requires callable { (i : ℕ) → i < n → F.pre entry i }
     requires ranged { (i : ℕ) (r : Entry) → i < n → F.post entry i r → (1 ≤ r.variable) × (r.variable ≤ 512) }
-    requires out_len { length out.old ≡ 2_048 }
+    requires out_len { length out.old ≡ objective_size }
     ensures { (g : ℕ → Term) → ((i : ℕ) (r : Entry) → i < n → F.post entry i r → Lays r (g i)) → out.new ≡ placed (map g (row 0 n)) out.old }
 {
     for i in 0..n {
@@ -73,7 +75,7 @@ pub struct Counted {
 impl<'a> Lawful<'a> {
     // The objective, a word for each variable.
     pub fn objective_section(self, out: &mut [u8])
-        requires out_len { length out.old ≡ 2_048 }
+        requires out_len { length out.old ≡ objective_size }
         ensures { out.new ≡ word_bytes (objective_words (plan_of_file self.entry.file.now)) }
     {
         let file = self.file;
@@ -90,7 +92,7 @@ impl<'a> Lawful<'a> {
 
     // The locks, a word for each variable.
     pub fn lock_section(self, out: &mut [u8])
-        requires out_len { length out.old ≡ 2_048 }
+        requires out_len { length out.old ≡ lock_section_size }
         ensures { out.new ≡ word_bytes (lock_words (plan_of_file self.entry.file.now)) }
     {
         let file = self.file;
@@ -172,13 +174,4 @@ impl<'a> Lawful<'a> {
         }
         words::clear(&mut terms[end..]);
     }
-}
-
-// The locks, a word for each variable.
-pub fn lock_section(file: &[u8], out: &mut [u8])
-    requires accepts { Accepts file.now }
-    requires out_len { length out.old ≡ 2_048 }
-    ensures { out.new ≡ word_bytes (lock_words (plan_of_file file.now)) }
-{
-    Lawful { file }.lock_section(out);
 }

@@ -4,7 +4,8 @@
 ghost use Rattle.std.specs.Prelude.{◌≡◌};
 ghost use Rattle.verdict.specs.Answers.{refusal_of, offset_of};
 
-// A refusal carries its number and its offset: a number, as the C interface gives it, since plan files and OPB texts have faults of their own.
+// A refusal carries its number and its offset: a number, as the C interface gives it, since plan files and OPB texts have faults of their own. So is 21, for a
+// buffer that is too short, which each call answers before a file is read.
 #[derive(Clone, Copy, PartialEq, Eq)]
 pub struct Refusal {
     pub number: u32,

@@ -1,14 +1,11 @@
 -- `count_wrong` meets its contract.
 -- Assumes nothing.
-use borrow.Author.Tests.{le-leb, lt-leb}
-use Rattle.plpb.specs.Lists.{◌and◌}
-use Rattle.faults.proofs.Faults.{ltb_not}
+use mathlib.Core.Bool.{not}
+use mathlib.Core.Path.{ap}
+use Rattle.faults.proofs.Faults.{between}
 use Rattle.faults.proofs.count_wrong.Goals as goal
 
-pub returns-then-variables-lt1 : goal.returns-then-variables-lt1
-unfolding ◌and◌
-returns-then-variables-lt1 c = simp (lt-leb 1 _ c.if-variables-lt1.true)
-
-pub returns-else-variables-lt1 : goal.returns-else-variables-lt1
-unfolding ◌and◌
-returns-else-variables-lt1 c = simp (le-leb 1 _ c.if-variables-lt1.false) (ltb_not 512 c.args.variables)
+pub returns : goal.returns
+returns c =
+    let r = c.new.ensures in
+    ap not (between _ r.start r.end r.exhausted c.contains.ensures.value)

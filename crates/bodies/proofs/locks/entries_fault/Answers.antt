@@ -8,11 +8,11 @@ pub returns-in_err-entry_fault : goal.returns-in_err-entry_fault
 returns-in_err-entry_fault c =
     found_err _ _ c.from_residual.ensures.1
     ∙ sym (entries_stop _ _ _ _ _ _ _ c.loop-i-test.true c.read_u16-variable.ensures c.in_err-entry_fault.ensures (not_none _))
-    ∙ c.loop-i.invariant
+    ∙ c.loop-i.invariant.1
 
 pub loop-i-preserved : goal.loop-i-preserved
 loop-i-preserved c =
-    sym (entries_go _ _ _ _ _ _ c.loop-i-test.true c.read_u16-variable.ensures c.in_ok-entry_fault.ensures) ∙ c.loop-i.invariant
+    (c.loop-i.invariant.0, sym (entries_go _ _ _ _ _ _ c.loop-i-test.true c.read_u16-variable.ensures c.in_ok-entry_fault.ensures) ∙ c.loop-i.invariant.1)
 
 pub returns : goal.returns
-returns c = sym (entries_end _ _ _ _ _ c.loop-i-test.false) ∙ c.loop-i.invariant
+returns c = sym (entries_end _ _ _ _ _ c.loop-i-test.false) ∙ c.loop-i.invariant.1

@@ -8,4 +8,5 @@ use Rattle.bodies.proofs.locks.entries_fault.Given as goal
 
 abbrev pub invariant-loop-i : goal.invariant-loop-i
 invariant-loop-i l =
-    entries_fault l.variables l.before l.entries (3 * l.i) (length l.entries / 3 - l.i) ≡ entries_fault l.variables 0 l.entries 0 (length l.entries / 3)
+    (l.numbers.variables ≡ l.variables)
+    × (entries_fault l.numbers.variables l.numbers.before l.entries (3 * l.i) (length l.entries / 3 - l.i) ≡ entries_fault l.variables 0 l.entries 0 (length l.entries / 3))

@@ -1,25 +1,16 @@
--- `terms::term_fits` meets its contract: at each return the tests that led there decide the definition.
+-- `terms::term_fits` meets its contract: the number, then the weight.
 -- Assumes nothing.
-use borrow.Author.Tests.{le-leb, lt-leb, lt-ltb, le-ltb}
-use native.Mathlib.Omega.{arith}
-use Rattle.plpb.specs.Lists.{◌and◌}
-use Rattle.format.specs.Limits.{weight_lawful}
-use Rattle.bodies.specs.Terms.{term_lawful}
+use mathlib.Core.Path.{sym, ◌∙◌}
+use borrow.Author.Tests.{le-ltb}
+use Rattle.bodies.proofs.TermLaws.{fit_some, fit_none, unfit}
 use Rattle.bodies.proofs.terms.term_fits.Goals as goal
 
-pub returns-then-variable-before : goal.returns-then-variable-before
-unfolding term_lawful weight_lawful ◌and◌
-returns-then-variable-before c = simp (le-ltb _ _ c.if-variable-before.true)
+pub returns-then-not-takes : goal.returns-then-not-takes
+returns-then-not-takes c = unfit _ _ _ _ (sym c.takes.ensures ∙ c.if-not-takes.true)
 
-pub returns-then-variables-variable : goal.returns-then-variables-variable
-unfolding term_lawful weight_lawful ◌and◌
-returns-then-variables-variable c = simp (lt-ltb _ _ c.if-variable-before.false, lt-leb _ _ c.if-variables-variable.true)
+pub returns-then-size-gt0 : goal.returns-then-size-gt0
+returns-then-size-gt0 c = fit_some _ _ _ _ (sym c.takes.ensures ∙ c.if-not-takes.false) c.if-size-gt0.true
 
-pub returns-then-size-eq0 : goal.returns-then-size-eq0
-unfolding term_lawful weight_lawful ◌and◌
-returns-then-size-eq0 c = simp (lt-ltb _ _ c.if-variable-before.false, le-leb _ _ c.if-variables-variable.false, c.if-size-eq0.true)
-
-pub returns : goal.returns
-unfolding term_lawful weight_lawful ◌and◌
-returns c =
-    simp (lt-ltb _ _ c.if-variable-before.false, le-leb _ _ c.if-variables-variable.false, lt-ltb 0 c.args.size (omega (arith, c.if-size-eq0.false)))
+pub returns-else-size-gt0 : goal.returns-else-size-gt0
+returns-else-size-gt0 c =
+    le-ltb 0 _ c.if-size-gt0.false ∙ fit_none _ _ _ _ (sym c.takes.ensures ∙ c.if-not-takes.false) c.if-size-gt0.false

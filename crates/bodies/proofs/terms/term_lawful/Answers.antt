@@ -12,5 +12,5 @@ unfolding term_at
 returns c =
     c.term_fits.ensures
     ∙ rw
-    (c.read_u16-variable.ensures, c.magnitude-size.ensures, to_z-of_z {w = w32} (record { sfits = c.read_i32.type_inv }), c.read_i32.ensures)
+    (c.read_u16.ensures, c.magnitude-size.ensures, to_z-of_z {w = w32} (record { sfits = c.read_i32.type_inv }), c.read_i32.ensures)
     (term_size_lem _ _ _ _)

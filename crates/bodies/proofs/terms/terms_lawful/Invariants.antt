@@ -10,4 +10,5 @@ use Rattle.bodies.proofs.terms.terms_lawful.Given as goal
 
 abbrev pub invariant-loop-i : goal.invariant-loop-i
 invariant-loop-i l =
-    lawful_above l.variables l.before (terms_at l.terms (6 * l.i) (length l.terms / 6 - l.i)) ≡ terms_lawful l.variables (terms_at l.terms 0 (length l.terms / 6))
+    (l.numbers.variables ≡ l.variables)
+    × (lawful_above l.numbers.variables l.numbers.before (terms_at l.terms (6 * l.i) (length l.terms / 6 - l.i)) ≡ terms_lawful l.variables (terms_at l.terms 0 (length l.terms / 6)))

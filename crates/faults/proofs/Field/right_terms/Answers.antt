@@ -2,23 +2,24 @@
 -- Assumes nothing.
 use native.Mathlib.Omega.{arith}
 use Rattle.format.specs.File.{length_at}
-use Rattle.faults.proofs.Faults.{terms_objective, terms_rule, terms_none, rule_size}
+use Rattle.faults.proofs.Faults.{told, terms_objective, terms_rule, terms_none, rule_size}
 use Rattle.faults.proofs.Field.right_terms.Goals as goal
 
-pub returns-then-file-at : goal.returns-then-file-at
-returns-then-file-at c = terms_objective _ _ c.args.self.headed c.end.ensures _ _ c.if-file-at.true c.terms_lawful.ensures
+pub returns-in-Objective : goal.returns-in-Objective
+returns-in-Objective c = terms_objective _ _ c.args.self.headed c.end.ensures _ _ (told c.args.self.tagged c.in-Objective.is) c.terms_lawful.ensures
 
-pub slice_bounds-terms_lawful-count-then-file-at-2 : goal.slice_bounds-terms_lawful-count-then-file-at-2
+pub slice_bounds-terms_lawful-count-in-Rule : goal.slice_bounds-terms_lawful-count-in-Rule
 unfolding length_at
-slice_bounds-terms_lawful-count-then-file-at-2 c = omega (arith, c.end-then-file-at-2.ensures, rule_size _ _ c.args.self.headed c.if-file-at-2.true)
+slice_bounds-terms_lawful-count-in-Rule c =
+    omega (arith, c.end-in-Rule.ensures, rule_size _ _ c.args.self.headed (told c.args.self.tagged c.in-Rule.is))
 
-pub slice_bounds-terms_lawful-start-then-file-at-2 : goal.slice_bounds-terms_lawful-start-then-file-at-2
+pub slice_bounds-terms_lawful-start-in-Rule : goal.slice_bounds-terms_lawful-start-in-Rule
 unfolding length_at
-slice_bounds-terms_lawful-start-then-file-at-2 c =
-    omega (arith, c.end-then-file-at-2.ensures, rule_size _ _ c.args.self.headed c.if-file-at-2.true, c.args.self.headed.room)
+slice_bounds-terms_lawful-start-in-Rule c =
+    omega (arith, c.end-in-Rule.ensures, rule_size _ _ c.args.self.headed (told c.args.self.tagged c.in-Rule.is), c.args.self.headed.room)
 
-pub returns-then-file-at-2 : goal.returns-then-file-at-2
-returns-then-file-at-2 c = terms_rule _ _ c.args.self.headed c.end-then-file-at-2.ensures _ _ c.if-file-at-2.true c.terms_lawful-then-file-at-2.ensures
+pub returns-in-Rule : goal.returns-in-Rule
+returns-in-Rule c = terms_rule _ _ c.args.self.headed c.end-in-Rule.ensures _ _ (told c.args.self.tagged c.in-Rule.is) c.terms_lawful-in-Rule.ensures
 
-pub returns : goal.returns
-returns c = terms_none _ _ _ c.if-file-at.false c.if-file-at-2.false
+pub returns-in_default : goal.returns-in_default
+returns-in_default c = terms_none _ _ _ _ c.args.self.tagged c.in_default.not-Objective c.in_default.not-Rule

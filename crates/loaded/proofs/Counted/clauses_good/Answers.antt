@@ -13,4 +13,4 @@ pub returns : goal.returns
 unfolding clauses_good
 returns c =
     let n : rules_at - (clause_first_at c.args.self.clauses) ≡ clause_word_count - 2 * c.args.self.clauses = omega arith in
-    rw (both, c.clause_chain.ensures, zeros_are _ _ _ _ c.zeros.ensures, n, c.args.self.counts.1, c.args.self.counts.2)
+    rw (both, c.chain.ensures, zeros_are _ _ _ _ c.zeros.ensures, n, c.args.self.counts.1, c.args.self.counts.2)

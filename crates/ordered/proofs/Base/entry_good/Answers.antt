@@ -2,14 +2,11 @@
 -- Assumes nothing.
 use mathlib.Core.Bool.{not}
 use mathlib.Core.Path.{ap}
-use Rattle.ordered.proofs.Places.{entry_refused, goes, entry_told}
+use Rattle.ordered.proofs.Places.{entry_refused, entry_told}
 use Rattle.ordered.proofs.Base.entry_good.Goals as goal
 
 pub returns-then-not-place_good : goal.returns-then-not-place_good
 returns-then-not-place_good c = entry_refused _ _ _ _ _ c.of-place.ensures c.place_good.ensures (ap not c.if-not-place_good.true)
-
-pub word_good-requires : goal.word_good-requires
-word_good-requires c = goes c.place_good.ensures (ap not c.if-not-place_good.false)
 
 pub returns : goal.returns
 returns c =

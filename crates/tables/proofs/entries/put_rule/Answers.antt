@@ -43,4 +43,4 @@ returns c =
     c.put_entry.ensures
     ∙ ap (λ (ws : List ℕ). front (word_bytes ws) c.args.out.now)
     (rule_words_lem _ _ c.requires.rule_here _ c.narrow.ensures (c.narrow-terms.ensures ∙ c.terms_of.ensures)
-    c.byte_word-mode.ensures c.read_u32-lower.ensures c.read_u32-lower.type_inv c.read_u32-upper.ensures c.read_u32-upper.type_inv)
+    c.from-mode.ensures c.read_u32-lower.ensures c.read_u32-lower.type_inv c.read_u32-upper.ensures c.read_u32-upper.type_inv)

@@ -5,7 +5,7 @@ use mathlib.Core.Path.{refl}
 use Rattle.format.specs.File.{stage_after}
 use Rattle.faults.specs.Faults.{stage_of}
 use Rattle.judge.proofs.Stepped.{taken_count, taken_clause, taken_rule, taken_size, taken_terms, next_is}
-use Rattle.judge.proofs.behind.Goals as goal
+use Rattle.judge.proofs.field.Reader.behind.Goals as goal
 
 pub read_u16-requires : goal.read_u16-requires
 read_u16-requires c = taken_count _ _ _ c.requires.0 c.requires.1 c.in-Variables.is

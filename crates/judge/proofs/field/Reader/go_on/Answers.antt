@@ -5,7 +5,7 @@ use denote.Enum.Bare.{same_true, same_false}
 use Rattle.format.specs.contracts.Tag.{the_type}
 use Rattle.bodies.specs.Faults.{found}
 use Rattle.judge.proofs.Stepped.{step_fault, took_more, took_last, took_bytes}
-use Rattle.judge.proofs.go_on.Goals as goal
+use Rattle.judge.proofs.field.Reader.go_on.Goals as goal
 
 pub returns-in_default : goal.returns-in_default
 returns-in_default c = step_fault _ _ _ _ (sym (ap found c.unwrap_err.ensures) ∙ c.take-answer.ensures.fault) c.refusal.ensures

@@ -6,7 +6,7 @@ use mathlib.Core.Path.{refl, ap, ◌∙◌}
 use Rattle.format.specs.File.{length_at}
 use Rattle.bodies.proofs.Tags.{tag_byte}
 use Rattle.judge.proofs.Judged.{told_tag, told_length, no_tag, short_head, wrong_tag, wrong_length, short_body, whole_head}
-use Rattle.judge.proofs.field.head.Goals as goal
+use Rattle.judge.proofs.field.Reader.head.Goals as goal
 
 pub returns-then-left-lt3-clause-fault : goal.returns-then-left-lt3-clause-fault
 returns-then-left-lt3-clause-fault c = short_head _ _ _ (omega arith)
@@ -37,4 +37,4 @@ returns-clause-fault c =
 
 pub returns-clause-taken : goal.returns-clause-taken
 unfolding length_at
-returns-clause-taken c = record { tag = c.in-Some.ensures ∙ tag_byte _ _; body = refl; next = ap (λ (n : ℕ). c.args.at + 3 + n) c.read_size-size.ensures }
+returns-clause-taken c = record { tag = c.in-Some.ensures ∙ tag_byte _ _; body = refl; next = ap (λ (n : ℕ). c.args.self.st.at + 3 + n) c.read_size-size.ensures }
