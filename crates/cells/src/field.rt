@@ -30,6 +30,7 @@ fn is_text(b: u8) -> bool
 }
 
 // non-escaped = *TEXTDATA
+// The loop is no chain: a field goes on to what stands behind it, and a chain that counts its bytes would be followed by a second one that gathers them.
 fn plain(s: &[u8]) -> Field<'_>
     ensures { read_off (Some result) ≡ gathered no_bytes (plain_of s.now) }
 {
@@ -53,6 +54,8 @@ fn may_stand(b: u8) -> bool
 }
 
 // escaped = DQUOTE *(TEXTDATA / COMMA / CR / LF / 2DQUOTE) DQUOTE, from behind its first quote on.
+// It is no plain field with other bytes: that one ends before the first byte that it may not have, and this one has none with such a byte, and takes two
+// bytes at a time where they stand for one.
 fn quoted(s: &[u8]) -> Option<Field<'_>>
     ensures { read_off result ≡ gathered no_bytes (in_quotes false s.now) }
 {
@@ -93,13 +96,11 @@ pub fn lead(s: &[u8]) -> Option<Field<'_>>
 {
     let field = read_field(s)?;
     let rest = field.rest.strip_prefix(b",")?;
-    Some(Field {
-        value: field.value,
-        rest,
-    })
+    Some(Field { rest, ..field })
 }
 
-// A record's last field with what ends the row: CRLF, or the end of the list.
+// A record's last field with what ends the row: CRLF, or the end of the list. It stands beside `lead`, which a comma alone ends: a function for both would
+// take the bytes that end a field, and whether the end of the list does too.
 pub fn last(s: &[u8]) -> Option<Field<'_>>
     ensures { read_off result ≡ gathered no_bytes (with_end (field_of s.now)) }
 {
@@ -108,8 +109,5 @@ pub fn last(s: &[u8]) -> Option<Field<'_>>
         return Some(field);
     }
     let rest = field.rest.strip_prefix(b"\r\n")?;
-    Some(Field {
-        value: field.value,
-        rest,
-    })
+    Some(Field { rest, ..field })
 }

@@ -28,6 +28,8 @@ pub fn empty() -> Value
     }
 }
 
+// The value of more bytes. It is a value and no absence of one: a field that is too long is read on to its end, and compared as the others are, so that each
+// of the two would have to take an absent value apart and give one back.
 fn too_long() -> Value
     ensures { result ≡ too_long }
 {
@@ -43,14 +45,15 @@ fn too_long() -> Value
 fn with_byte(n: u64, b: u8) -> u64
     ensures { result ≡ with_byte n b }
 {
-    n % 72057594037927936 * 256 + (b as u64)
+    n % 72057594037927936 * 256 + u64::from(b)
 }
 
-// A decimal number with one digit more. The characters 0 to 9 are 48 to 57, so that a digit is what its character leaves by 16.
+// A decimal number with one digit more. It is no number to another base of the function above: it counts what the byte stands for, and that one the byte
+// itself, and the two are cut at different sizes. The characters 0 to 9 are 48 to 57, so that a digit is what its character leaves by 16.
 fn with_digit(n: u64, b: u8) -> u64
     ensures { result ≡ with_digit n b }
 {
-    n % 4294967296 * 10 + ((b % 16) as u64)
+    n % 4294967296 * 10 + u64::from(b % 16)
 }
 
 // The number that digits say, with another behind them; none behind or with a byte that is no digit.
@@ -68,20 +71,21 @@ pub fn with(v: Value, b: u8) -> Value
     if LONGEST <= v.length {
         return too_long();
     }
+    let length = v.length + 1;
     let number = more_digits(v.number, b);
     if v.length < HALF {
         return Value {
-            length: v.length + 1,
+            length,
             low: with_byte(v.low, b),
-            high: v.high,
             number,
+            ..v
         };
     }
     Value {
-        length: v.length + 1,
-        low: v.low,
+        length,
         high: with_byte(v.high, b),
         number,
+        ..v
     }
 }
 

@@ -18,7 +18,8 @@ use Rattle.lists.specs.Refusals.{Entry, site_of, zone_of, plan_of, refusal_of}
 use Rattle.lists.proofs.Counts.{Few}
 use Rattle.lists.proofs.Accepted.{faultless_few, accepted_faultless, accepted_few}
 use Rattle.draft.specs.Draft.{weigh, terms_of, clauses_of, Wrote}
-use Rattle.draft.proofs.Writing.{join, join_before, put_long}
+use Rattle.fields.proofs.Writing.{put_on, put_before}
+use Rattle.draft.proofs.Writing.{put_long}
 use Rattle.draft.proofs.Rules.{length_field, empty_field}
 
 field_is : (tag size : ℕ) (body : List ℕ) → size ≡ length body → tag ∷ bytes_of 2 size ++ body ≡ field tag body
@@ -40,18 +41,18 @@ front_wrote o {s} {t} n {end} ts h e f w g =
     let one : List ℕ = 1 ∷ bytes_of 2 2 in
     let l1 : length one ≡ 3 = ap suc (length_bytes_of 2 2) in
     let ln = length_bytes_of 2 n in
-    let count : t ≡ put 0 (one ++ bytes_of 2 n) o = join o 0 3 one (bytes_of 2 n) e (omega (arith, l1)) (omega (arith, l1)) f in
+    let count : t ≡ put 0 (one ++ bytes_of 2 n) o = put_on o 0 one (bytes_of 2 n) (omega (arith, l1)) e (omega (arith, l1)) f in
     let lc : length (one ++ bytes_of 2 n) ≡ 5 = length-append one (bytes_of 2 n) ∙ omega (arith, l1, ln) in
     let lt : length t ≡ length o = put_long o 0 (one ++ bytes_of 2 n) count (omega (arith, lc)) in
     let two : List ℕ = 2 ∷ bytes_of 2 (end - 8) in
     let l2 : length two ≡ 3 = ap suc (length_bytes_of 2 (end - 8)) in
-    let goal = join_before t 5 8 two ts w.written (omega (arith, l2)) (omega (arith, l2, lt)) g in
+    let goal = put_before t 5 two ts (omega (arith, l2, lt)) (omega (arith, l2)) w.written g in
     let size : end - 8 ≡ length ts = omega (arith, w.behind) in
     let same : two ++ ts ≡ field 2 ts = field_is 2 (end - 8) ts size in
     let first : one ++ bytes_of 2 n ≡ field 1 (bytes_of 2 n) = field_is 1 2 (bytes_of 2 n) (sym ln) in
     record {
       written =
-          join o 0 5 (one ++ bytes_of 2 n) (two ++ ts) count (omega (arith, lc)) (omega (arith, lc)) goal
+          put_on o 0 (one ++ bytes_of 2 n) (two ++ ts) (omega (arith, lc)) count (omega (arith, lc)) goal
           ∙ ap₂ (λ (x y : List ℕ). put 0 (x ++ y) o) first same;
       behind = omega (arith, w.behind, length-append (field 1 (bytes_of 2 n)) (field 2 ts), length_field 1 (bytes_of 2 n), length_field 2 ts, ln);
     }

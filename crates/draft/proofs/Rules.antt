@@ -18,7 +18,7 @@ use Rattle.format.specs.Writer.{field, mode, bound_number, rule_field, clause_fi
 use Rattle.lists.specs.Lists.{Site, Zone, between, none_at_all, zone_clause}
 use Rattle.lists.specs.Refusals.{Entry, site_of, zone_of, entry_at}
 use Rattle.draft.specs.Draft.{weigh, terms_of, rule_body, clauses_of, Wrote}
-use Rattle.draft.proofs.Writing.{join_before}
+use Rattle.fields.proofs.Writing.{put_before}
 
 pub length_field : (tag : ℕ) (body : List ℕ) → length (field tag body) ≡ 3 + length body
 unfolding field
@@ -44,6 +44,15 @@ length_head mode least most size =
     omega
     (arith, length-append (bytes_of 2 size) (mode ∷ (bytes_of 4 least ++ bytes_of 4 most)), length-append (bytes_of 4 least) (bytes_of 4 most), length_bytes_of 2 size, length_bytes_of 4 least, length_bytes_of 4 most)
 
+-- What stands before the terms, as it is written.
+pub bounds_written :
+    (at size most : ℕ) {b m k least : ℕ} (t : List ℕ) {u : List ℕ} → b ≡ m → k ≡ least
+    → u ≡ put at (4 ∷ bytes_of 2 size ++ (b ∷ []) ++ (bytes_of 4 k ++ bytes_of 4 most)) t
+    → u ≡ put at (4 ∷ bytes_of 2 size ++ (m ∷ (bytes_of 4 least ++ bytes_of 4 most))) t
+bounds_written at size most {b} {m} {k} {least} t is low e =
+    e ∙ ap (λ (l : List ℕ). put at l t) (append_assoc (4 ∷ bytes_of 2 size) (b ∷ []) (bytes_of 4 k ++ bytes_of 4 most))
+    ∙ ap₂ (λ (x y : ℕ). put at (4 ∷ bytes_of 2 size ++ (x ∷ (bytes_of 4 y ++ bytes_of 4 most))) t) is low
+
 -- The head is written before the terms that stand behind it.
 pub rule_wrote :
     (o : List ℕ) {t u : List ℕ} (at mode least most : ℕ) {end : ℕ} (ts : List ℕ) → at + 12 ≤ length o → Wrote (at + 12) ts o t end
@@ -53,7 +62,7 @@ rule_wrote o at mode least most {end} ts h w f =
     let n = length_head mode least most (end - at - 3) in
     record {
       written =
-          join_before o at (at + 12) (4 ∷ bytes_of 2 (end - at - 3) ++ (mode ∷ (bytes_of 4 least ++ bytes_of 4 most))) ts w.written (omega (arith, n)) (omega (arith, n)) f
+          put_before o at (4 ∷ bytes_of 2 (end - at - 3) ++ (mode ∷ (bytes_of 4 least ++ bytes_of 4 most))) ts (omega (arith, n)) (omega (arith, n)) w.written f
           ∙ ap (λ (l : List ℕ). put at l o) (head_body mode least most (end - at - 3) ts size);
       behind = omega (arith, w.behind, length_field 4 (rule_body mode least most ts), length_body mode least most ts);
     }

@@ -1,6 +1,6 @@
 -- The parts of the plan file of two lists, as the code writes them one behind the other.
 -- Assumes nothing.
-use Rattle.std.specs.Prelude.{ℕ, ◌+◌, ◌≤◌, ◌≡◌, Bool, true, false, cond, List, ◌∷◌, ◌++◌, map, ltb, length}
+use Rattle.std.specs.Prelude.{ℕ, ◌+◌, ◌≤◌, ◌≡◌, Bool, true, false, cond, List, ◌∷◌, ◌++◌, map, ltb, length, Option, None, Some}
 use Rattle.plpb.specs.Lists.{all, concat}
 use Rattle.words.specs.Words.{bytes_of}
 use Rattle.words.specs.Writes.{put}
@@ -24,6 +24,11 @@ pub record Named (v : Value) (name : List ℕ) : Type 0 where
   pub gathered : v ≡ gather name
   pub short : length name ≤ 16
   pub bytes : all (λ b. ltb b 256) name ≡ true
+
+-- The mode of a zone's rule: 3 with a lower bound, 2 without one.
+abbrev pub mode_of : Option ℕ → ℕ
+mode_of None = 2
+mode_of (Some lower) = 3
 
 -- The body of a rule's field.
 unfoldable pub rule_body : ℕ → ℕ → ℕ → List ℕ → List ℕ

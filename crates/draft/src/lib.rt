@@ -1,38 +1,25 @@
 // The plan file of the mapper's two lists, written into a lent buffer.
+// The buffer and the place to write at stay two parameters: a struct that held the buffer would have to say in each contract that it is still the same one.
 #![tactic(auto)]
 
 ghost use Rattle.std.specs.Prelude.{◌≡◌, true, false, cond, ℕ, ◌+◌, ◌*◌, ◌%◌, ◌≤◌, eqb, Some, IfSome};
 ghost use Rattle.std.specs.Prelude.{List, [], ◌∷◌, ◌++◌, map, length};
-ghost use Rattle.std.specs.Option.{is_some};
+ghost use Rattle.std.specs.Option.{is_some, unwrap_or};
 ghost use Rattle.words.specs.Words.{bytes_of};
-ghost use Rattle.words.specs.Writes.{put, front};
+ghost use Rattle.words.specs.Writes.{front};
 ghost use Rattle.format.specs.Writer.{field, clause_fields, write};
 ghost use Rattle.cells.specs.Grammar.{column_of};
 ghost use Rattle.cells.specs.Values.{gather};
 ghost use Rattle.lists.specs.Lists.{zone_clause};
 ghost use Rattle.lists.specs.Refusals.{Entry, site_of, site_fault, site_rows, zone_rows, plan_of, refusal_of};
 ghost use Rattle.entries.specs.Judging.{OfBytes, Well};
-ghost use Rattle.draft.specs.Draft.{weigh, terms_of, Named, rule_body, clauses_of, Wrote};
+ghost use Rattle.draft.specs.Draft.{weigh, terms_of, Named, mode_of, rule_body, clauses_of, Wrote};
 
 use cells::value::{Value, same};
 use entries::{Counts, is_yes};
+use fields::{put_bounds, put_head};
+use format::{Mode, Tag};
 use rows::row::{Listed, read_row};
-use words::{write_u16, write_u32};
-
-// The tags of the fields, and the modes of the two rules of a zone.
-const COUNT: u8 = 1;
-
-const OBJECTIVE: u8 = 2;
-
-const CLAUSE: u8 = 3;
-
-const RULE: u8 = 4;
-
-const END: u8 = 5;
-
-const UPPER: u8 = 2;
-
-const BOTH: u8 = 3;
 
 // The list of sites, where nothing in it is at fault, and how many sites there are.
 #[derive(Clone, Copy)]
@@ -43,25 +30,16 @@ struct Sites<'a> {
     ghost counted: { count ≡ length (site_rows list.now) },
 }
 
-// Writes a field's tag and length at a place. The buffer and the place stay two parameters, here and below: a struct that held the buffer would have to say in
-// each contract that it is still the same one.
-fn write_head(out: &mut [u8], at: usize, tag: u8, size: usize)
-    requires { at + 3 ≤ length out.old }
-    ensures { out.new ≡ put at (tag ∷ bytes_of 2 size) out.old }
-{
-    out[at] = tag;
-    write_u16(out, at + 1, size);
+// What a row of the zone list says.
+#[derive(Clone, Copy)]
+struct Zone {
+    name: Value,
+    least: u32,
+    most: u32,
+    optional: bool,
 }
 
-fn write_term(out: &mut [u8], at: usize, variable: usize, weight: u32)
-    requires { at + 6 ≤ length out.old }
-    ensures { out.new ≡ put at (bytes_of 2 variable ++ bytes_of 4 weight) out.old }
-{
-    write_u16(out, at, variable);
-    write_u32(out, at + 2, weight);
-}
-
-// A number of at most 7 digits.
+// A number of at most 7 digits. The remainder shows that the cast loses nothing.
 fn number_of(v: Value) -> u32
     ensures { (n : ℕ) → v.number ≡ Some n → result ≡ n % 4_294_967_296 }
 {
@@ -89,11 +67,12 @@ fn put_term(out: &mut [u8], at: usize, variable: usize, weight: u32) -> usize
     if weight == 0 {
         return at;
     }
-    write_term(out, at, variable, weight);
+    fields::put_term(out, at, variable, weight);
     at + 6
 }
 
-// The terms of the sites, one for each that weighs anything in the zone, or with no zone by its metres. Answers the next place.
+// The terms of the sites, one for each that weighs anything in the zone, or with no zone by its metres. Answers the next place. The loop is no chain, for the
+// reason that `entries::judge_list` gives: an iterator of rows would list in its contract the numbers that they are gathered into.
 fn put_terms(out: &mut [u8], from: usize, sites: Sites<'_>, zone: Option<Value>) -> usize
     requires { from + 6 * sites.count ≤ length out.old }
     ensures { ((name : List ℕ) → IfSome zone (λ v. Named v name)
@@ -111,15 +90,14 @@ fn put_terms(out: &mut [u8], from: usize, sites: Sites<'_>, zone: Option<Value>)
     to
 }
 
-// Writes what stands before a rule's terms.
-fn write_rule_head(out: &mut [u8], at: usize, size: usize, mode: u8, least: u32, most: u32)
-    requires { at + 12 ≤ length out.old }
-    ensures { out.new ≡ put at (4 ∷ bytes_of 2 size ++ (mode ∷ (bytes_of 4 least ++ bytes_of 4 most))) out.old }
+// The byte of a rule's mode: a zone's rule has an upper bound, and a lower one or none.
+fn mode_of(lower: Option<u32>) -> u8
+    ensures { result ≡ mode_of lower }
 {
-    write_head(out, at, RULE, size);
-    out[at + 3] = mode;
-    write_u32(out, at + 4, least);
-    write_u32(out, at + 8, most);
+    match lower {
+        None => Mode::Upper as u8,
+        Some(_) => Mode::Both as u8,
+    }
 }
 
 // A rule over the sites of a zone. The terms are written first: they say how long the field is.
@@ -127,45 +105,39 @@ fn put_rule(
     out: &mut [u8],
     at: usize,
     sites: Sites<'_>,
-    zone: Value,
-    mode: u8,
-    least: u32,
-    most: u32,
+    name: Value,
+    lower: Option<u32>,
+    upper: u32,
 ) -> usize
     requires { at + 12 + 6 * sites.count ≤ length out.old }
-    ensures { ((name : List ℕ) → Named zone name
-        → Wrote at (field 4 (rule_body mode least most (terms_of true name (site_rows sites.entry.list.now)))) out.old out.new result)
+    ensures { ((bytes : List ℕ) → Named name bytes
+        → Wrote at (field 4 (rule_body (mode_of lower) (unwrap_or lower 0) upper
+        (terms_of true bytes (site_rows sites.entry.list.now)))) out.old out.new result)
         × (result ≤ at + 12 + 6 * sites.entry.count) }
 {
-    let end = put_terms(out, at + 12, sites, Some(zone));
-    write_rule_head(out, at, end - at - 3, mode, least, most);
+    let end = put_terms(out, at + 12, sites, Some(name));
+    let size = end - at - 3;
+    put_bounds(out, at, size, mode_of(lower), lower.unwrap_or(0), upper);
     end
 }
 
 // "between least and most sites (mode 3), or, with `yes`, that rule or none at all (mode 2)"
-fn put_clause(
-    out: &mut [u8],
-    at: usize,
-    sites: Sites<'_>,
-    zone: Value,
-    least: u32,
-    most: u32,
-    optional: bool,
-) -> usize
+fn put_clause(out: &mut [u8], at: usize, sites: Sites<'_>, zone: Zone) -> usize
     requires { at + 27 + 12 * sites.count ≤ length out.old }
-    ensures { (name : List ℕ) → Named zone name
+    ensures { (name : List ℕ) → Named zone.name name
         → Wrote at (clause_fields (zone_clause (map site_of (site_rows sites.entry.list.now))
-        (record { name = name; least = least; most = most; may_be_empty = optional }))) out.old out.new result }
+        (record { name = name; least = zone.least; most = zone.most; may_be_empty = zone.optional }))) out.old out.new result }
 {
-    write_head(out, at, CLAUSE, 0);
-    let end = put_rule(out, at + 3, sites, zone, BOTH, least, most);
-    if optional {
-        return put_rule(out, end, sites, zone, UPPER, 0, 0);
+    put_head(out, at, Tag::Clause as u8, 0);
+    let end = put_rule(out, at + 3, sites, zone.name, Some(zone.least), zone.most);
+    if zone.optional {
+        return put_rule(out, end, sites, zone.name, None, 0);
     }
     end
 }
 
-// "One clause per zone in list order". Answers the next place.
+// "One clause per zone in list order". Answers the next place. The list of zones goes with their number, as that of sites does; only
+// `put_plan` hands them on, so that no struct holds them. The loop is no chain, as that of the terms.
 fn put_clauses(out: &mut [u8], from: usize, sites: Sites<'_>, zones: &[u8], m: usize) -> usize
     requires { Well true zones.now × (m ≡ length (zone_rows zones.now))
         × (from + length (clauses_of (site_rows sites.list.now) (zone_rows zones.now)) + 27 + 12 * sites.count ≤ length out.old) }
@@ -173,11 +145,15 @@ fn put_clauses(out: &mut [u8], from: usize, sites: Sites<'_>, zones: &[u8], m: u
 {
     let mut to = from;
     let mut rest = zones;
-    for k in 0..m {
+    for _row in 0..m {
         let row = read_row(rest, Listed::Zones).unwrap();
-        let least = number_of(row.second);
-        let most = number_of(row.third);
-        to = put_clause(out, to, sites, row.first, least, most, is_yes(row.fourth));
+        let zone = Zone {
+            name: row.first,
+            least: number_of(row.second),
+            most: number_of(row.third),
+            optional: is_yes(row.fourth),
+        };
+        to = put_clause(out, to, sites, zone);
         rest = row.rest;
     }
     to
@@ -189,10 +165,10 @@ fn put_front(out: &mut [u8], sites: Sites<'_>) -> usize
     ensures { Wrote 0 (field 1 (bytes_of 2 sites.entry.count) ++ field 2 (terms_of false [] (site_rows sites.entry.list.now))) out.old out.new result
         × (result ≤ 8 + 6 * sites.entry.count) }
 {
-    write_head(out, 0, COUNT, 2);
-    write_u16(out, 3, sites.count);
+    put_head(out, 0, Tag::Variables as u8, 2);
+    words::write_u16(out, 3, sites.count);
     let end = put_terms(out, 8, sites, None);
-    write_head(out, 5, OBJECTIVE, end - 8);
+    put_head(out, 5, Tag::Objective as u8, end - 8);
     end
 }
 
@@ -209,6 +185,6 @@ pub fn put_plan(out: &mut [u8], sites: &[u8], zones: &[u8], n: Counts) -> usize
     };
     let end = put_front(out, sites);
     let last = put_clauses(out, end, sites, zones, n.zones);
-    write_head(out, last, END, 0);
+    put_head(out, last, Tag::End as u8, 0);
     last + 3
 }

@@ -37,6 +37,21 @@ pub enum Fault {
     Unused,
 }
 
+// The number of a fault for the C interface.
+impl From<Fault> for u32 {
+    ghost from_gives = { λ fault n. n ≡ fault_number fault };
+
+    fn from(fault: Fault) -> u32 {
+        match fault {
+            Fault::Malformed => 51,
+            Fault::OutOfRange => 52,
+            Fault::Repeated => 53,
+            Fault::Unlisted => 54,
+            Fault::Unused => 55,
+        }
+    }
+}
+
 // The first row of a list that is at fault, from 1, and what it meets.
 #[derive(Clone, Copy)]
 pub struct AtFault {
@@ -59,12 +74,14 @@ pub struct Counts {
     pub zones: usize,
 }
 
+// Whether a value may be a code or a zone.
 fn is_name(v: Value) -> bool
     ensures { (bytes : List ℕ) → v ≡ gather bytes → result ≡ is_name bytes }
 {
     matches!(v.length, 1..=LONGEST_NAME)
 }
 
+// Whether a value may be a number: fewer bytes than a name's, all of them digits.
 fn is_number(v: Value) -> bool
     ensures { (bytes : List ℕ) → v ≡ gather bytes → result ≡ is_number bytes }
 {
@@ -75,7 +92,7 @@ fn is_number(v: Value) -> bool
 fn is_word(v: Value, length: usize, word: u64) -> bool
     ensures { result ≡ (eqb v.length length and eqb v.low word and eqb v.high 0) }
 {
-    v.length == length && v.low == word && v.high == 0
+    (v.length, v.low, v.high) == (length, word, 0)
 }
 
 pub fn is_yes(v: Value) -> bool
@@ -90,6 +107,7 @@ fn is_no(v: Value) -> bool
     is_word(v, 2, NO)
 }
 
+// Whether a row's fields are those of a site.
 fn site_formed(row: Row<'_>) -> bool
     ensures { (x : Entry) → Holds x row.entry → result ≡ site_formed x }
 {
@@ -103,6 +121,7 @@ fn is_answer(v: Value) -> bool
     is_yes(v) || is_no(v)
 }
 
+// Whether a row's fields are those of a zone. The two lists' rows are judged by two pairs of functions, for their columns hold other things.
 fn zone_formed(row: Row<'_>) -> bool
     ensures { (x : Entry) → Holds x row.entry → OfBytes x → result ≡ zone_formed x }
 {
@@ -116,7 +135,8 @@ fn is_above(v: Value, most: u64) -> bool
     v.number.is_some_and(|n| most < n)
 }
 
-// "51 malformed row, 52 number out of its range"
+// "51 malformed row, 52 number out of its range". The answer is a fault or none, not yet an error, here and in the two functions below: the error is the fault
+// with its row, which a row does not know.
 fn site_fault(row: Row<'_>) -> Option<Fault>
     ensures { (x : Entry) → Holds x row.entry → fault_of result ≡ site_fault x }
 {
@@ -162,6 +182,8 @@ fn at_row(fault: Fault, k: usize) -> AtFault
 }
 
 // "The first row at fault decides, by the lower number": 51, 52, then 53. Without one it answers how many rows there are.
+// It is a loop with the row's number beside the rest of the list, here and where zones are judged: a list is cut into rows only by reading it, an iterator of
+// what is read would have to list in its contract the numbers that rows are gathered into, and each row is looked for among those before it by its number.
 pub fn judge_list(s: &[u8], listed: Listed) -> Result<usize, AtFault>
     ensures { MatchResult result
         (λ n. judged (row_fault (is_zones listed) (entries_of (is_zones listed) s.now)) (entries_of (is_zones listed) s.now)
@@ -207,7 +229,8 @@ fn beside(listed: Listed) -> Listed
     }
 }
 
-// The first row of a list whose zone no row of the other list has.
+// The first row of a list whose zone no row of the other list has. The other list comes with the number of its rows, which was counted as it was judged; a row
+// that is looked for goes through them all. The fault comes beside the list, since the definition (`missing`) has it so.
 fn judge_zones(
     s: &[u8],
     listed: Listed,
@@ -238,8 +261,8 @@ fn judge_zones(
     Ok(())
 }
 
-// "sites before zones; 54 and then 55 come after both lists"; "then, with both 0, 4 when the plan would be too large or has no site". Where no other row is
-// at fault, a plan is too large only by its sites.
+// "sites before zones; 54 and then 55 come after both lists"; "then, with both 0, 4 when the plan would be too large or has no site". Where no row is at
+// fault, a plan is too large only by its sites.
 pub fn judge(sites: &[u8], zones: &[u8]) -> Result<Counts, Refusal>
     ensures { Tells (refusal_of (site_rows sites.now) (zone_rows zones.now)) (site_rows sites.now)
         (zone_rows zones.now) result }

@@ -8,26 +8,24 @@ use mathlib.Core.List.{List}
 use lib.Dec.{eqb}
 use Rattle.std.specs.Bool.{then_some}
 use Rattle.std.specs.Prelude.{Option, None, Some, MatchOption}
-use lib.IntN.{ℤ, nat_abs, ◌-ℤ◌}
+use lib.IntN.{ℤ, ◌-ℤ◌}
 use lib.ListN.{length, get_or}
 use Rattle.plpb.specs.Lists.{◌and◌}
 use Rattle.plpb.specs.Plan.{Bound, absent, present, map_bound, Rule, at_least, at_most, least_total}
 use Rattle.words.specs.Words.{num_at}
 use Rattle.format.specs.File.{length_at, terms_in, terms_at, field_terms, mode_at, lower_at, upper_at, bound_of, rule_at}
-use Rattle.format.proofs.Peel.{length_terms_at}
 use Rattle.tables.specs.Places.{behind_field}
-use Rattle.squeezed.specs.Squeezed.{Becomes, given_total, put_in, greatest_total, possible, trimmed}
+use Rattle.squeezed.specs.Squeezed.{given_total, put_in, greatest_total, possible, trimmed}
 use Rattle.fates.specs.Codes.{decoded}
-use Rattle.fates.specs.Sums.{part_total}
-use Rattle.fates.specs.Rules.{as_bound, still, Fated, RuleFits}
+use Rattle.fates.specs.Sums.{Given, Least, Greatest, part_total, TermsFit}
+use Rattle.counting.specs.Bound.{bound_of as as_bound}
+use Rattle.fates.specs.Rules.{still, Fated, RuleFits}
 use Rattle.fates.specs.declared.bounds.Bounds.{Bounds}
-use Rattle.fates.specs.declared.sums.Part.{Part}
-use Rattle.fates.specs.declared.sums.Part.TheVariants.{Given, Least, Greatest}
-use Rattle.fates.proofs.Parts.{given_total_lem, least_total_lem, greatest_total_lem, total_size}
+use Rattle.fates.proofs.Parts.{given_total_lem, least_total_lem, greatest_total_lem}
 
 -- A bound of a mode, as the code takes it.
 pub mode_bound : (k m : ℕ) (b : ℤ) {o : Option ℤ} → o ≡ then_some (not (eqb m k)) b → as_bound o ≡ bound_of k m b
-unfolding as_bound bound_of
+unfolding bound_of
 mode_bound k m b e = ap as_bound e ∙ by (eqb m k)
   where
     by : (t : Bool) → as_bound (then_some (not t) b) ≡ cond t absent (present b)
@@ -49,13 +47,12 @@ module _ {s : List ℕ} {at : ℕ} (r : RuleFits s at) where
   unfolding behind_field terms_in
   terms_room = omega (arith, r.room, r.size)
 
-  -- A sum over its terms, as the code reads them.
-  pub field_sum : (part : Part) (f : ℕ → Becomes) (count : ℕ) {z : ℤ} → count ≡ terms_in 4 (length_at s at) → z ≡ part_total part f (terms_at s (at + 12) count)
-      → (z ≡ part_total part f (field_terms s at)) × (nat_abs z ≤ 512_000_000)
-  field_sum part f count e h =
-      let is = h ∙ ap (λ k. part_total part f (terms_at s (at + 12) k)) e ∙ ap (part_total part f) (sym rule_terms) in
-      let few = ap length rule_terms ∙ length_terms_at s (terms_in 4 (length_at s at)) (at + 12) in
-      (is, rw is (omega (arith, total_size f part (field_terms s at) r.small, few, r.few)))
+  -- Its terms, as the code takes them.
+  pub terms_fit : {count : ℕ} → count ≡ terms_in 4 (length_at s at) → TermsFit s (at + 12) count
+  terms_fit e = rw e (record { inside = terms_room; few = r.few; small = rw rule_terms at r.small })
+
+  pub terms_taken : {count : ℕ} → count ≡ terms_in 4 (length_at s at) → terms_at s (at + 12) count ≡ field_terms s at
+  terms_taken e = ap (terms_at s (at + 12)) e ∙ sym rule_terms
 
 pub byte_at : (s : List ℕ) (i : ℕ) → get_or s i 0 ≡ num_at 1 s i
 unfolding num_at

@@ -18,9 +18,7 @@ use Rattle.format.proofs.Lawful.{weight_small}
 use Rattle.counting.proofs.Signed.{size_sum}
 use Rattle.squeezed.specs.Squeezed.{Becomes, locked, renumbered, given, given_total, stays, terms_left, positive_part, greatest_total}
 use Rattle.fates.specs.Codes.{decode, decoded}
-use Rattle.fates.specs.Sums.{part_of, part_total, small_terms}
-use Rattle.fates.specs.declared.sums.Part.{Part}
-use Rattle.fates.specs.declared.sums.Part.TheVariants.{Given, Least, Greatest}
+use Rattle.fates.specs.Sums.{Part, Given, Least, Greatest, part_of, part_total, small_terms}
 
 -- ---- codes
 
@@ -35,12 +33,6 @@ decode_off w e = rw e
 pub decode_on : (w : ℕ) → w ≡ 514 → locked true ≡ decode w
 unfolding decode
 decode_on w e = rw e
-
-pub part_off : (part : Part) (w : ℤ) → pos 0 ≡ part_of part (locked false) w
-unfolding part_of given
-part_off Given w = refl
-part_off Least w = refl
-part_off Greatest w = refl
 
 -- ---- sums
 

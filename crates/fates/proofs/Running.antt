@@ -17,7 +17,8 @@ use Rattle.format.specs.File.{tag_at, rule_at}
 use Rattle.tables.specs.Places.{behind_field}
 use Rattle.squeezed.specs.Squeezed.{Becomes, put_in, greatest_total, possible, always, trimmed, rules_left, remains, clauses_left}
 use Rattle.squeezed.proofs.Alike.{always_possible}
-use Rattle.fates.specs.Rules.{as_bound, Fated, unbounded}
+use Rattle.counting.specs.Bound.{bound_of as as_bound}
+use Rattle.fates.specs.Rules.{Fated, unbounded}
 use Rattle.fates.specs.declared.bounds.Bounds.{Bounds}
 use Rattle.fates.specs.Rest.{Rest, Reads, Begins, Ran}
 use Rattle.fates.proofs.Resting.{rest_rule, rest_none, no_rules, rest_clause, no_clauses}
@@ -44,7 +45,7 @@ upper_gone (present u) s = by (le_z s u)
 
 -- Where the lower bound is gone, the upper one tells; r is whether it is gone too.
 pub lower_none : (b : Bounds) {r : Bool} → is_some b.lower ≡ false → is_some b.upper ≡ not r → r ≡ unbounded (Some b)
-unfolding unbounded is_present as_bound ◌and◌
+unfolding unbounded is_present ◌and◌
 lower_none b {r} e f = by b.lower b.upper r e f
   where
     by : (l u : Option ℤ) (r : Bool) → is_some l ≡ false → is_some u ≡ not r → r ≡ (not (is_present (as_bound l)) and not (is_present (as_bound u)))
@@ -55,7 +56,7 @@ lower_none b {r} e f = by b.lower b.upper r e f
     by (Some l) u r e f = absurd (false_T e (T_true refl))
 
 pub lower_some : (b : Bounds) → is_some b.lower ≡ true → false ≡ unbounded (Some b)
-unfolding unbounded is_present as_bound ◌and◌
+unfolding unbounded is_present ◌and◌
 lower_some b e = by b.lower b.upper e
   where
     by : (l u : Option ℤ) → is_some l ≡ true → false ≡ (not (is_present (as_bound l)) and not (is_present (as_bound u)))

@@ -2,5 +2,6 @@
 pub mod Codes
 pub mod Maps
 pub mod Sums
+pub mod Parts
 pub mod Rules
 pub mod Rest

@@ -2,18 +2,14 @@
 -- Assumes nothing.
 use Rattle.std.specs.Prelude.{ℕ, ◌≤◌, ◌≡◌, Bool, true, false, not, cond, List, ℤ, Option, Some, None, nat_abs, length}
 use Rattle.plpb.specs.Lists.{◌and◌}
-use Rattle.plpb.specs.Plan.{Bound, absent, present, is_present, Rule}
+use Rattle.plpb.specs.Plan.{Bound, absent, is_present, Rule}
+use Rattle.counting.specs.Bound.{bound_of as as_bound}
 use Rattle.format.specs.Limits.{max_variables, max_bound}
 use Rattle.format.specs.File.{length_at, terms_in, lower_at, upper_at, field_terms, tag_at}
 use Rattle.tables.specs.Places.{behind_field}
 use Rattle.squeezed.specs.Squeezed.{possible, trimmed}
 use Rattle.fates.specs.Sums.{small_terms}
 use Rattle.fates.specs.declared.bounds.Bounds.{Bounds}
-
--- A bound that may be absent.
-unfoldable pub as_bound : Option ℤ → Bound ℤ
-as_bound None = absent
-as_bound (Some b) = present b
 
 -- A bound, dropped where it is met.
 unfoldable pub still : Bool → Bound ℤ → Bound ℤ

@@ -2,8 +2,11 @@
 ghost use Rattle.std.specs.Prelude.{◌≡◌, false, true, MatchOption};
 ghost use Rattle.plpb.specs.Plan.{at_least, at_most};
 ghost use Rattle.plpb.specs.Lists.{◌and◌};
+ghost use Rattle.counting.specs.Bound.{bound_of as as_bound};
 ghost use Rattle.format.specs.File.{bound_of};
-ghost use Rattle.fates.specs.Rules.{as_bound, still};
+ghost use Rattle.fates.specs.Rules.{still};
+
+use format::Mode;
 
 // A rule's bounds, each of which may be absent.
 #[derive(Clone, Copy, PartialEq, Eq)]
@@ -12,34 +15,29 @@ pub struct Bounds {
     pub upper: Option<i32>,
 }
 
-// "Mode 1 is lower only, 2 upper only, 3 both".
+// "Mode 1 is lower only, 2 upper only, 3 both". The mode comes as its byte, since the definition tells it from two numbers alone and the option of `Mode::of`
+// would be opened at once.
 pub(crate) fn by_mode(mode: u8, lower: i32, upper: i32) -> Bounds
     ensures { (as_bound result.lower ≡ bound_of 2 mode lower) × (as_bound result.upper ≡ bound_of 1 mode upper) }
 {
     Bounds {
-        lower: (mode != 2).then_some(lower),
-        upper: (mode != 1).then_some(upper),
+        lower: (mode != Mode::Upper as u8).then_some(lower),
+        upper: (mode != Mode::Lower as u8).then_some(upper),
     }
 }
 
-// Whether a sum meets a lower bound.
+// Whether a sum meets a lower bound, which an absent one always is.
 fn at_least(lower: Option<i32>, sum: i32) -> bool
     ensures { result ≡ at_least (as_bound lower) sum }
 {
-    match lower {
-        None => true,
-        Some(lower) => lower <= sum,
-    }
+    lower.is_none_or(|lower| lower <= sum)
 }
 
-// .. an upper one.
+// Whether a sum meets an upper bound. The two look alike, but a sum stands on the other side of a lower bound.
 fn at_most(upper: Option<i32>, sum: i32) -> bool
     ensures { result ≡ at_most (as_bound upper) sum }
 {
-    match upper {
-        None => true,
-        Some(upper) => sum <= upper,
-    }
+    upper.is_none_or(|upper| sum <= upper)
 }
 
 // A bound without which nothing changes is dropped.
@@ -56,10 +54,7 @@ pub(crate) fn left(b: Bounds, least: i32, greatest: i32) -> Option<Bounds>
         × (as_bound r.lower ≡ still (at_least (as_bound b.lower) least) (as_bound b.lower))
         × (as_bound r.upper ≡ still (at_most (as_bound b.upper) greatest) (as_bound b.upper))) }
 {
-    if !at_least(b.lower, greatest) {
-        return None;
-    }
-    if !at_most(b.upper, least) {
+    if !at_least(b.lower, greatest) || !at_most(b.upper, least) {
         return None;
     }
     Some(Bounds {

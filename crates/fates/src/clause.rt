@@ -1,5 +1,5 @@
-// What becomes of a clause.
-ghost use Rattle.std.specs.Prelude.{◌≡◌, List, [], ℕ};
+// What becomes of a clause. Each walk over rules or clauses is a loop of its own, for the reason that the head of `tables::fields` gives.
+ghost use Rattle.std.specs.Prelude.{◌≡◌, List, [], ℕ, Some};
 ghost use Rattle.plpb.specs.Lists.{any, is_empty};
 ghost use Rattle.plpb.specs.Plan.{Clause};
 ghost use Rattle.squeezed.specs.Squeezed.{clauses_left};
@@ -10,9 +10,10 @@ ghost use Rattle.fates.specs.Rest.{Rest, Reads, Begins, Ran};
 use crate::bounds::Bounds;
 use crate::map::Map;
 use crate::rule;
+use format::Tag;
 
-// A clause's rules run through: whether one is met by all values, whether one is kept, and the place behind them. The two are facts of their own, each
-// asked of every rule; as an enum of a clause's three fates they would have to be folded rule by rule.
+// A clause's rules run through: whether one is met by all values, whether one can be met at all, and the place behind them. The two are facts of their own,
+// each asked of every rule; as an enum of a clause's three fates they would have to be folded rule by rule.
 #[derive(Clone, Copy)]
 pub struct Run {
     pub met: bool,
@@ -20,16 +21,21 @@ pub struct Run {
     pub next: usize,
 }
 
+// Whether none of a rule's bounds is left.
+fn is_empty(left: Bounds) -> bool
+    ensures { result ≡ unbounded (Some left) }
+{
+    left.lower.is_none() && left.upper.is_none()
+}
+
 // Whether all values meet a rule, by what is left of its bounds.
 fn all_meet(fate: Option<Bounds>) -> bool
     ensures { result ≡ unbounded fate }
 {
-    match fate {
-        None => false,
-        Some(left) => left.lower.is_none() && left.upper.is_none(),
-    }
+    fate.is_some_and(is_empty)
 }
 
+// The rules of a clause from a place on, run through to the last.
 pub fn run_rules(file: &[u8], from: usize, map: Map<'_>) -> Run
     requires { Reads file.now from }
     ensures { Ran (codes map.entry) file.now from result.met result.kept result.next }
@@ -37,7 +43,7 @@ pub fn run_rules(file: &[u8], from: usize, map: Map<'_>) -> Run
     let mut at = from;
     let mut met = false;
     let mut kept = false;
-    while file[at] == 4 {
+    while file[at] == Tag::Rule as u8 {
         let fate = rule::fate(file, at, map);
         let is_met = all_meet(fate);
         met |= is_met;
@@ -51,14 +57,14 @@ pub fn run_rules(file: &[u8], from: usize, map: Map<'_>) -> Run
     }
 }
 
-// "a clause lost all rules"
+// Whether one of the clauses from a place on lost all rules: none of its rules is met by all values, and none can be met.
 pub fn lost(file: &[u8], from: usize, map: Map<'_>) -> bool
     requires { Begins file.now from }
     ensures { (n : ℕ) (cs : List Clause) → Rest n file.now from [] cs
         → result ≡ any is_empty (clauses_left (codes map.entry) cs) }
 {
     let mut at = from;
-    while file[at] == 3 {
+    while file[at] == Tag::Clause as u8 {
         let run = run_rules(file, at + 3, map);
         if !(run.met | run.kept) {
             return true;

@@ -12,8 +12,8 @@ impl Map<'_> {
         ensures { becomes result ≡ codes self.entry x }
     {
         match words::word(self.words, x) {
-            crate::OFF => Code::Off,
-            crate::ON => Code::On,
+            crate::OFF => Code::Locked(false),
+            crate::ON => Code::Locked(true),
             number => Code::New(number),
         }
     }

@@ -9,10 +9,9 @@ pub struct Map<'a> {
     pub ghost whole: { map_size ≤ length words.now },
 }
 
-// What becomes of a variable: it is locked at 0 or at 1, or goes on by a new number.
+// What becomes of a variable: it is locked at a value, or goes on by a new number.
 #[derive(Clone, Copy)]
 pub enum Code {
-    Off,
-    On,
+    Locked(bool),
     New(u32),
 }

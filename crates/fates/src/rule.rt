@@ -5,21 +5,25 @@ ghost use Rattle.format.specs.Limits.{max_bound};
 ghost use Rattle.format.specs.File.{field_terms, rule_at};
 ghost use Rattle.squeezed.specs.Squeezed.{put_in};
 ghost use Rattle.fates.specs.Maps.{codes};
-ghost use Rattle.fates.specs.Sums.{part_total};
+ghost use Rattle.fates.specs.Parts.{terms_of};
 ghost use Rattle.fates.specs.Rules.{RuleFits, Fated, max_total};
 
-use crate::bounds::Bounds;
+use crate::bounds::{Bounds, by_mode, left};
 use crate::map::Map;
-use crate::sums::Part;
-use crate::{bounds, sums};
+use crate::terms::Terms;
 
-// One of the sums over a rule's terms.
-fn total(file: &[u8], at: usize, map: Map<'_>, part: Part) -> i32
+// The terms of the rule at a place.
+fn terms<'a>(file: &'a [u8], at: usize, map: Map<'a>) -> Terms<'a>
     requires { RuleFits file.now at }
-    ensures { (result ≡ part_total part (codes map.entry) (field_terms file.now at)) × (nat_abs result ≤ max_total) }
+    ensures { (result.map ≡ map.entry) × (terms_of result ≡ field_terms file.now at) }
 {
     let count = tables::fields::terms_of(file, at);
-    sums::sum(file, at + 12, count, map, part)
+    Terms {
+        file,
+        from: at + 12,
+        count,
+        map,
+    }
 }
 
 // The bound at a place, less what the locked variables give.
@@ -35,10 +39,10 @@ pub fn fate(file: &[u8], at: usize, map: Map<'_>) -> Option<Bounds>
     requires { RuleFits file.now at }
     ensures { Fated result (put_in (codes map.entry) (rule_at file.now at)) }
 {
-    let given = total(file, at, map, Part::Given);
-    let least = total(file, at, map, Part::Least);
-    let greatest = total(file, at, map, Part::Greatest);
+    let terms = terms(file, at, map);
+    let given = terms.given();
     let lower = less(file, at + 4, given);
     let upper = less(file, at + 8, given);
-    bounds::left(bounds::by_mode(file[at + 3], lower, upper), least, greatest)
+    let bounds = by_mode(file[at + 3], lower, upper);
+    left(bounds, terms.least(), terms.greatest())
 }

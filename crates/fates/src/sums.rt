@@ -1,65 +1,76 @@
 // Sums over the terms of a field: what the locked variables give, and the least and the greatest sum of the others.
-ghost use Rattle.std.specs.Prelude.{◌≡◌, true, ℕ, ◌+◌, ◌*◌, ◌≤◌, length};
-ghost use Rattle.format.specs.Limits.{max_variables};
-ghost use Rattle.format.specs.File.{terms_at};
-ghost use Rattle.squeezed.specs.Squeezed.{locked, renumbered};
+ghost use Rattle.std.specs.Prelude.{◌≡◌, ◌≤◌, nat_abs};
 ghost use Rattle.fates.specs.Maps.{codes, becomes};
-ghost use Rattle.fates.specs.Sums.{part_of, part_total, small_terms};
+ghost use Rattle.fates.specs.Sums.{Part, Given, Least, Greatest, part_of, part_total};
+ghost use Rattle.fates.specs.Parts.{Gives, terms_of};
+ghost use Rattle.fates.specs.Rules.{max_total};
 
-use crate::map::{Code, Map};
+use crate::map::Code;
+use crate::terms::Terms;
 use integers::{negative, plus, positive};
 
-// Which of the three sums.
-#[derive(Clone, Copy)]
-pub enum Part {
-    Given,
-    Least,
-    Greatest,
-}
-
-// What a term gives to a sum: of a variable that is locked at 1, and of one that goes on. One match over both would be a match in each arm of another.
-fn part_on(part: Part, weight: i32) -> i32
-    ensures { result ≡ part_of part (locked true) weight }
-{
-    match part {
-        Part::Given => weight,
-        Part::Least => 0,
-        Part::Greatest => 0,
+impl Terms<'_> {
+    // The sum of what each term gives, by what becomes of its variable.
+    fn total<F: Fn(Code, i32) -> i32>(&self, part: F) -> i32
+        requires callable { F.IsAlwaysCallable part }
+        requires gives { (p : Part) × Gives (F.post part) p }
+        ensures { (p : Part) → Gives (F.post part) p
+            → (result ≡ part_total p (codes self.now.map) (terms_of self.now)) × (nat_abs result ≤ max_total) }
+    {
+        let mut sum: i32 = 0;
+        for i in 0..self.count {
+            let at = self.from + 6 * i;
+            let code = self.map.code(words::read_size(self.file, at));
+            sum = plus(sum, part(code, words::read_i32(self.file, at + 2)));
+        }
+        sum
     }
-}
 
-fn part_left(part: Part, weight: i32) -> i32
-    ensures { (k : ℕ) → result ≡ part_of part (renumbered k) weight }
-{
-    match part {
-        Part::Given => 0,
-        Part::Least => negative(weight),
-        Part::Greatest => positive(weight),
+    // What the locked variables give: the weights of those that are locked at 1.
+    pub fn given(&self) -> i32
+        ensures { (result ≡ part_total Given (codes self.now.map) (terms_of self.now)) × (nat_abs result ≤ max_total) }
+    {
+        self.total(
+            |code, weight|
+                ensures { result ≡ part_of Given (becomes code) weight }
+            {
+                match code {
+                    Code::Locked(value) => { if value { weight } else { 0 } }
+                    Code::New(_) => 0,
+                }
+            },
+        )
     }
-}
 
-// .. by what becomes of its variable.
-fn part_of(part: Part, code: Code, weight: i32) -> i32
-    ensures { result ≡ part_of part (becomes code) weight }
-{
-    match code {
-        Code::Off => 0,
-        Code::On => part_on(part, weight),
-        Code::New(_) => part_left(part, weight),
+    // The least sum of the variables that go on.
+    pub fn least(&self) -> i32
+        ensures { (result ≡ part_total Least (codes self.now.map) (terms_of self.now)) × (nat_abs result ≤ max_total) }
+    {
+        self.total(
+            |code, weight|
+                ensures { result ≡ part_of Least (becomes code) weight }
+            {
+                match code {
+                    Code::Locked(_) => 0,
+                    Code::New(_) => negative(weight),
+                }
+            },
+        )
     }
-}
 
-// One of the three sums over the terms of a field. Their count goes with the file, because a field is stated by its place in the whole file.
-pub fn sum(file: &[u8], from: usize, count: usize, map: Map<'_>, part: Part) -> i32
-    requires count_in_bounds { (from + 6 * count ≤ length file.now) × (count ≤ max_variables) }
-    requires count_value { small_terms (terms_at file.now from count) ≡ true }
-    ensures { result ≡ part_total part (codes map.entry) (terms_at file.now from count) }
-{
-    let mut sum: i32 = 0;
-    for i in 0..count {
-        let at = from + 6 * i;
-        let code = map.code(words::read_size(file, at));
-        sum = plus(sum, part_of(part, code, words::read_i32(file, at + 2)));
+    // The greatest sum of the variables that go on.
+    pub fn greatest(&self) -> i32
+        ensures { (result ≡ part_total Greatest (codes self.now.map) (terms_of self.now)) × (nat_abs result ≤ max_total) }
+    {
+        self.total(
+            |code, weight|
+                ensures { result ≡ part_of Greatest (becomes code) weight }
+            {
+                match code {
+                    Code::Locked(_) => 0,
+                    Code::New(_) => positive(weight),
+                }
+            },
+        )
     }
-    sum
 }

@@ -9,9 +9,18 @@ use Rattle.words.specs.Writes.{front}
 use Rattle.format.specs.Writer.{write}
 use Rattle.lists.specs.Refusals.{Refusal, accepted, site_rows, zone_rows, refusal_of, map_refusal}
 use Rattle.entries.specs.declared.Refusal.{Refusal as RefusalT}
+use native.Mathlib.Omega.{arith}
+use Rattle.entries.specs.declared.Refusal.TheVariants.{Site, Zone, Size}
 use Rattle.entries.specs.Judging.{refusal_numbers}
+use Rattle.entries.proofs.Rows.{some_fault}
 use Rattle.mapping.specs.declared.Mapped.{Mapped}
 use Rattle.mapping.specs.Mapping.{refusal_for, plan_of_lists, length_for, plan_after}
+
+-- Each refusal has a number.
+pub some_refusal : (e : RefusalT) → (refusal_numbers e).number ≡ 0 → ⊥
+some_refusal (Site a) h = some_fault a.fault h
+some_refusal (Zone a) h = some_fault a.fault h
+some_refusal Size h = omega arith
 
 module _ (s z plan : List ℕ) where
   abbrev f : Refusal

@@ -2,13 +2,14 @@
 #![tactic(auto)]
 
 ghost use Rattle.std.specs.Prelude.{◌≡◌};
-ghost use Rattle.entries.specs.Judging.{fault_number};
+ghost use Rattle.entries.specs.Judging.{refusal_numbers};
+ghost use Rattle.mapping.specs.Answered.{refused_by};
 ghost use Rattle.mapping.specs.Mapping.{refusal_for, length_for, plan_after};
 
 use draft::put_plan;
-use entries::{Fault, Refusal, judge};
+use entries::{Refusal, judge};
 
-// The largest plan file.
+// The bytes of the largest plan file.
 const LEAST_ROOM: usize = 54446;
 
 // A refusal's number with its list (1 sites, 2 zones, 0 neither) and row, from 1; or 0, and the length of the file.
@@ -33,17 +34,15 @@ fn refused(refusal: u32, list: u32, row: usize) -> Mapped
     }
 }
 
-// The number of a fault for the C interface.
-// "51 malformed row, 52 number out of its range, 53 repeated code or zone, 54 unlisted zone, 55 zone without sites"
-fn number(fault: Fault) -> u32
-    ensures { result ≡ fault_number fault }
-{
-    match fault {
-        Fault::Malformed => 51,
-        Fault::OutOfRange => 52,
-        Fault::Repeated => 53,
-        Fault::Unlisted => 54,
-        Fault::Unused => 55,
+impl From<Refusal> for Mapped {
+    ghost from_gives = { λ refusal m. m ≡ refused_by (refusal_numbers refusal) };
+
+    fn from(refusal: Refusal) -> Mapped {
+        match refusal {
+            Refusal::Site(at) => refused(u32::from(at.fault), 1, at.row),
+            Refusal::Zone(at) => refused(u32::from(at.fault), 2, at.row),
+            Refusal::Size => refused(4, 0, 0),
+        }
     }
 }
 
@@ -59,9 +58,7 @@ pub extern "C" fn planner_map_csv(sites: &[u8], zones: &[u8], plan: &mut [u8]) -
         return refused(21, 0, 0);
     }
     match judge(sites, zones) {
-        Err(Refusal::Site(at)) => refused(number(at.fault), 1, at.row),
-        Err(Refusal::Zone(at)) => refused(number(at.fault), 2, at.row),
-        Err(Refusal::Size) => refused(4, 0, 0),
+        Err(refusal) => Mapped::from(refusal),
         Ok(n) => Mapped {
             refusal: 0,
             list: 0,

@@ -4,7 +4,10 @@ use Prim.Native.Nat.{ℕ, suc, ◌+◌, ◌*◌, ◌-◌, ◌≤◌, ◌<◌}
 use native.Mathlib.Nat.{eq-or-lt_of_le, le_refl}
 use native.Mathlib.Omega.{arith}
 use mathlib.Core.Path.{◌≡◌, refl, sym, ap, ap₂, ◌∙◌, subst}
-use mathlib.Core.Bool.{cond}
+use mathlib.Core.Bool.{Bool, true, false, not, cond}
+use borrow.Author.Tests.{ne_eqb}
+use Rattle.std.specs.Prelude.{None, Some}
+use Rattle.std.specs.Option.{is_none}
 use mathlib.Core.Logic.{⊎_elim}
 use mathlib.Core.List.{List, [], ◌∷◌}
 use lib.Dec.{eqb}
@@ -16,7 +19,8 @@ use Rattle.words.specs.Writes.{put_words}
 use Rattle.words.proofs.Writes.{one_word, read_put, read_before, read_behind, length_put_words}
 use Rattle.words.proofs.Words.{length_bytes_of}
 use Rattle.squeezed.proofs.Numbers.{up_suc}
-use Rattle.numbering.specs.Numbered.{code_by, free_to, Numbered}
+use Rattle.fates.specs.Codes.{off_code, on_code}
+use Rattle.numbering.specs.Numbered.{code_by, lock_of, code_in, free_to, Numbered}
 
 -- ---- words of a table, one of them written
 
@@ -36,6 +40,37 @@ module _ (s : List ℕ) (i v : ℕ) (room : 4 * i + 4 ≤ length s) where
       ∙ read_behind 4 (4 * i) (4 * j) _ s (omega arith) (omega (arith, length_bytes_of 4 v))
 
 -- ---- numbering
+
+-- The lock of a word, by the word.
+pub lock_0 : (w : ℕ) → w ≡ 0 → None ≡ lock_of w
+unfolding lock_of
+lock_0 w e = rw e
+
+pub lock_1 : (w : ℕ) → w ≡ 1 → Some false ≡ lock_of w
+unfolding lock_of
+lock_1 w e = rw e
+
+pub lock_2 : (w : ℕ) → (w ≡ 0 → ⊥) → (w ≡ 1 → ⊥) → Some true ≡ lock_of w
+unfolding lock_of
+lock_2 w a b = rw (ne_eqb w 0 a, ne_eqb w 1 b)
+
+-- Counting and coding by it are those by the word.
+pub none_by : (w before : ℕ) → before + cond (is_none (lock_of w)) 1 0 ≡ before + cond (eqb w 0) 1 0
+unfolding lock_of
+none_by w before = by (eqb w 0)
+  where
+    by : (t : Bool) → before + cond (is_none (cond t None (Some (not (eqb w 1))))) 1 0 ≡ before + cond t 1 0
+    by true = refl
+    by false = refl
+
+pub coded_by : (w k : ℕ) → code_in (lock_of w) k ≡ code_by w k
+unfolding lock_of code_by
+coded_by w k = by (eqb w 0) (eqb w 1)
+  where
+    by : (s t : Bool) → code_in (cond s None (Some (not t))) k ≡ cond s k (cond t off_code on_code)
+    by true t = refl
+    by false true = refl
+    by false false = refl
 
 free_few : (m : List ℕ) (x : ℕ) → free_to m x ≤ x
 unfolding free_to

@@ -1,6 +1,6 @@
 -- Words of locks turned into codes, and the variables with a new number.
 -- Assumes nothing.
-use Rattle.std.specs.Prelude.{ℕ, ◌≤◌, ◌<◌, ◌≡◌, Bool, not, cond, List, [], ◌∷◌, eqb}
+use Rattle.std.specs.Prelude.{ℕ, ◌≤◌, ◌<◌, ◌≡◌, Bool, not, cond, List, [], ◌∷◌, eqb, Option, None, Some}
 use Rattle.plpb.specs.Lists.{◌and◌, count, row}
 use Rattle.words.specs.Words.{word_at}
 use Rattle.fates.specs.Codes.{off_code, on_code}
@@ -8,6 +8,14 @@ use Rattle.fates.specs.Codes.{off_code, on_code}
 -- A variable's code, by the word of its lock: 0 for unlocked, 1 for locked at 0, 2 for locked at 1.
 unfoldable pub code_by : ℕ → ℕ → ℕ
 code_by lock number = cond (eqb lock 0) number (cond (eqb lock 1) off_code on_code)
+
+-- The lock that such a word tells, and the code by the lock.
+unfoldable pub lock_of : ℕ → Option Bool
+lock_of word = cond (eqb word 0) None (Some (not (eqb word 1)))
+
+abbrev pub code_in : Option Bool → ℕ → ℕ
+code_in None number = number
+code_in (Some value) number = cond value on_code off_code
 
 -- How many of the first x variables are unlocked.
 unfoldable pub free_to : List ℕ → ℕ → ℕ

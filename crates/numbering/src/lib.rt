@@ -1,35 +1,49 @@
 // New numbers for the unlocked variables of a plan file: "renumber the unlocked variables (all kept) by rising number".
+// Map and list are lent one by one to be written, whole, since the lengths that are asked of them are those of the full limits.
 #![tactic(auto)]
 
-ghost use Rattle.std.specs.Prelude.{◌≡◌, cond, [], ◌∷◌, ℕ, ◌+◌, ◌*◌, ◌≤◌, ◌<◌, eqb, length};
+ghost use Rattle.std.specs.Prelude.{◌≡◌, cond, [], ◌∷◌, ℕ, ◌+◌, ◌*◌, ◌≤◌, ◌<◌, length};
+ghost use Rattle.std.specs.Option.{is_none};
 ghost use Rattle.plpb.specs.Lists.{row, keep};
 ghost use Rattle.words.specs.Words.{word_at, word_bytes};
 ghost use Rattle.words.specs.Writes.{put_words};
 ghost use Rattle.format.specs.Limits.{max_variables};
 ghost use Rattle.format.specs.Tables.{pad_to};
-ghost use Rattle.tables.specs.Places.{Accepts, plan_of_file};
+ghost use Rattle.tables.specs.Places.{plan_of_file};
 ghost use Rattle.squeezed.specs.Squeezed.{becomes, unlocked};
 ghost use Rattle.fates.specs.Codes.{decoded, map_size};
-ghost use Rattle.numbering.specs.Numbered.{code_by, Numbered, is_number, list_one};
+ghost use Rattle.numbering.specs.Numbered.{lock_of, code_in, Numbered, is_number, list_one};
 
 use fates::map::{Code, Map};
+use tables::Lawful;
 
-// Counts a variable, by the word of its lock: 0 for unlocked, 1 for locked at 0, 2 for locked at 1.
-fn counted(lock: u32, before: u32) -> u32
-    requires { before < 4_294_967_295 }
-    ensures { result ≡ before + cond (eqb lock 0) 1 0 }
+// The lock that a word of the tables tells: 0 for unlocked, 1 for locked at 0, 2 for locked at 1.
+fn lock_of(word: u32) -> Option<bool>
+    ensures { result ≡ lock_of word }
 {
-    if lock == 0 { before + 1 } else { before }
+    match word {
+        0 => None,
+        1 => Some(false),
+        _ => Some(true),
+    }
 }
 
-// Its code.
-fn code_of(lock: u32, number: u32) -> u32
-    ensures { result ≡ code_by lock number }
+// How many variables are unlocked, with another.
+fn counted(lock: Option<bool>, before: u32) -> u32
+    requires { before < 4_294_967_295 }
+    ensures { result ≡ before + cond (is_none lock) 1 0 }
 {
-    if lock == 0 {
-        return number;
+    if lock.is_none() { before + 1 } else { before }
+}
+
+// The word of a map that says what becomes of a variable.
+fn code_of(lock: Option<bool>, number: u32) -> u32
+    ensures { result ≡ code_in lock number }
+{
+    match lock {
+        None => number,
+        Some(value) => { if value { fates::ON } else { fates::OFF } }
     }
-    if lock == 1 { fates::OFF } else { fates::ON }
 }
 
 // How many variables there are goes with a map, since a map has a word for each number that there may be.
@@ -41,7 +55,7 @@ fn number(map: &mut [u8], n: usize) -> u32
 {
     let mut free: u32 = 0;
     for x in 1..n + 1 {
-        let lock = words::word(map, x);
+        let lock = lock_of(words::word(map, x));
         free = counted(lock, free);
         words::write_word(map, x, code_of(lock, free));
     }
@@ -49,15 +63,14 @@ fn number(map: &mut [u8], n: usize) -> u32
 }
 
 // Fills a map from a file; it answers how many variables are unlocked.
-pub fn fill(file: &[u8], map: &mut [u8]) -> u32
-    requires accepts { Accepts file.now }
+pub fn fill(lawful: Lawful<'_>, map: &mut [u8]) -> u32
     requires map_len { length map.old ≡ map_size }
-    ensures { ((x : ℕ) → decoded map.new x ≡ becomes (plan_of_file file.now) x)
-        × (result ≡ length (unlocked (plan_of_file file.now))) }
+    ensures { ((x : ℕ) → decoded map.new x ≡ becomes (plan_of_file lawful.entry.file.now) x)
+        × (result ≡ length (unlocked (plan_of_file lawful.entry.file.now))) }
 {
     words::write_word(map, 0, 0);
-    tables::sections::lock_section(file, &mut map[4..fates::MAP]);
-    number(map, words::read_size(file, 3))
+    lawful.lock_section(&mut map[4..fates::MAP]);
+    number(map, words::read_size(lawful.file, 3))
 }
 
 // Writes a variable at an index of a list if it has a new number; it answers the next index.
@@ -67,8 +80,7 @@ fn list_one(map: Map<'_>, x: usize, list: &mut [u8], i: usize) -> usize
         × (result ≡ i + length (list_one map.entry.words.now x)) }
 {
     match map.code(x) {
-        Code::Off => i,
-        Code::On => i,
+        Code::Locked(_) => i,
         Code::New(_) => {
             words::write_word(list, i, words::narrow(x));
             i + 1
@@ -76,7 +88,8 @@ fn list_one(map: Map<'_>, x: usize, list: &mut [u8], i: usize) -> usize
     }
 }
 
-// "in a lent list, which old variable each new one was, 0 in unused places". Their number goes with the map here too.
+// "in a lent list, which old variable each new one was, 0 in unused places". Their number goes with the map here too. The index
+// goes on behind the loop, where the list is cleared from it on.
 pub fn list_old(map: Map<'_>, n: usize, list: &mut [u8])
     requires { (n ≤ max_variables) × (length list.old ≡ 2_048) }
     ensures { list.new ≡ word_bytes (pad_to 512 (keep (λ x. is_number (word_at map.entry.words.now x)) (row 1 n))) }

@@ -17,7 +17,8 @@ use Rattle.fates.specs.Rest.{Rest, Ran}
 use Rattle.fates.proofs.Resting.{rest_clause, rest_opened, no_clauses, rest_room}
 use Rattle.rewriting.specs.Written.{rules_written, clauses_written}
 use Rattle.rewriting.specs.Moved.{Laid, RulesMoved, ClauseMoved, ClausesMoved}
-use Rattle.rewriting.proofs.Putting.{put_on, drop_put, Laying, laying_start, laying_more, laying_done}
+use Rattle.fields.proofs.Writing.{put_on}
+use Rattle.rewriting.proofs.Putting.{drop_put, Laying, laying_start, laying_more, laying_done}
 use Rattle.rewriting.proofs.Rulewise.{laid_none, rest_same}
 
 -- ---- one clause

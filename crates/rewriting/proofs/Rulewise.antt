@@ -22,14 +22,16 @@ use Rattle.format.proofs.Sizes.{length_rules}
 use Rattle.tables.specs.Places.{behind_field}
 use Rattle.squeezed.specs.Squeezed.{Becomes, put_in, possible, trimmed, rules_left}
 use Rattle.squeezed.proofs.Lawful.{fewer_rules, rules_terms}
-use Rattle.fates.specs.Rules.{as_bound, Fated, RuleFits}
+use Rattle.counting.specs.Bound.{bound_of as as_bound}
+use Rattle.fates.specs.Rules.{Fated, RuleFits}
 use Rattle.fates.specs.declared.bounds.Bounds.{Bounds}
 use Rattle.fates.specs.Rest.{Rest}
 use Rattle.fates.proofs.Judging.{rule_terms}
 use Rattle.fates.proofs.Resting.{rest_rule, rest_none, no_rules}
 use Rattle.rewriting.specs.Written.{terms_written, rules_written}
 use Rattle.rewriting.specs.Moved.{Laid, RulesMoved}
-use Rattle.rewriting.proofs.Putting.{put_before, drop_put, put_none, Laying, laying_start, laying_more, laying_done}
+use Rattle.fields.proofs.Writing.{put_before, put_none}
+use Rattle.rewriting.proofs.Putting.{drop_put, Laying, laying_start, laying_more, laying_done}
 
 -- Nothing written; and the same by another name.
 pub laid_none : (s : List ℕ) (to : ℕ) {bytes : List ℕ} → bytes ≡ [] → Laid s to bytes s to
@@ -86,7 +88,7 @@ rule_laid_as s to m lo up ts {y = y} {end = end} d a b c h p q r e =
 
 -- "an absent bound is written 0"
 pub bound_written : (o : Option ℤ) → unwrap_or o (pos 0) ≡ bound_number (as_bound o)
-unfolding bound_number as_bound
+unfolding bound_number
 bound_written None = refl
 bound_written (Some b) = refl
 

@@ -24,7 +24,8 @@ use Rattle.fates.specs.Codes.{decoded}
 use Rattle.fates.specs.Sums.{small_terms}
 use Rattle.fates.proofs.Parts.{small_at}
 use Rattle.rewriting.specs.Written.{terms_written}
-use Rattle.rewriting.proofs.Putting.{drop_put, same_num, put_none, Laying, laying_start, laying_more, laying_done}
+use Rattle.fields.proofs.Writing.{put_none}
+use Rattle.rewriting.proofs.Putting.{drop_put, same_num, Laying, laying_start, laying_more, laying_done}
 
 -- ---- one term
 

@@ -8,7 +8,6 @@ ghost use Rattle.fates.specs.Maps.{codes};
 ghost use Rattle.fates.specs.Sums.{small_terms};
 ghost use Rattle.rewriting.specs.Written.{terms_written};
 
-use crate::fields;
 use fates::map::{Code, Map};
 
 // File and place stay two parameters: the file is written while the map is only read, and a struct that held it would have to say in each contract that it is
@@ -21,11 +20,10 @@ fn keep_term(file: &mut [u8], at: usize, map: Map<'_>, to: usize) -> usize
         × (result ≡ to + length (terms_written (codes map.entry) (term_at file.old at ∷ []))) }
 {
     match map.code(words::read_size(file, at)) {
-        Code::Off => to,
-        Code::On => to,
+        Code::Locked(_) => to,
         Code::New(number) => {
             let weight = words::read_u32(file, at + 2);
-            fields::put_term(file, to, number, weight);
+            fields::put_term(file, to, number as usize, weight);
             to + 6
         }
     }

@@ -25,7 +25,9 @@ pub enum Column {
     Fourth,
 }
 
-// A row's fields and what follows it in the list; the fourth is empty in a row of three.
+// A row's fields and what follows it in the list. The fourth of a row of three is the empty value, as the grammar has it of a column that is not there
+// (`column_of`): each reader of an absent one would turn it into that value.
+// Which record a row holds is asked in each clause: the record is the grammar's, and a field of the row would have to name it.
 #[derive(Clone, Copy)]
 pub struct Row<'a> {
     pub first: Value,
@@ -35,7 +37,9 @@ pub struct Row<'a> {
     pub rest: &'a [u8],
 }
 
-// record = field *(COMMA field), of as many fields as the list has columns. None is a malformed row: it takes the rest of the list.
+// record = field *(COMMA field), of as many fields as the list has columns. None is a malformed row: it takes the rest of the list. The two arms differ in
+// which field ends the row, the third or the fourth. List and kind come side by side: the list is read off row by row while the kind stays, so that a struct
+// of the two would be made anew at each row.
 pub fn read_row(s: &[u8], listed: Listed) -> Option<Row<'_>>
     ensures { Reads (row_of (columns (is_zones listed)) s.now) result }
 {
@@ -78,13 +82,15 @@ pub fn field_in(row: Row<'_>, which: Column) -> Value
     }
 }
 
-// Whether one of a list's first rows has a value in a column.
+// Whether one of a list's first rows has a value in a column. How many rows goes beside the list, since where a row ends is known only when it has been read:
+// there is no part of the list to lend in place of the two. It is a loop and no iterator's `any`, for a row that is read is the numbers that its fields are
+// gathered into: an iterator would have to list those in its contract, and each caller to tell the grammar's rows by them.
 pub fn among(s: &[u8], listed: Listed, rows: usize, which: Column, value: Value) -> bool
     requires { rows ≤ length (rows_of (columns (is_zones listed)) s.now) }
     ensures { result ≡ any (λ x. same_value (gather (column_of (place which) x)) value) (take rows (rows_of (columns (is_zones listed)) s.now)) }
 {
     let mut rest = s;
-    for k in 0..rows {
+    for _row in 0..rows {
         // A malformed row is empty in each column, and no row follows it.
         let Some(row) = read_row(rest, listed) else {
             return same(empty(), value);

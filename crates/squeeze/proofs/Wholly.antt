@@ -16,7 +16,7 @@ use Rattle.format.specs.Tables.{pad_with, pad_to}
 use Rattle.format.proofs.Places.{length_field}
 use Rattle.squeezed.specs.Squeezed.{Becomes}
 use Rattle.rewriting.specs.Written.{clauses_written}
-use Rattle.rewriting.proofs.Putting.{put_on, put_before}
+use Rattle.fields.proofs.Writing.{put_on, put_before}
 use Rattle.rewriting.proofs.Clausewise.{head_put, head_long}
 use Rattle.squeeze.specs.Rewritten.{front_bytes, file_bytes}
 

@@ -1,4 +1,5 @@
 // A plan file squeezed in its own buffer (document 02, T-12). All is decided on the untouched file; then list and file are written.
+// The buffers to write come one by one: one is read while another is written, which a struct of them would not let be proved.
 #![tactic(auto)]
 
 ghost use Rattle.std.specs.Prelude.{◌≡◌, Some, cond, ◌≤◌, eqb, pos, length};
@@ -6,7 +7,6 @@ ghost use Rattle.plpb.specs.Lists.{any, is_empty, keep, row};
 ghost use Rattle.words.specs.Words.{word_at, word_bytes};
 ghost use Rattle.words.specs.Writes.{front};
 ghost use Rattle.format.specs.Tables.{pad_to};
-ghost use Rattle.verdict.specs.Answers.{refusal_of, offset_of};
 ghost use Rattle.tables.specs.Places.{Accepts, plan_of_file};
 ghost use Rattle.squeezed.specs.Squeezed.{given_total, clauses_left};
 ghost use Rattle.fates.specs.Codes.{map_size};
@@ -15,9 +15,10 @@ ghost use Rattle.numbering.specs.Numbered.{is_number};
 ghost use Rattle.squeeze.specs.Calls.{list_size, Answers, fault_number, squeezing, outcome};
 ghost use Rattle.squeeze.specs.Rewritten.{file_bytes};
 
+use fates::clause;
 use fates::map::Map;
-use fates::sums::Part;
-use fates::{clause, sums};
+use fates::terms::Terms;
+use tables::Lawful;
 use verdict::Refusal;
 
 mod rewrite;
@@ -36,23 +37,16 @@ pub struct Squeezed {
     pub constant: i64,
 }
 
-fn refused(refusal: u32, offset: usize) -> Squeezed
-    ensures { (result.refusal ≡ refusal) × (result.offset ≡ offset) × (result.length ≡ 0) × (result.constant ≡ pos 0) }
-{
-    Squeezed {
-        refusal,
-        offset,
-        length: 0,
-        constant: 0,
-    }
-}
+impl From<Refusal> for Squeezed {
+    ghost from_gives = { λ refusal s. (s.refusal ≡ refusal.number) × (s.offset ≡ refusal.offset) × (s.length ≡ 0) × (s.constant ≡ pos 0) };
 
-fn refused_by(verdict: Result<(), Refusal>) -> Squeezed
-    ensures { (result.refusal ≡ refusal_of verdict) × (result.offset ≡ offset_of verdict) × (result.length ≡ 0) × (result.constant ≡ pos 0) }
-{
-    match verdict {
-        Ok(()) => refused(0, 0),
-        Err(refusal) => refused(refusal.number, refusal.offset),
+    fn from(refusal: Refusal) -> Squeezed {
+        Squeezed {
+            refusal: refusal.number,
+            offset: refusal.offset,
+            length: 0,
+            constant: 0,
+        }
     }
 }
 
@@ -63,16 +57,22 @@ enum Unfit {
     ClauseLost,
 }
 
-// The number of a fault for the C interface.
-fn number_of(fault: Unfit) -> u32
-    ensures { result ≡ fault_number (Some fault) }
-{
-    match fault {
-        Unfit::AllLocked => 71,
-        Unfit::ClauseLost => 72,
+// The refusal of a plan that cannot be squeezed: no byte of its file is at fault.
+impl From<Unfit> for Refusal {
+    ghost from_gives = { λ fault r. (r.number ≡ fault_number (Some fault)) × (r.offset ≡ 0) };
+
+    fn from(fault: Unfit) -> Refusal {
+        let number = match fault {
+            Unfit::AllLocked => 71,
+            Unfit::ClauseLost => 72,
+        };
+        Refusal { number, offset: 0 }
     }
 }
 
+// What stands against squeezing a plan, if anything does. Here and below the file is a slice with a clause and no `Lawful`: that each byte of a slice is one,
+// which what is read of a whole plan rests on, is known of a slice that comes by itself, and has no proof of one in a struct.
+// It answers a fault or none and no `Result`: its one caller opens it at once, and the definition has the number of either.
 fn fault(file: &[u8], map: Map<'_>, variables: u32) -> Option<Unfit>
     requires accepts { Accepts file.now }
     ensures { fault_number result ≡ cond (eqb variables 0) 71
@@ -92,12 +92,18 @@ fn constant(file: &[u8], map: Map<'_>) -> i64
     requires accepts { Accepts file.now }
     ensures { result ≡ given_total (codes map.entry) (plan_of_file file.now).objective }
 {
-    let count = words::read_size(file, 6) / 6;
-    i64::from(sums::sum(file, 8, count, map, Part::Given))
+    let terms = Terms {
+        file,
+        from: 8,
+        count: words::read_size(file, 6) / 6,
+        map,
+    };
+    i64::from(terms.given())
 }
 
 // Carries a squeeze out. File and list stay parameters of their own, since both are written, and a struct that held them would have to say in each contract
-// that they are still the same ones.
+// that they are still the same ones. The file that is written is no `Lawful` either, which lends it to be read alone:
+// that it is accepted stays a clause, here and where it is rewritten.
 fn carry_out(file: &mut [u8], map: Map<'_>, variables: u32, old: &mut [u8]) -> Squeezed
     requires accepts { Accepts file.old }
     requires list_len { list_size ≤ length old.old }
@@ -128,27 +134,30 @@ fn squeeze_by(file: &mut [u8], map: &mut [u8], old: &mut [u8]) -> Squeezed
     ensures file_after { file.new ≡ (squeezing (plan_of_file file.old) file.old old.old).file }
     ensures after { old.new ≡ (squeezing (plan_of_file file.old) file.old old.old).old }
 {
-    let variables = numbering::fill(file, map);
+    let variables = numbering::fill(Lawful { file }, map);
     let map = Map { words: map };
     match fault(file, map, variables) {
-        Some(fault) => refused(number_of(fault), 0),
+        Some(fault) => Squeezed::from(Refusal::from(fault)),
         None => carry_out(file, map, variables, old),
     }
 }
 
-// "Turned away, with nothing changed: 21 for a list below 512 places, the file's own, then 71 [..], then 72".
+// "Turned away, with nothing changed: 21 for a list below 512 places, the file's own, then 71 [..], then 72". Each refusal becomes the record where it is met:
+// a `Result` in between would be opened again at once, and three clauses would have to be said of either side of it.
 pub fn squeeze(file: &mut [u8], old: &mut [u8]) -> Squeezed
     ensures answers { Answers result (outcome file.old old.old) }
     ensures file_after { file.new ≡ (outcome file.old old.old).file }
     ensures after { old.new ≡ (outcome file.old old.old).old }
 {
     if old.len() < LIST {
-        return refused(21, 0);
+        return Squeezed::from(Refusal {
+            number: 21,
+            offset: 0,
+        });
     }
-    let verdict = judge::judge(file);
-    let Ok(()) = verdict else {
-        return refused_by(verdict);
-    };
+    if let Err(refusal) = judge::judge(file) {
+        return Squeezed::from(refusal);
+    }
     let mut map = [0u8; fates::MAP];
     squeeze_by(file, &mut map, old)
 }

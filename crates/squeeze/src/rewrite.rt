@@ -8,7 +8,8 @@ ghost use Rattle.fates.specs.Maps.{codes};
 ghost use Rattle.squeeze.specs.Rewritten.{front_bytes, file_bytes};
 
 use fates::map::Map;
-use rewriting::{fields, rules, terms};
+use format::Tag;
+use rewriting::{rules, terms};
 
 // File and map stay parameters of their own: the file is written, and a struct that held it would have to say in each contract that it is still the same one.
 
@@ -20,9 +21,9 @@ fn put_front(file: &mut [u8], map: Map<'_>, variables: u32) -> usize
 {
     let count = words::read_size(file, 6) / 6;
     let end = terms::keep_terms(file, 8, count, map, 8);
-    fields::put_head(file, 5, 2, end - 8);
+    fields::put_head(file, 5, Tag::Objective as u8, end - 8);
     words::write_u16(file, 3, variables as usize);
-    fields::put_head(file, 0, 1, 2);
+    fields::put_head(file, 0, Tag::Variables as u8, 2);
     end
 }
 
@@ -32,7 +33,7 @@ fn put_end(file: &mut [u8], at: usize) -> usize
     ensures { (file.new ≡ put at (field 5 [] ++ replicate (length file.old - (at + 3)) 0) file.old)
         × (result ≡ at + 3) }
 {
-    fields::put_head(file, at, 5, 0);
+    fields::put_head(file, at, Tag::End as u8, 0);
     let end = at + 3;
     words::clear(&mut file[end..]);
     end

@@ -9,6 +9,6 @@ use Rattle.lists.specs.Refusals.{site_rows, zone_rows}
 use Rattle.draft.specs.Draft.{clauses_of, Wrote}
 use Rattle.draft.proofs.put_clauses.Given as goal
 
-abbrev pub invariant-loop-k : goal.invariant-loop-k
-invariant-loop-k l =
-    Place true l.zones l.k l.rest × (l.k ≤ l.m) × (length l.out ≡ length l.initial.out) × Wrote l.from (clauses_of (site_rows l.sites.list.now) (take l.k (zone_rows l.zones))) l.initial.out l.out l.to
+abbrev pub invariant-loop-row : goal.invariant-loop-row
+invariant-loop-row l =
+    Place true l.zones l._row l.rest × (l._row ≤ l.m) × (length l.out ≡ length l.initial.out) × Wrote l.from (clauses_of (site_rows l.sites.list.now) (take l._row (zone_rows l.zones))) l.initial.out l.out l.to

@@ -1,7 +1,6 @@
 -- `draft::put_plan` meets its contract: the front, the clauses and the end.
 -- Assumes nothing.
 use native.Mathlib.Omega.{arith}
-use mathlib.Core.Path.{◌∙◌}
 use mathlib.Core.List.{[]}
 use Rattle.format.specs.Writer.{field}
 use Rattle.lists.specs.Refusals.{site_rows, zone_rows}
@@ -27,8 +26,8 @@ put_clauses-last-requires c =
       omega (arith, c.put_front-end.ensures.1, c.put_front-end.auto.out, clauses_small S Z c.requires.0, sites_few S Z c.requires.0, c.requires.1, c.requires.3),
     )
 
-pub write_head-requires : goal.write_head-requires
-write_head-requires c =
+pub put_head-requires : goal.put_head-requires
+put_head-requires c =
     let S = site_rows c.args.sites.now in
     let Z = zone_rows c.args.zones.now in
     omega
@@ -52,10 +51,7 @@ returns c =
     let few = sites_few S Z c.requires.0 in
     let two = wrote_more o 0 _ (clauses_of S Z) first.0 (omega (arith, first.0.behind, first.1, few, c.requires.1, c.requires.3)) more in
     file_wrote S Z c.args.n.sites c.requires.1
-    (wrote_more o 0 _ (field 5 []) two (omega (arith, two.behind, more.behind, first.1, small, few, c.requires.1, c.requires.3)) (end_wrote _ _ c.write_head.ensures))
-
-pub shape_of-out : goal.shape_of-out
-shape_of-out c = c.write_head.auto.out ∙ c.put_clauses-last.auto.out ∙ c.put_front-end.auto.out
+    (wrote_more o 0 _ (field 5 []) two (omega (arith, two.behind, more.behind, first.1, small, few, c.requires.1, c.requires.3)) (end_wrote _ _ c.put_head.ensures))
 
 pub invariant_of-sites : goal.invariant_of-sites
 invariant_of-sites c =

@@ -8,4 +8,4 @@ pub returns-then-weight-eq0 : goal.returns-then-weight-eq0
 returns-then-weight-eq0 c = (term_none _ _ _ _ c.if-weight-eq0.true, omega arith)
 
 pub returns : goal.returns
-returns c = (term_some _ _ _ _ c.if-weight-eq0.false c.write_term.ensures, omega arith)
+returns c = (term_some _ _ _ _ c.if-weight-eq0.false c.put_term.ensures, omega arith)

@@ -1,27 +1,19 @@
 -- The goals that the search leaves.
-use Prim.Native.Nat.{ℕ, ◌≤◌, ◌<◌}
+use Prim.Native.Nat.{◌≤◌, ◌<◌}
 use native.Mathlib.Omega.{arith}
-use mathlib.Core.Path.{◌≡◌, refl, sym, ap, ◌∙◌}
+use mathlib.Core.Path.{refl, sym, ◌∙◌}
 use mathlib.Core.Bool.{false}
-use lib.ListN.{length, take}
-use lib.Seq.{take-length}
+use lib.ListN.{length}
 use Rattle.rows.proofs.Rows.{more_bytes, row_held, place_next}
 use Rattle.lists.specs.Refusals.{site_rows}
 use Rattle.lists.proofs.RowBytes.{rows_bytes}
 use Rattle.entries.proofs.Rows.{well_own, well_read, row_read}
-use Rattle.std.specs.Option.{is_some}
-use Rattle.draft.specs.Draft.{terms_of}
 use Rattle.draft.proofs.Writing.{wrote_none, wrote_more, wrote_as}
 use Rattle.draft.proofs.Terms.{terms_next, terms_none}
 use Rattle.draft.proofs.put_terms.Goals as goal
 
 pub loop-k-init : goal.loop-k-init
 loop-k-init c = (refl, omega arith, omega arith, omega arith, refl, λ name h. wrote_as (sym (terms_none _ name (site_rows c.args.sites.list.now))) (wrote_none _ _))
-
-pub put_term-to-requires : goal.put_term-to-requires
-put_term-to-requires c =
-    let at = c.loop-k in
-    omega (arith, at.invariant.2, at.invariant.4, c.loop-k-test.true, c.requires)
 
 pub loop-k-preserved : goal.loop-k-preserved
 loop-k-preserved c =
@@ -45,22 +37,6 @@ loop-k-preserved c =
           (c.weight-w.ensures _ name held.second_is held.third_is (λ which. rows_bytes 3 s at.k which) (well_own false s c.args.sites.well at.k m) h)))
           (wrote_more _ _ _ _ (at.invariant.5 name h) (omega (arith, (at.invariant.5 name h).behind, room)) wrote.0),
     )
-
-pub returns : goal.returns
-returns c =
-    let at = c.loop-k in
-    let S = site_rows c.args.sites.list.now in
-    let e : at.k ≡ length S = omega (arith, at.invariant.1, c.loop-k-test.false, c.args.sites.counted) in (
-      λ name h. wrote_as (ap (λ (j : ℕ). terms_of (is_some c.args.zone) name (take j S)) e ∙ ap (terms_of (is_some c.args.zone) name) (take-length S)) (at.invariant.5 name h),
-      omega (arith, at.invariant.2, at.invariant.1),
-      at.invariant.3,
-    )
-
-pub overflow_add-k : goal.overflow_add-k
-overflow_add-k c = omega arith
-
-pub shape_of-out : goal.shape_of-out
-shape_of-out c = c.loop-k.invariant.4
 
 pub unwrap-row-requires : goal.unwrap-row-requires
 unwrap-row-requires c =

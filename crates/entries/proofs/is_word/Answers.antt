@@ -1,14 +1,15 @@
 -- `entries::is_word` meets its contract.
 -- Assumes nothing.
-use Rattle.std.proofs.Common.{arith}
-use Rattle.std.proofs.lemmas.Bool.Decides.{nat_tests}
+use mathlib.Core.Path.{◌≡◌, refl, ◌∙◌}
+use mathlib.Core.Bool.{Bool, true, false, ◌&&◌}
 use Rattle.plpb.specs.Lists.{◌and◌}
 use Rattle.entries.proofs.is_word.Goals as goal
 
-pub returns-then-v-word : goal.returns-then-v-word
+both : (a b d : Bool) → (a && b && d) ≡ (a and b and d)
 unfolding ◌and◌
-returns-then-v-word c = grind (arith, nat_tests)
+both true true d = refl
+both true false d = refl
+both false b d = refl
 
-pub returns-else-v-word : goal.returns-else-v-word
-unfolding ◌and◌
-returns-else-v-word c = grind (arith, nat_tests)
+pub returns : goal.returns
+returns c = c.eq.ensures ∙ both _ _ _

@@ -3,11 +3,8 @@ use native.Mathlib.Omega.{arith}
 use mathlib.Core.Path.{refl, sym, ◌∙◌}
 use Rattle.entries.specs.declared.Fault.TheVariants.{Malformed, Repeated}
 use Rattle.rows.proofs.Rows.{no_bytes_lem}
-use Rattle.entries.proofs.Rows.{bytes_left, none_left, judge_start, judge_end, some_fault, at_fault, broken_fits, stop_malformed, row_here, row_fits, row_next, stop_own, stop_53, go_on}
+use Rattle.entries.proofs.Rows.{bytes_left, none_left, judge_end, some_fault, at_fault, broken_fits, stop_malformed, row_here, row_fits, row_next, stop_own, stop_53, go_on}
 use Rattle.entries.proofs.judge_list.Goals as goal
-
-pub loop-rest-init : goal.loop-rest-init
-loop-rest-init c = (refl, judge_start _ _)
 
 pub at_row-requires : goal.at_row-requires
 at_row-requires c = omega (arith, broken_fits _ _ _ _ c.loop-rest.invariant.0 (bytes_left _ c.is_empty.ensures c.loop-rest-test.true) c.in_default.ensures)

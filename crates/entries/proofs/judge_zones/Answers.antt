@@ -1,18 +1,11 @@
 -- The goals that the search leaves.
 use native.Mathlib.Omega.{arith}
-use native.Mathlib.Nat.{le_of_eq}
-use mathlib.Core.Path.{refl, sym, ap, ◌∙◌}
+use mathlib.Core.Path.{sym, ap, ◌∙◌}
 use Rattle.rows.proofs.Rows.{no_bytes_lem}
 use Rattle.lists.specs.Refusals.{Judged}
 use Rattle.entries.specs.Judging.{fault_number}
-use Rattle.entries.proofs.Rows.{bytes_left, none_left, judge_start, judge_end, some_fault, at_fault, well_read, row_read, row_here, row_fits, row_next, stop_missing, go_listed}
+use Rattle.entries.proofs.Rows.{bytes_left, none_left, judge_end, some_fault, at_fault, well_read, row_read, row_here, row_fits, row_next, stop_missing, go_listed}
 use Rattle.entries.proofs.judge_zones.Goals as goal
-
-pub loop-rest-init : goal.loop-rest-init
-loop-rest-init c = (refl, judge_start _ _)
-
-pub among-requires : goal.among-requires
-among-requires c = rw c.beside-other_list.ensures (le_of_eq c.requires.1)
 
 pub unwrap-row-requires : goal.unwrap-row-requires
 unwrap-row-requires c = well_read _ _ _ _ c.loop-rest.invariant.0 (bytes_left _ c.is_empty.ensures c.loop-rest-test.true) c.requires.0 _ c.read_row.ensures

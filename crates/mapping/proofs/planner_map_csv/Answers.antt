@@ -3,10 +3,7 @@
 use native.Mathlib.Omega.{arith}
 use mathlib.Core.Path.{refl, sym, ap, ◌∙◌}
 use Rattle.lists.specs.Refusals.{Refusal}
-use Rattle.entries.specs.declared.Refusal.TheVariants.{Site, Zone, Size}
-use Rattle.entries.specs.Judging.{refusal_numbers}
-use Rattle.entries.proofs.Rows.{some_fault}
-use Rattle.mapping.proofs.Answers.{small_room, room, says_refused, says_err, says_accepted}
+use Rattle.mapping.proofs.Answers.{some_refusal, small_room, room, says_refused, says_err, says_accepted}
 use Rattle.mapping.proofs.planner_map_csv.Goals as goal
 
 pub returns-then-plan-lt-LEAST_ROOM : goal.returns-then-plan-lt-LEAST_ROOM
@@ -16,23 +13,12 @@ returns-then-plan-lt-LEAST_ROOM c =
     let whole = says_refused _ _ _ 21 0 0 (sym (ap (λ (f : Refusal). f.number) e)) (sym (ap (λ (f : Refusal). f.list) e)) (sym (ap (λ (f : Refusal). f.row) e)) (λ z. absurd (omega (arith, z)))
     c.refused.ensures in record { refusal_value = whole.0; plan_after = whole.1 }
 
-pub returns-in-Err-Site : goal.returns-in-Err-Site
-returns-in-Err-Site c =
+pub returns-in-Err : goal.returns-in-Err
+returns-in-Err c =
     let a = c.args in
     let e = room a.sites.now a.zones.now a.plan.now c.if-plan-lt-LEAST_ROOM.false in
-    let whole = says_err _ _ _ (Site c.in-Err-Site.at) (some_fault c.in-Err-Site.at.fault) (e ∙ c.in-Err-Site.ensures ∙ ap refusal_numbers c.in-Err-Site.field-0-is) (cc) in record { refusal_value = whole.0; plan_after = whole.1 }
-
-pub returns-in-Err-Zone : goal.returns-in-Err-Zone
-returns-in-Err-Zone c =
-    let a = c.args in
-    let e = room a.sites.now a.zones.now a.plan.now c.if-plan-lt-LEAST_ROOM.false in
-    let whole = says_err _ _ _ (Zone c.in-Err-Zone.at) (some_fault c.in-Err-Zone.at.fault) (e ∙ c.in-Err-Zone.ensures ∙ ap refusal_numbers c.in-Err-Zone.field-0-is) (cc) in record { refusal_value = whole.0; plan_after = whole.1 }
-
-pub returns-in-Err-Size : goal.returns-in-Err-Size
-returns-in-Err-Size c =
-    let a = c.args in
-    let e = room a.sites.now a.zones.now a.plan.now c.if-plan-lt-LEAST_ROOM.false in
-    let whole = says_err _ _ _ Size (λ z. absurd (omega (arith, z))) (e ∙ c.in-Err-Size.ensures ∙ ap refusal_numbers c.in-Err-Size.field-0-is) (cc) in record { refusal_value = whole.0; plan_after = whole.1 }
+    let whole = says_err _ _ _ c.in-Err.refusal (some_refusal c.in-Err.refusal) (e ∙ c.in-Err.ensures) c.from.ensures in
+    record { refusal_value = whole.0; plan_after = whole.1 }
 
 pub returns-in-Ok : goal.returns-in-Ok
 returns-in-Ok c =

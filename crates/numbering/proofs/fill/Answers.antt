@@ -11,19 +11,19 @@ use Rattle.numbering.proofs.fill.Goals as goal
 
 pub read_size-requires : goal.read_size-requires
 unfolding behind_objective
-read_size-requires c = omega (arith, begun_front _ _ c.requires.accepts)
+read_size-requires c = omega (arith, begun_front _ _ c.args.lawful.accepts)
 
 pub number-requires : goal.number-requires
 number-requires c =
-    let variables = c.read_size.ensures ∙ sym (begun_file _ _ c.requires.accepts).variables in (
-      omega (arith, variables, (lawful_file _ _ c.requires.accepts).high),
-      omega (arith, filled_long (plan_of_file c.args.file.now) _ _ _ c.requires.map_len c.write_word.ensures c.lock_section.ensures),
+    let variables = c.read_size.ensures ∙ sym (begun_file _ _ c.args.lawful.accepts).variables in (
+      omega (arith, variables, (lawful_file _ _ c.args.lawful.accepts).high),
+      omega (arith, filled_long (plan_of_file c.args.lawful.file.now) _ _ _ c.requires.map_len c.write_word.ensures c.lock_section.ensures),
     )
 
 pub returns : goal.returns
 returns c =
-    let p = plan_of_file c.args.file.now in
+    let p = plan_of_file c.args.lawful.file.now in
     let l = locks_in_lem p (filled p _ _ _ c.requires.map_len c.write_word.ensures c.lock_section.ensures) in
-    let variables = c.read_size.ensures ∙ sym (begun_file _ _ c.requires.accepts).variables in
-    let few : c.read_size.result ≤ 512 = omega (arith, variables, (lawful_file _ _ c.requires.accepts).high) in
+    let variables = c.read_size.ensures ∙ sym (begun_file _ _ c.args.lawful.accepts).variables in
+    let few : c.read_size.result ≤ 512 = omega (arith, variables, (lawful_file _ _ c.args.lawful.accepts).high) in
     (says p _ _ _ _ l c.number.ensures variables few, counts p _ _ _ _ l c.number.ensures variables few)

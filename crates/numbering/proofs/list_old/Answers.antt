@@ -1,8 +1,6 @@
 -- The goals that the search leaves.
-use Prim.Native.Nat.{◌*◌}
 use native.Mathlib.Omega.{arith}
-use mathlib.Core.Path.{refl, ◌∙◌}
-use Rattle.words.proofs.Writes.{clear_same}
+use mathlib.Core.Path.{refl}
 use Rattle.numbering.proofs.Listing.{listing_start, listing_few, listing_room, listing_same, listing_more, listing_end}
 use Rattle.numbering.proofs.list_old.Goals as goal
 
@@ -30,13 +28,6 @@ slice_bounds-clear-count c = listing_room _ _ _ _ _ _ c.loop-x.invariant c.requi
 
 pub slice_bounds-clear-start : goal.slice_bounds-clear-start
 slice_bounds-clear-start c = listing_room _ _ _ _ _ _ c.loop-x.invariant c.requires.0 c.requires.1
-
-pub slice_bounds-clear-end : goal.slice_bounds-clear-end
-slice_bounds-clear-end c = omega arith
-
-pub shape_of-list : goal.shape_of-list
-shape_of-list c =
-    clear_same (4 * c.loop-x.i) c.loop-x.list _ c.clear.ensures ∙ listing_same _ _ _ _ _ _ c.loop-x.invariant c.requires.0 c.requires.1
 
 pub returns : goal.returns
 returns c = listing_end _ _ _ _ _ _ c.loop-x.invariant c.requires.0 c.requires.1 (omega (arith, c.loop-x-test.false)) _ _ refl c.clear.ensures

@@ -7,9 +7,6 @@ use Rattle.cells.proofs.Fields.{behind, plain_stop, plain_on, plain_end}
 use Rattle.cells.proofs.field.plain.Goals as goal
 use Rattle.cells.proofs.field.plain.Goals.{in_default, in-len1-up+then-not-is_text}
 
-pub loop-rest-init : goal.loop-rest-init
-loop-rest-init c = ap (λ v. gathered v (Grammar.plain c.args.s.now)) c.empty-value.ensures
-
 pub loop-rest-preserved : goal.loop-rest-preserved
 loop-rest-preserved c =
     let at = c.loop-rest in

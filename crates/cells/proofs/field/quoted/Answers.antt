@@ -11,9 +11,6 @@ use Rattle.cells.specs.Reading.{gathered}
 use Rattle.cells.proofs.Fields.{behind, quoted_two, quoted_one, quoted_on, quoted_wrong, quoted_open}
 use Rattle.cells.proofs.field.quoted.Goals as goal
 
-pub loop-rest-init : goal.loop-rest-init
-loop-rest-init c = ap (λ v. gathered v (in_quotes false c.args.s.now)) c.empty-value.ensures
-
 pub returns-then-not-may_stand : goal.returns-then-not-may_stand
 returns-then-not-may_stand c =
     let at = c.loop-rest in

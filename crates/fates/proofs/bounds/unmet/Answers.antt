@@ -1,10 +1,10 @@
 -- `bounds::unmet` meets its contract, by whether the bound is met.
 -- Assumes nothing.
-use Rattle.fates.specs.Rules.{as_bound, still}
+use Rattle.fates.specs.Rules.{still}
 use Rattle.fates.proofs.bounds.unmet.Goals as goal
 
 pub returns-then-met : goal.returns-then-met
-unfolding as_bound still
+unfolding still
 returns-then-met c = rw c.if-met.true
 
 pub returns-else-met : goal.returns-else-met

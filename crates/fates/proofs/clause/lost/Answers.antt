@@ -4,7 +4,7 @@ use mathlib.Core.Path.{sym, ◌∙◌}
 use Rattle.bodies.proofs.Tags.{tag_byte}
 use Rattle.fates.specs.Rest.{Ran}
 use Rattle.fates.proofs.Resting.{begins_room, begins_rules}
-use Rattle.fates.proofs.Running.{or_same, keep_start, keep_rest, keep_lost, keep_more, keep_end}
+use Rattle.fates.proofs.Running.{or_same, keep_rest, keep_lost, keep_more, keep_end}
 use Rattle.fates.proofs.clause.lost.Goals as goal
 
 pub run_rules-run-requires : goal.run_rules-run-requires
@@ -15,14 +15,8 @@ pub loop-at-smaller : goal.loop-at-smaller
 unfolding Ran
 loop-at-smaller c = omega (arith, c.run_rules-run.ensures.0, begins_room _ _ (keep_rest _ _ _ _ c.loop-at.invariant c.requires))
 
-pub loop-at-init : goal.loop-at-init
-loop-at-init c = keep_start _ _ _
-
 pub bounds-file-at : goal.bounds-file-at
 bounds-file-at c = omega (arith, begins_room _ _ (keep_rest _ _ _ _ c.loop-at.invariant c.requires))
-
-pub overflow_add-at : goal.overflow_add-at
-overflow_add-at c = omega (arith, begins_room _ _ (keep_rest _ _ _ _ c.loop-at.invariant c.requires))
 
 pub returns-then-not-run : goal.returns-then-not-run
 returns-then-not-run c =

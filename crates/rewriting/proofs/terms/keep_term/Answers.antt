@@ -9,11 +9,8 @@ use Rattle.rewriting.proofs.terms.keep_term.Goals as goal
 pub code-requires : goal.code-requires
 code-requires c = omega (arith, c.read_size.ensures, c.requires.1)
 
-pub returns-in-Off : goal.returns-in-Off
-returns-in-Off c = term_dropped _ _ _ _ (ap (codes c.args.map) (sym c.read_size.ensures) ∙ sym c.code.ensures ∙ ap becomes c.in-Off.is)
-
-pub returns-in-On : goal.returns-in-On
-returns-in-On c = term_dropped _ _ _ _ (ap (codes c.args.map) (sym c.read_size.ensures) ∙ sym c.code.ensures ∙ ap becomes c.in-On.is)
+pub returns-in-Locked : goal.returns-in-Locked
+returns-in-Locked c = term_dropped _ _ _ _ (ap (codes c.args.map) (sym c.read_size.ensures) ∙ sym c.code.ensures ∙ ap becomes c.in-Locked.is)
 
 pub returns-in-New : goal.returns-in-New
 returns-in-New c =

@@ -10,6 +10,6 @@ use Rattle.rows.specs.Reading.{columns, is_zones, place}
 use Rattle.rows.proofs.Rows.{Place}
 use Rattle.rows.proofs.row.among.Given as goal
 
-abbrev pub invariant-loop-k : goal.invariant-loop-k
-invariant-loop-k l =
-    Place (is_zones l.listed) l.s l.k l.rest × (any (λ x. same_value (gather (column_of (place l.which) x)) l.value) (take l.k (rows_of (columns (is_zones l.listed)) l.s)) ≡ false)
+abbrev pub invariant-loop-row : goal.invariant-loop-row
+invariant-loop-row l =
+    Place (is_zones l.listed) l.s l._row l.rest × (any (λ x. same_value (gather (column_of (place l.which) x)) l.value) (take l._row (rows_of (columns (is_zones l.listed)) l.s)) ≡ false)

@@ -4,7 +4,6 @@ use native.Mathlib.Omega.{arith}
 use Prim.Native.Nat.{◌+◌, ◌/◌}
 use mathlib.Core.Path.{◌≡◌, refl, ap, ◌∙◌}
 use lib.ListN.{length}
-use Rattle.words.specs.Words.{bytes_of}
 use Rattle.words.specs.Writes.{put}
 use Rattle.words.proofs.Words.{Below}
 use Rattle.format.specs.File.{length_at, terms_at}

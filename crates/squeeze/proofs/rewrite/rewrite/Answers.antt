@@ -82,8 +82,5 @@ returns c =
 pub first_clause-first-requires : goal.first_clause-first-requires
 first_clause-first-requires c = (begun_front _ _ c.requires.accepts, omega (arith, begun_room _ _ c.requires.accepts))
 
-pub put_front-front-requires : goal.put_front-front-requires
-put_front-front-requires c = c.requires
-
 pub put_end-requires : goal.put_end-requires
 put_end-requires c = omega (arith, room_3 c, c.keep_clauses-end.auto.file)

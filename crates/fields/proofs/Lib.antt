@@ -1,0 +1,2 @@
+-- Laws of bytes written one behind the other.
+pub mod Writing
