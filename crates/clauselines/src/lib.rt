@@ -1,5 +1,5 @@
 // The lines of the clauses, put into a lent buffer. The buffer and the place in it stay two parameters, as in spelling.
-// So do the two tables: each function here needs another fact about them, and none needs that they hold a whole plan.
+// So do the two tables outside `Several`: each function here needs another fact about them, and none needs that they hold a whole plan.
 #![tactic(auto)]
 
 ghost use Rattle.std.specs.Prelude.{◌≡◌, ◌+◌, ◌*◌, ◌<◌, ◌≤◌, length};
@@ -105,7 +105,7 @@ pub fn put_clauses(out: &mut [u8], at: usize, tables: &[u8], terms: &[u8]) -> us
     let mut k = index(tables, 0);
     for c in 0..clauses {
         next = put_clause(out, next, tables, terms, c, k);
-        k = k + new_atoms(tables, c);
+        k += new_atoms(tables, c);
     }
     next
 }

@@ -4,6 +4,7 @@ ghost use Rattle.std.proofs.Props.{props};
 ghost use Rattle.clauselines.specs.Clauses.{RulesFit};
 
 // They are those of the tables from the first on; so many variables stand before their new ones.
+// First and count stand as the table has them, which the definitions read.
 #[derive(Clone, Copy)]
 pub struct Several<'a> {
     pub tables: &'a [u8],

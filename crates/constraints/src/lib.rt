@@ -98,7 +98,8 @@ fn put_stored(out: &mut [u8], at: usize, sum: &Sum<'_>, i: usize, side: Side) ->
     put_term(out, at, weight, index(sum.terms, 2 * i))
 }
 
-// The terms of a rule.
+// The terms of a rule. Sum and side come as two parameters, here and in what is built on it: the two lines of one bound have one sum on both sides, so that a
+// struct of both would be taken apart for the second line.
 fn put_terms(out: &mut [u8], at: usize, sum: &Sum<'_>, side: Side) -> usize
     requires { Room at (sum_bytes (map (turned_term (turns side)) (terms_of sum.now))) }
     ensures { Puts (sum_bytes (map (turned_term (turns side)) (terms_of sum.now))) at out.old out.new result }
@@ -129,6 +130,9 @@ pub fn put_constraint(
     put_end(out, b, Relation::AtLeast, side.turned(bound))
 }
 
+// Each line from here on is its terms, one to three of them, and its end. One function for all would put a list of terms by a loop, with an invariant for what
+// is two to four calls here, and each line would still have its own clause.
+
 // "the W⁺ or W⁻ of an absent bound, numbered xk, has in place of its own lines `+1 xk >= 1 ;`"
 pub fn put_fixed(out: &mut [u8], at: usize, variable: usize) -> usize
     requires { Room at (lines_bytes (fixed variable)) }
@@ -147,7 +151,7 @@ pub fn put_lock(out: &mut [u8], at: usize, variable: usize, value: bool) -> usiz
     put_end(out, a, Relation::Equal, i32::from(value))
 }
 
-// (20) and (21).
+// This is the line of (20) or of (21).
 fn put_pair(out: &mut [u8], at: usize, part: usize, whole: usize) -> usize
     requires { Room at (spell_line (geq (weighted (pos 1) part ∷ weighted (negsuc 0) whole ∷ []) (pos 0))) }
     ensures { Puts (spell_line (geq (weighted (pos 1) part ∷ weighted (negsuc 0) whole ∷ []) (pos 0))) at out.old out.new result }
@@ -157,7 +161,7 @@ fn put_pair(out: &mut [u8], at: usize, part: usize, whole: usize) -> usize
     put_end(out, b, Relation::AtLeast, 0)
 }
 
-// (22).
+// This is the line of (22).
 fn put_triple(out: &mut [u8], at: usize, plus: usize, minus: usize, whole: usize) -> usize
     requires { Room at (spell_line (geq (weighted (negsuc 0) plus ∷ weighted (negsuc 0) minus ∷ weighted (pos 1) whole ∷ []) (negsuc 0))) }
     ensures { Puts (spell_line (geq (weighted (negsuc 0) plus ∷ weighted (negsuc 0) minus ∷ weighted (pos 1) whole ∷ []) (negsuc 0))) at

@@ -13,7 +13,8 @@ use sum::Sum;
 use words::{to_signed, word};
 
 impl Sum<'_> {
-    // The sum of what each weight gives. The terms are taken from the last to the first: what is summed is then that of a rest of the list.
+    // The sum of what each weight gives. The terms are taken from the last to the first: what is summed is then that of a rest of the list. The library's `sum`
+    // asks beforehand that no sum on the way is too large, which is what the loop's invariant says with the rest.
     fn total<F: Fn(i32) -> i32>(&self, part: F) -> i32
         requires callable { (w : ℤ) → F.pre part w }
         requires gives { (b : Bool) × Parts (F.post part) b }

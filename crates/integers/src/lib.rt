@@ -4,6 +4,9 @@
 ghost use Rattle.std.specs.Prelude.{◌≡◌, ◌+◌, ◌<◌, nat_abs, ◌+ℤ◌, ◌-ℤ◌};
 ghost use Rattle.plpb.specs.Plan.{negative_part, positive_part};
 
+// Each of the four is one operator or one method of the library, and stands here for its clause: callers cite the sum, the difference and the parts of the
+// plan, where the operator and the method speak of the machine's numbers. So what they have in common is the form of that clause alone.
+
 pub fn plus(a: i32, b: i32) -> i32
     requires { nat_abs a + nat_abs b < 2_147_483_648 }
     ensures { result ≡ a +ℤ b }

@@ -14,9 +14,15 @@ use borrow.Author.Tests.{ne_eqb, lt-ltb}
 use Rattle.plpb.specs.Lists.{keep, count, row, sum_by}
 use Rattle.plpb.proofs.Lists.{count_le, length_row}
 use Rattle.plpb.specs.Plan.{Bound, absent, present, Term, Rule}
-use Rattle.words.specs.Words.{signed}
-use Rattle.format.specs.File.{bound_of}
-use Rattle.format.specs.Layout.{clause_first_at, clause_count_at, rule_mode_at}
+use Rattle.words.specs.Words.{word_at, signed}
+use Rattle.counting.specs.Bound.{bound_of}
+use Rattle.std.specs.Prelude.{Option, Some, None}
+use Rattle.std.specs.Option.{is_some as there}
+use Rattle.rules.specs.declared.entry.Entry.{Entry}
+use Rattle.rules.specs.Rules.{EntryAt}
+use Rattle.rulelines.proofs.Entries.{entry_lower, entry_upper}
+use mir.Val.{bool_byte}
+use Rattle.format.specs.Layout.{clause_first_at, clause_count_at}
 use Rattle.format.specs.Tables.{rule_of, clause_of, named, is_some, sparse}
 use Rattle.opb.specs.Tau.{lower_line, upper_line, straight, fixed, minus_lines, plus_lines, both_lines, rule_lines, rules_lines, or_lines, clause_lines, new_atoms, clauses_lines}
 use Rattle.clauselines.specs.Clauses.{atom_count, rules_in, clauses_in}
@@ -24,37 +30,33 @@ use Rattle.clauselines.proofs.Clauses.{atoms_of, single_lines, several_lines}
 
 -- ---- one rule
 
-lower_length : (m : ℕ) (b : ℤ) (ts : List Term) → length (lower_line (bound_of 2 m b) ts) ≡ cond (eqb m 2) 0 1
-unfolding bound_of
-lower_length m b ts = by (eqb m 2)
-  where
-    by : (t : Bool) → length (lower_line (cond t absent (present b)) ts) ≡ cond t 0 1
-    by true = unfold lower_line in refl
-    by false = unfold lower_line in refl
+lower_length : (o : Option ℤ) (ts : List Term) → length (lower_line (bound_of o) ts) ≡ bool_byte (there o)
+unfolding lower_line
+lower_length None ts = refl
+lower_length (Some b) ts = refl
 
-upper_length : (m : ℕ) (b : ℤ) (ts : List Term) → length (upper_line (bound_of 1 m b) ts) ≡ cond (eqb m 1) 0 1
-unfolding bound_of
-upper_length m b ts = by (eqb m 1)
-  where
-    by : (t : Bool) → length (upper_line (cond t absent (present b)) ts) ≡ cond t 0 1
-    by true = unfold upper_line in refl
-    by false = unfold upper_line in refl
+upper_length : (o : Option ℤ) (ts : List Term) → length (upper_line (bound_of o) ts) ≡ bool_byte (there o)
+unfolding upper_line
+upper_length None ts = refl
+upper_length (Some b) ts = refl
 
-module _ (f g : ℕ → ℕ) (r : ℕ) where
-  straight_length : length (straight (rule_of f g r)) ≡ cond (eqb (f (rule_mode_at r)) 2) 0 1 + cond (eqb (f (rule_mode_at r)) 1) 0 1
-  unfolding straight rule_of
-  straight_length =
-      length-append (lower_line (rule_of f g r).lower (rule_of f g r).terms) (upper_line (rule_of f g r).upper (rule_of f g r).terms)
-      ∙ ap₂ ◌+◌ (lower_length (f (rule_mode_at r)) _ (rule_of f g r).terms) (upper_length (f (rule_mode_at r)) _ (rule_of f g r).terms)
+bit_small : (b : Bool) → bool_byte b ≤ 1
+bit_small true = omega arith
+bit_small false = omega arith
 
-  pub straight_first : f (rule_mode_at r) ≡ 1 → 1 ≡ length (straight (rule_of f g r))
-  straight_first e = sym (straight_length ∙ rw e refl)
+module _ (tables : List ℕ) (r : ℕ) (e : Entry) (h : EntryAt (word_at tables) (1_542 + 5 * r) e) where
+  straight_length : (g : ℕ → ℕ) → bool_byte (there e.lower) + bool_byte (there e.upper) ≡ length (straight (rule_of (word_at tables) g r))
+  unfolding straight
+  straight_length g =
+      let s = rule_of (word_at tables) g r in
+      sym (length-append (lower_line s.lower s.terms) (upper_line s.upper s.terms)
+      ∙ ap₂ ◌+◌ (ap (λ b. length (lower_line b s.terms)) (sym (entry_lower tables g r e h)) ∙ lower_length e.lower s.terms)
+      (ap (λ b. length (upper_line b s.terms)) (sym (entry_upper tables g r e h)) ∙ upper_length e.upper s.terms))
 
-  pub straight_second : f (rule_mode_at r) ≡ 2 → 1 ≡ length (straight (rule_of f g r))
-  straight_second e = sym (straight_length ∙ rw e refl)
-
-  pub straight_both : (f (rule_mode_at r) ≡ 1 → ⊥) → (f (rule_mode_at r) ≡ 2 → ⊥) → 2 ≡ length (straight (rule_of f g r))
-  straight_both h k = sym (straight_length ∙ rw (ne_eqb _ 1 h, ne_eqb _ 2 k) refl)
+  pub bounds_are : {m n : ℕ} → m ≡ bool_byte (there e.lower) → n ≡ bool_byte (there e.upper)
+      → ((g : ℕ → ℕ) → m + n ≡ length (straight (rule_of (word_at tables) g r))) × (m + n ≤ 2)
+  bounds_are {m} {n} p q =
+      ((λ g. ap₂ ◌+◌ p q ∙ straight_length g), omega (arith, p, q, bit_small (there e.lower), bit_small (there e.upper)))
 
 minus_length : (x : ℕ) (b : Bound ℤ) (ts : List Term) → length (minus_lines x b ts) ≡ suc (length (upper_line b ts))
 unfolding minus_lines upper_line fixed

@@ -17,7 +17,8 @@ pub mod lent;
 use clauselines::put_clauses;
 use constraints::{put_lock, put_term};
 use lent::Whole;
-use linecount::{clauses_lines, some_words, variables};
+use linecount::entries::Entries;
+use linecount::some_words;
 use spelling::{put_bytes, put_decimal};
 use words::{index, to_signed, word};
 
@@ -34,7 +35,8 @@ fn put_first(out: &mut [u8], at: usize, count: usize, lines: usize) -> usize
 }
 
 impl Whole<'_> {
-    // The objective's terms: a variable with the coefficient 0 has none.
+    // The objective's terms: a variable with the coefficient 0 has none. This loop and that of the locks have only their form in common: one function for both
+    // would take a closure that is lent the buffer anew at each call, whose clauses are all that the two loops say.
     fn put_coefficients(&self, out: &mut [u8], at: usize) -> usize
         requires { Room at (sum_bytes (coefficients self.now)) }
         ensures { Puts (sum_bytes (coefficients self.now)) at out.old out.new result }
@@ -62,7 +64,8 @@ impl Whole<'_> {
         put_bytes(out, b, b";\n")
     }
 
-    // The line of the variable above i, where it is locked.
+    // The line of the variable above i, where it is locked. A lock is a word of the lent table, 0 for none, 1 or 2 for a value, as C sees it there. It goes no
+    // further than this function, so that an `Option` made of it would be opened in the next line.
     fn put_locked(&self, out: &mut [u8], at: usize, i: usize) -> usize
         requires few { i < word_at self.now.tables.now 0 }
         requires room { Room at (lines_bytes (lock_lines self.now.tables.now i 1)) }
@@ -93,8 +96,11 @@ impl Whole<'_> {
         ensures { Puts (spell (tau (plan self.now))) 0 out.old out.new result }
     {
         let n = index(self.tables, 0);
-        let lines = clauses_lines(self.tables) + some_words(self.tables, format::LOCKS, n);
-        let a = put_first(out, 0, variables(self.tables), lines);
+        let entries = Entries {
+            tables: self.tables,
+        };
+        let lines = entries.clauses_lines() + some_words(self.tables, format::LOCKS, n);
+        let a = put_first(out, 0, entries.variables(), lines);
         let b = self.put_objective(out, a);
         let c = put_clauses(out, b, self.tables, self.terms);
         self.put_locks(out, c)

@@ -38,6 +38,22 @@ bound_small (Some b) without mode v {n} e h = rw (ap size_in e) (by (eqb mode wi
     by true = omega arith
     by false = h
 
+-- Its bounds, whatever table its terms stand in.
+module _ (tables : List ℕ) (g : ℕ → ℕ) (r : ℕ) (e : Entry) (h : EntryAt (word_at tables) (1_542 + 5 * r) e) where
+  pub entry_lower : bound_of e.lower ≡ (rule_of (word_at tables) g r).lower
+  unfolding rule_of
+  entry_lower =
+      let mode : 1_542 + 5 * r + 2 ≡ 1_544 + 5 * r = omega arith in
+      let lower : 1_542 + 5 * r + 3 ≡ 1_545 + 5 * r = omega arith in
+      rw (mode, lower) at h.lower
+
+  pub entry_upper : bound_of e.upper ≡ (rule_of (word_at tables) g r).upper
+  unfolding rule_of
+  entry_upper =
+      let mode : 1_542 + 5 * r + 2 ≡ 1_544 + 5 * r = omega arith in
+      let upper : 1_542 + 5 * r + 4 ≡ 1_546 + 5 * r = omega arith in
+      rw (mode, upper) at h.upper
+
 module _ (tables terms : List ℕ) (r : ℕ) (e : Entry) (h : EntryAt (word_at tables) (1_542 + 5 * r) e) where
   abbrev f : ℕ → ℕ
   f = word_at tables
@@ -51,20 +67,6 @@ module _ (tables terms : List ℕ) (r : ℕ) (e : Entry) (h : EntryAt (word_at t
   count_is : e.count ≡ f (1_543 + 5 * r)
   count_is = let n : 1_542 + 5 * r + 1 ≡ 1_543 + 5 * r = omega arith in h.count ∙ ap f n
 
-  entry_lower : bound_of e.lower ≡ (rule_of f g r).lower
-  unfolding rule_of
-  entry_lower =
-      let mode : 1_542 + 5 * r + 2 ≡ 1_544 + 5 * r = omega arith in
-      let lower : 1_542 + 5 * r + 3 ≡ 1_545 + 5 * r = omega arith in
-      rw (mode, lower) at h.lower
-
-  entry_upper : bound_of e.upper ≡ (rule_of f g r).upper
-  unfolding rule_of
-  entry_upper =
-      let mode : 1_542 + 5 * r + 2 ≡ 1_544 + 5 * r = omega arith in
-      let upper : 1_542 + 5 * r + 4 ≡ 1_546 + 5 * r = omega arith in
-      rw (mode, upper) at h.upper
-
   entry_terms : terms_in g e.first e.count ≡ (rule_of f g r).terms
   unfolding rule_of terms_in
   entry_terms = ap₂ (terms_in g) first_is count_is
@@ -72,15 +74,15 @@ module _ (tables terms : List ℕ) (r : ℕ) (e : Entry) (h : EntryAt (word_at t
   module _ (fit : RuleFits tables terms r) where
     lower_small : IfSome e.lower (λ b. nat_abs b ≤ 1_000_000_000)
     unfolding rule_of
-    lower_small = bound_small e.lower 2 _ _ entry_lower fit.lower
+    lower_small = bound_small e.lower 2 _ _ (entry_lower tables g r e h) fit.lower
 
     upper_small : IfSome e.upper (λ b. nat_abs b ≤ 1_000_000_000)
     unfolding rule_of
-    upper_small = bound_small e.upper 1 _ _ entry_upper fit.upper
+    upper_small = bound_small e.upper 1 _ _ (entry_upper tables g r e h) fit.upper
 
     read_is : (s : Rule) → s.lower ≡ e.lower → s.upper ≡ e.upper → terms_of s.sum ≡ terms_in g e.first e.count → rule_in s ≡ rule_of f g r
     unfolding rule_of
-    read_is s a b d = rw (ap bound_of a ∙ entry_lower, ap bound_of b ∙ entry_upper, d ∙ entry_terms) refl
+    read_is s a b d = rw (ap bound_of a ∙ entry_lower tables g r e h, ap bound_of b ∙ entry_upper tables g r e h, d ∙ entry_terms) refl
 
     pub rule_read : (s : Rule) → s.lower ≡ e.lower → s.upper ≡ e.upper → terms_of s.sum ≡ terms_in g e.first e.count → RuleRead tables terms r s
     rule_read s a b d = record {

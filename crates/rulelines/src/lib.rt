@@ -58,6 +58,8 @@ fn extreme(sum: &Sum<'_>, side: Side) -> i32
 }
 
 // The first number past a bound.
+// That a bound is small stands in each contract that has one: this takes the number and the other two an option of it, so that a type of its own would be
+// opened in each of the three.
 fn past(side: Side, bound: i32) -> i32
     requires { nat_abs bound ≤ max_bound }
     ensures { result ≡ past_of (turns side) bound }
@@ -105,7 +107,8 @@ pub fn put_rule(out: &mut [u8], at: usize, tables: &[u8], terms: &[u8], r: usize
     put_both(out, b, k)
 }
 
-// The line of a bound in a clause of one rule; none where there is no bound.
+// The line of a bound in a clause of one rule; none where there is no bound. A term with coefficient 0 is left out of every line: the 0 is that rule, and no
+// mark for none.
 fn put_bound(out: &mut [u8], at: usize, sum: &Sum<'_>, side: Side, bound: Option<i32>) -> usize
     requires small { IfSome bound (λ b. nat_abs b ≤ max_bound) }
     requires room { Room at (lines_bytes (bound_line (turns side) (bound_of bound) (terms_of sum.now))) }

@@ -16,10 +16,9 @@ pub fn put_byte(out: &mut [u8], at: usize, b: u8) -> usize
     requires { Room at (b ∷ []) }
     ensures { Puts (b ∷ []) at out.old out.new result }
 {
-    if out.len() <= at {
-        return at + 1;
+    if at < out.len() {
+        out[at] = b;
     }
-    out[at] = b;
     at + 1
 }
 
@@ -34,6 +33,8 @@ pub fn put_bytes(out: &mut [u8], at: usize, bytes: &[u8]) -> usize
     next
 }
 
+// The library writes a number into a formatter, which fails at the end of a buffer, where here the digits past it are still counted: one that counts on would
+// be a type of its own, with a method and clauses for what is one recursion here.
 pub fn put_decimal(out: &mut [u8], at: usize, n: u64) -> usize
     requires { Room at (decimal n) }
     ensures { Puts (decimal n) at out.old out.new result }
@@ -57,7 +58,7 @@ pub fn put_coefficient(out: &mut [u8], at: usize, v: i32) -> usize
     ensures { Puts (coefficient v) at out.old out.new result }
 {
     let next = put_byte(out, at, sign(v));
-    put_decimal(out, next, magnitude(v) as u64)
+    put_decimal(out, next, u64::from(magnitude(v)))
 }
 
 // A number with a sign only where it is below 0.
@@ -68,5 +69,5 @@ pub fn put_signed(out: &mut [u8], at: usize, v: i32) -> usize
     if v < 0 {
         return put_coefficient(out, at, v);
     }
-    put_decimal(out, at, magnitude(v) as u64)
+    put_decimal(out, at, u64::from(magnitude(v)))
 }

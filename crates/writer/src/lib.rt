@@ -22,6 +22,28 @@ enum Refusal {
     Outgrown(usize),
 }
 
+// What C is told of it.
+impl From<Refusal> for Written {
+    ghost from_gives = { λ refusal w. (w.refusal ≡ number_of refusal) × (w.length ≡ length_of refusal) };
+
+    fn from(refusal: Refusal) -> Written {
+        match refusal {
+            Refusal::TooSmall => Written {
+                refusal: 21,
+                length: 0,
+            },
+            Refusal::NotLoaded => Written {
+                refusal: 22,
+                length: 0,
+            },
+            Refusal::Outgrown(length) => Written {
+                refusal: 33,
+                length,
+            },
+        }
+    }
+}
+
 // Writes the text where it is to be written, and answers its length. The tables are two slices, as C lends them: nothing is known of them before the tests.
 fn write_text(tables: &[u8], terms: &[u8], text: &mut [u8]) -> Result<usize, Refusal>
     ensures answer { MatchResult result
@@ -29,10 +51,7 @@ fn write_text(tables: &[u8], terms: &[u8], text: &mut [u8]) -> Result<usize, Ref
         (λ e. (number_of e ≡ write_refusal tables.now terms.now text.old) × (length_of e ≡ write_length tables.now terms.now)) }
     ensures text_after { text.new ≡ text_after tables.now terms.now text.old }
 {
-    if tables.len() < format::TABLES {
-        return Err(Refusal::TooSmall);
-    }
-    if terms.len() < format::TERMS {
+    if tables.len() < format::TABLES || terms.len() < format::TERMS {
         return Err(Refusal::TooSmall);
     }
     if !loaded::good(tables, terms) {
@@ -54,17 +73,6 @@ pub fn write_opb(tables: &[u8], terms: &[u8], text: &mut [u8]) -> Written
 {
     match write_text(tables, terms, text) {
         Ok(length) => Written { refusal: 0, length },
-        Err(Refusal::TooSmall) => Written {
-            refusal: 21,
-            length: 0,
-        },
-        Err(Refusal::NotLoaded) => Written {
-            refusal: 22,
-            length: 0,
-        },
-        Err(Refusal::Outgrown(length)) => Written {
-            refusal: 33,
-            length,
-        },
+        Err(refusal) => Written::from(refusal),
     }
 }

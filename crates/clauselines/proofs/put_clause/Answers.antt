@@ -2,7 +2,7 @@
 -- Assumes nothing.
 use mathlib.Core.Path.{sym}
 use Rattle.spelling.proofs.Puts.{puts_same, room_same}
-use Rattle.clauselines.proofs.Clauses.{read_rules, read_first, read_single, read_several}
+use Rattle.clauselines.proofs.Clauses.{read_first, read_single, read_several}
 use Rattle.clauselines.proofs.put_clause.Goals as goal
 
 pub put_straight-requires : goal.put_straight-requires
@@ -23,6 +23,3 @@ put-requires c = room_same _ (sym (read_several _ _ c.args.c c.args.k c.index-fi
 
 pub returns : goal.returns
 returns c = puts_same (read_several _ _ c.args.c c.args.k c.index-first.ensures c.index-count.ensures c.if-count-eq1.false) c.put.ensures
-
-pub invariant_of-rules : goal.invariant_of-rules
-invariant_of-rules c = record { fit = read_rules _ _ c.args.c c.args.k c.index-first.ensures c.index-count.ensures c.requires.clause_fits }

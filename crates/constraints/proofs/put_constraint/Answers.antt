@@ -1,7 +1,6 @@
 -- `constraints::put_constraint` meets its contract: the terms of the rule, the one more, the end.
 -- Assumes nothing.
 use mathlib.Core.Path.{sym}
-use mir.Facts.{to_z-of_z}
 use Rattle.constraints.specs.Sides.{turns}
 use Rattle.constraints.proofs.Sides.{sided_bytes, turned_held}
 use Rattle.spelling.proofs.Puts.{puts_then, puts_same, room_same, room_first, room_after}
@@ -10,16 +9,10 @@ use Rattle.constraints.proofs.put_constraint.Goals as goal
 pub put_terms-a-requires : goal.put_terms-a-requires
 put_terms-a-requires c = room_first _ _ _ (room_same _ (sided_bytes _ _ _ _ _) c.requires.room)
 
-pub turned-requires : goal.turned-requires
-turned-requires c = rw (to_z-of_z c.ranges.weight) c.requires.small.0
-
 pub put_term-b-requires : goal.put_term-b-requires
 put_term-b-requires c =
     let weight = turned_held (turns c.args.side) (record { sfits = c.turned.type_inv }) c.ranges.weight c.turned.ensures in
     rw weight (room_first _ _ _ (room_after c.put_terms-a.ensures _ (room_same _ (sided_bytes _ _ _ _ _) c.requires.room)))
-
-pub turned-requires-2 : goal.turned-requires-2
-turned-requires-2 c = rw (to_z-of_z c.ranges.bound) c.requires.small.1
 
 pub put_end-requires : goal.put_end-requires
 put_end-requires c =

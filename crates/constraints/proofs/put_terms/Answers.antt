@@ -1,5 +1,4 @@
 -- The goals that the search leaves.
-use native.Mathlib.Omega.{arith}
 use native.Mathlib.Numerals.{add-one}
 use Rattle.constraints.proofs.Stored.{going_room, going_more, going_done}
 use Rattle.constraints.proofs.put_terms.Goals as goal
@@ -15,6 +14,3 @@ loop-i-preserved c = rw (add-one c.loop-i.i) (going_more _ _ _ _ _ _ c.loop-i.in
 
 pub returns : goal.returns
 returns c = going_done _ _ _ _ _ _ c.loop-i.invariant c.loop-i-test.false
-
-pub overflow_add-i-end : goal.overflow_add-i-end
-overflow_add-i-end c = omega (arith, c.args.sum.now.fits.inside, c.fits-sum.0.0.1)

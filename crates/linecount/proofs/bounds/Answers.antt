@@ -1,21 +1,10 @@
--- `linecount::bounds` meets its contract: by its mode.
+-- `linecount::bounds` meets its contract: a line for each bound that the entry has.
 -- Assumes nothing.
-use Prim.Native.Nat.{ℕ}
-use native.Mathlib.Omega.{arith}
-use mathlib.Core.Path.{◌≡◌, sym, ◌∙◌}
-use Rattle.words.specs.Words.{word_at}
-use Rattle.linecount.proofs.Lines.{straight_first, straight_second, straight_both}
+use mathlib.Core.Path.{ap, ◌∙◌}
+use mir.Val.{bool_byte}
+use Rattle.linecount.proofs.Lines.{bounds_are}
 use Rattle.linecount.proofs.bounds.Goals as goal
 
-pub returns-then-mode-eq1 : goal.returns-then-mode-eq1
-returns-then-mode-eq1 c =
-    ((λ (g : ℕ → ℕ). straight_first (word_at c.args.tables.now) g c.args.r (sym c.word-mode.ensures ∙ c.if-mode-eq1.true)), omega arith)
-
-pub returns-then-mode-eq2 : goal.returns-then-mode-eq2
-returns-then-mode-eq2 c =
-    ((λ (g : ℕ → ℕ). straight_second (word_at c.args.tables.now) g c.args.r (sym c.word-mode.ensures ∙ c.if-mode-eq2.true)), omega arith)
-
-pub returns-else-mode-eq2 : goal.returns-else-mode-eq2
-returns-else-mode-eq2 c =
-    let e = c.word-mode.ensures in
-    ((λ (g : ℕ → ℕ). straight_both (word_at c.args.tables.now) g c.args.r (λ (p : _ ≡ 1). c.if-mode-eq1.false (e ∙ p)) (λ (p : _ ≡ 2). c.if-mode-eq2.false (e ∙ p))), omega arith)
+pub returns : goal.returns
+returns c =
+    bounds_are c.args.tables.now c.args.r _ c.read_entry-e.ensures (c.from.ensures ∙ ap bool_byte c.is_some.ensures) (c.from-2.ensures ∙ ap bool_byte c.is_some-2.ensures)

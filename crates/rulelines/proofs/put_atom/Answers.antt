@@ -6,7 +6,7 @@ use lib.IntN.{nat_abs}
 use mir.Facts.{to_z-of_z}
 use mir.Syntax.{w32}
 use Rattle.spelling.proofs.Puts.{puts_then, puts_same, room_same, room_first, room_after}
-use Rattle.rulelines.proofs.Lines.{atom_absent, atom_parts, bound_held, numbers_held, first_small, second_small, far_small, near_small}
+use Rattle.rulelines.proofs.Lines.{atom_absent, atom_parts, numbers_held, second_small, far_small, near_small}
 use Rattle.rulelines.proofs.put_atom.Goals as goal
 
 pub put_fixed-requires : goal.put_fixed-requires
@@ -14,19 +14,6 @@ put_fixed-requires c = room_same c.args.at (sym (atom_absent _ _ _)) (rw c.in_de
 
 pub returns-in_default : goal.returns-in_default
 returns-in_default c = rw c.in_default.is (puts_same (atom_absent _ _ _) c.put_fixed.ensures)
-
-pub past-next-requires : goal.past-next-requires
-past-next-requires c =
-    let small : nat_abs c.in-Some.b ≤ 1_000_000_000 = rw c.in-Some.is at c.requires.small in
-    rw (bound_held small) small
-
-pub minus-requires : goal.minus-requires
-minus-requires c =
-    let small : nat_abs c.in-Some.b ≤ 1_000_000_000 = rw c.in-Some.is at c.requires.small in
-    let n =
-    numbers_held c.in-Some.b small c.other-far_side.ensures (record { sfits = c.extreme-end.type_inv }) c.extreme-end.ensures
-    (record { sfits = c.extreme-far_end.type_inv }) c.extreme-far_end.ensures (record { sfits = c.past-next.type_inv }) c.past-next.ensures in
-    first_small n
 
 pub put_constraint-a-requires : goal.put_constraint-a-requires
 put_constraint-a-requires c =

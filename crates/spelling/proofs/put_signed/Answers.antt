@@ -7,7 +7,7 @@ use Rattle.texts.specs.Texts.{decimal, signed_decimal}
 use Rattle.opb.specs.Spell.{coefficient}
 use Rattle.spelling.proofs.Puts.{puts_same, room_same}
 use Rattle.spelling.proofs.Digits.{negative_decimal, natural_decimal}
-use Rattle.spelling.proofs.put_signed.Goals.{After-magnitude, After-put_coefficient-arg-1}
+use Rattle.spelling.proofs.put_signed.Goals.{After-from, After-put_coefficient-arg-1}
 use Rattle.spelling.proofs.put_signed.Goals as goal
 
 module _ (c : After-put_coefficient-arg-1) where
@@ -22,11 +22,11 @@ pub returns-then-v-lt0 : goal.returns-then-v-lt0
 returns-then-v-lt0 c =
     puts_same (ap coefficient (to_z-of_z c.ranges.v) ∙ negative_is c.before.before.before.before) c.put_coefficient.ensures
 
-module _ (c : After-magnitude) where
-  natural_is : decimal c.magnitude.result ≡ signed_decimal c.args.v
+module _ (c : After-from) where
+  natural_is : decimal c.from.result ≡ signed_decimal c.args.v
   natural_is =
       let e = to_z-of_z c.ranges.v in
-      ap decimal (c.magnitude.ensures ∙ ap nat_abs e) ∙ natural_decimal _ (rw e at c.if-v-lt0.false)
+      ap decimal (c.from.ensures ∙ c.magnitude.ensures ∙ ap nat_abs e) ∙ natural_decimal _ (rw e at c.if-v-lt0.false)
 
 pub put_decimal-requires : goal.put_decimal-requires
 put_decimal-requires c = room_same c.args.at (sym (natural_is c)) c.requires

@@ -4,16 +4,12 @@ use mir.Syntax.{w32}
 use mathlib.Core.Path.{◌∙◌, ap}
 use lib.IntN.{pos, neg_ℤ, ◌-ℤ◌, +ℤ_idl}
 use mir.Facts.{to_z-of_z}
-use native.Mathlib.Omega.{arith}
 use Rattle.constraints.specs.Bytes.{turned}
 use Rattle.constraints.proofs.Side.turned.Goals as goal
 
 pub returns-in-AtLeast : goal.returns-in-AtLeast
 unfolding turned
 returns-in-AtLeast c = rw c.in-AtLeast.is (to_z-of_z c.ranges.v)
-
-pub minus-requires : goal.minus-requires
-minus-requires c = rw (to_z-of_z c.ranges.v) (omega (arith, c.requires))
 
 pub returns-in-AtMost : goal.returns-in-AtMost
 unfolding turned

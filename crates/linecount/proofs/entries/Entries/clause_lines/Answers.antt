@@ -1,4 +1,4 @@
--- `linecount::clause_lines` meets its contract: one rule's bounds, or (15) and the rules.
+-- `Entries::clause_lines` meets its contract: one rule's bounds, or (15) and the rules.
 -- Assumes nothing.
 use Prim.Native.Nat.{ℕ}
 use native.Mathlib.Omega.{arith}
@@ -10,11 +10,11 @@ use Rattle.format.specs.Tables.{rule_of}
 use Rattle.clauselines.specs.Clauses.{rules_in}
 use lib.ListN.{length}
 use Rattle.linecount.proofs.Lines.{single_count, several_count}
-use Rattle.linecount.proofs.clause_lines.Goals as goal
+use Rattle.linecount.proofs.entries.Entries.clause_lines.Goals as goal
 
 pub returns-then-count-eq1 : goal.returns-then-count-eq1
 returns-then-count-eq1 c =
-    let f = word_at c.args.tables.now in
+    let f = word_at c.args.self.now.tables.now in
     let p = c.index-first.ensures in (
       single_count f c.args.c (sym c.index-count.ensures ∙ c.if-count-eq1.true)
           (λ (g : ℕ → ℕ). c.bounds.ensures.0 g ∙ ap (λ (n : ℕ). length (straight (rule_of f g n))) p),
@@ -23,10 +23,10 @@ returns-then-count-eq1 c =
 
 pub returns : goal.returns
 returns c =
-    let f = word_at c.args.tables.now in
+    let f = word_at c.args.self.now.tables.now in
     let p = c.index-first.ensures in
     let q = c.index-count.ensures in
-    let fit = c.requires.0.rules c.args.c c.requires.1 in (
+    let fit = c.args.self.now.fit.rules c.args.c c.requires in (
       several_count f c.args.c (λ (e : f (clause_count_at c.args.c) ≡ 1). c.if-count-eq1.false (q ∙ e))
           (λ (g : ℕ → ℕ) (k : ℕ). c.rules_lines.ensures.0 g k ∙ ap (λ (n : ℕ). length (rules_lines k (rules_in f g n c.index-count.result))) p ∙ ap (λ (n : ℕ). length (rules_lines k (rules_in f g (f (clause_first_at c.args.c)) n))) q),
       omega (arith, c.rules_lines.ensures.1, q, fit),
