@@ -22,7 +22,7 @@ pub struct Answer {
     pub used: usize,
 }
 
-// Whether an ending comes with a plan.
+// Whether an ending comes with a plan: by its number, as the answer for C has it.
 fn is_found(ending: u32) -> bool
     ensures { result ≡ has_plan ending }
 {

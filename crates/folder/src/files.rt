@@ -10,7 +10,7 @@ use settings::{Settings, settings_refusal};
 const LONGEST: usize = 65536;
 
 // Why walk.bin or numbers.bin is turned away: the head or the body of the field ends too soon, another tag, another length, bytes behind the field from a
-// place on, a setting out of its range by its number, or a list that ends within a number.
+// place on, a setting out of its range by the number that calls from C are told of it, or a list that ends within a number.
 #[derive(Clone, Copy)]
 pub enum Refusal {
     Short,
@@ -59,23 +59,16 @@ fn judge_settings(s: Settings) -> Result<Settings, Refusal>
     Ok(s)
 }
 
-// "length 9 means SKC": a file that has a head of 3 bytes and a field of 12 chooses, and one of 9 is given 0.
-fn heuristic_in(file: &[u8]) -> u32
-    ensures { result ≡ if_long (length file.now - 3) (num_at 1 file.now 12) }
+// "length 9 means SKC": the heuristic and the chance that a file with a head of 3 bytes and a field of 12 has, and one with a field of 9 is given as 0.
+fn choice_in(file: &[u8]) -> (u32, u32)
+    ensures heuristic { result.0 ≡ if_long (length file.now - 3) (num_at 1 file.now 12) }
+    ensures chance { result.1 ≡ if_long (length file.now - 3) (num_at 2 file.now 13) }
 {
     if file.len() == 15 {
-        return words::byte_word(file[12]);
+        (u32::from(file[12]), words::read_u16(file, 13))
+    } else {
+        (0, 0)
     }
-    0
-}
-
-fn chance_in(file: &[u8]) -> u32
-    ensures { result ≡ if_long (length file.now - 3) (num_at 2 file.now 13) }
-{
-    if file.len() == 15 {
-        return words::read_u16(file, 13);
-    }
-    0
 }
 
 // What walk.bin comes to.
@@ -86,13 +79,14 @@ pub fn judge_walk(file: &[u8]) -> Result<Settings, Refusal>
     if 3 + size < file.len() {
         return Err(Refusal::Behind(3 + size));
     }
+    let (heuristic, chance) = choice_in(file);
     judge_settings(Settings {
         noise: words::read_u16(file, 3),
         tries: words::read_u16(file, 5),
         flips: words::read_u32(file, 7),
-        mode: words::byte_word(file[11]),
-        heuristic: heuristic_in(file),
-        chance: chance_in(file),
+        mode: u32::from(file[11]),
+        heuristic,
+        chance,
     })
 }
 
@@ -107,7 +101,8 @@ pub fn judge_numbers(file: &[u8]) -> Result<(), Refusal>
     }
 }
 
-// "Any of them above 65,536 bytes": `more` says that one of the files has bytes behind those given.
+// "Any of them above 65,536 bytes": `more` says that one of the files has bytes behind those given. It is one flag for the three, and no option beside each:
+// which of them is longer is not told.
 pub fn any_too_long(more: bool, plan: &[u8], walk: &[u8], numbers: &[u8]) -> bool
     ensures { result ≡ (more or too_long plan.now or too_long walk.now or too_long numbers.now) }
 {

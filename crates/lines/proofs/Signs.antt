@@ -1,19 +1,16 @@
--- Signed 64-bit numbers as the machine holds them: what the test `v < 0` tells, and the size of such a number.
+-- Signed 64-bit numbers as the machine holds them: what the test `v < 0` tells.
 -- Assumes nothing.
-use Prim.Native.Nat.{ℕ, ◌+◌, ◌^◌, ◌<◌}
+use Prim.Native.Nat.{ℕ, ◌^◌, ◌<◌}
 use native.Mathlib.Omega.{arith}
-use native.Mathlib.Numerals.{add-one}
 use mathlib.Core.Path.{◌≡◌, refl, sym, ap, ◌∙◌, subst}
 use mathlib.Core.Bool.{Bool, true, false}
 use lib.Dec.{T}
-use lib.IntN.{ℤ, pos, negsuc, nat_abs, ◌-ℤ◌}
-use lib.Signed.{lt_z, non_neg}
+use lib.IntN.{ℤ, pos, negsuc}
+use lib.Signed.{lt_z}
 use mir.Syntax.{w64}
-use mir.Val.{Fits, SFits, to_z, of_z}
-use mir.Facts.{to_z-of_z, to_z_pos}
+use mir.Val.{SFits, to_z, of_z}
+use mir.Facts.{to_z-of_z}
 use borrow.Author.Tests.{le-ltb}
-use Rattle.words.specs.Signed.{complement}
-use Rattle.words.proofs.Signs.{minus}
 
 abbrev pub read : ℤ → ℤ
 read z = to_z w64 (of_z w64 z)
@@ -38,35 +35,3 @@ module _ {v : ℤ} (f : SFits w64 v) where
 
   pub natural : lt_z (read v) (pos 0) ≡ false → Natural v
   natural e = natural_of v f (ap (λ (z : ℤ). lt_z z (pos 0)) (sym (to_z-of_z f)) ∙ e)
-
--- A number that is not below 0, cast to an unsigned one.
-module _ {v : ℤ} (h : Natural v) where
-  read_natural : read v ≡ pos h.0
-  read_natural = ap read h.1 ∙ to_z_pos w64 h.2
-
-  pub cast_natural : T (non_neg (read v)) × Fits w64 (nat_abs (read v))
-  cast_natural = rw read_natural (tt, record { fits = omega (arith, h.2) })
-
-  pub size_natural : nat_abs (read v) ≡ nat_abs v
-  size_natural = ap nat_abs (read_natural ∙ sym h.1)
-
--- -1 - v for a number below 0.
-module _ {v : ℤ} (f : SFits w64 v) (h : Negative v) where
-  turned : negsuc 0 -ℤ read v ≡ pos h.0
-  unfolding complement
-  turned = minus (read v) ∙ ap complement (to_z-of_z f ∙ h.1)
-
-  pub turned_natural : Natural (negsuc 0 -ℤ read v)
-  turned_natural = (h.0, turned, h.2)
-
-  pub turned_fits : SFits w64 (negsuc 0 -ℤ read v)
-  turned_fits = rw turned (record { sfits = h.2 })
-
-  turned_size : nat_abs (read (negsuc 0 -ℤ read v)) ≡ h.0
-  turned_size = size_natural turned_natural ∙ ap nat_abs turned
-
-  pub more_fits : Fits w64 (nat_abs (read (negsuc 0 -ℤ read v)) + 1)
-  more_fits = rw turned_size (record { fits = omega (arith, h.2) })
-
-  pub size_negative : nat_abs (read (negsuc 0 -ℤ read v)) + 1 ≡ nat_abs v
-  size_negative = ap (λ (n : ℕ). n + 1) turned_size ∙ add-one h.0 ∙ sym (ap nat_abs h.1)

@@ -1,4 +1,5 @@
 // The lines that the program prints, written into a lent buffer from its front. The buffer and the place in it stay two parameters, as in spelling.
+// The room stands in each contract: the second line is written into what is left of the buffer, a slice, so that an array's type could not have it.
 #![tactic(auto)]
 
 ghost use Rattle.std.specs.Prelude.{◌≡◌, ◌+◌, ◌≤◌, ◌<◌, cond, [], ◌∷◌, ◌++◌, map, eqb, length, IfSome};
@@ -34,7 +35,8 @@ fn put_number(out: &mut [u8], at: usize, n: u64, end: u8) -> usize
     last + 1
 }
 
-// A signed number of 64 bits, and what ends it. Answers the next place.
+// A signed number of 64 bits, and what ends it. Answers the next place. The one of spelling has 32 bits, as a bound has: with 64 there, its caller would have
+// to widen each bound, and what ends a number would still be put here.
 fn put_signed(out: &mut [u8], at: usize, v: i64, end: u8) -> usize
     requires { at + 22 ≤ length out.old }
     ensures { (out.new ≡ put at (signed_decimal v ++ (end ∷ [])) out.old)
@@ -64,7 +66,8 @@ fn put_ending(out: &mut [u8], ending: u32) -> usize
     }
 }
 
-// The first line of an answer. Answers its length.
+// The first line of an answer. Answers its length. What a search answers is a struct of the crate above, as the C interface hands it out: one here would be
+// filled from it field by field at the one call.
 pub fn result_line(
     out: &mut [u8],
     ending: u32,
@@ -91,13 +94,14 @@ fn bit_digit(b: u8) -> u8
     b'0' + u8::from(b != 0)
 }
 
-// The library has no method that maps one slice over another, so that this is a loop.
+// After a loop over a `zip` of `iter_mut` with the bits the library says nothing of what the buffer holds, and with `enumerate` the bits would go by the
+// index: so the buffer does.
 fn put_bits(out: &mut [u8], bits: &[u8])
     requires { length bits.now ≤ length out.old }
     ensures { out.new ≡ front (map (λ b. cond (eqb b 0) (digitOf 0) (digitOf 1)) bits.now) out.old }
 {
-    for i in 0..bits.len() {
-        out[i] = bit_digit(bits[i]);
+    for (i, &bit) in bits.iter().enumerate() {
+        out[i] = bit_digit(bit);
     }
 }
 
@@ -122,6 +126,6 @@ pub fn refusal_line(out: &mut [u8], number: u32, offset: usize) -> usize
     ensures { (out.new ≡ front (refusal_line number offset) out.old) × (result ≡ length (refusal_line number offset)) }
 {
     let a = put_word(out, b"refused", SPACE);
-    let b = put_number(out, a, number as u64, SPACE);
+    let b = put_number(out, a, u64::from(number), SPACE);
     put_number(out, b, offset as u64, LINE_FEED)
 }

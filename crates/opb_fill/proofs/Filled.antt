@@ -5,6 +5,7 @@ use native.Mathlib.Omega.{arith}
 use mathlib.Core.Path.{◌≡◌, refl, sym, ap, ap₂, ◌∙◌}
 use mathlib.Core.Bool.{Bool, true, false, cond}
 use mathlib.Core.List.{List, [], ◌∷◌, ◌++◌, map, append_assoc, append-nil}
+use denote.Enum.Bare.{sameb}
 use lib.Dec.{eqb}
 use lib.IntN.{nat_abs}
 use lib.ListN.{length, get_or, replicate, length-append, length-map}
@@ -35,15 +36,16 @@ use Rattle.tokens.proofs.Runs.{read_behind}
 use Rattle.tokens.proofs.Numbers.{seen_small}
 use Rattle.statements.specs.declared.Relation.{Relation}
 use Rattle.statements.specs.declared.Kind.{Kind}
+use Rattle.statements.specs.contracts.Kind.{the_type}
 use Rattle.statements.specs.declared.Kind.TheVariants.{Comment, Objective, Constraint}
 use Rattle.statements.specs.Parts.{IsKind, behind_min, RelationAt}
-use Rattle.statements.specs.Grammar.{unsigned_from, with_sign, integer_at, is_objective, is_constraint, sum_from, sum_at, sum_end, has_terms, is_bounded, is_exact, bound_from, bound_at, rule_at}
+use Rattle.statements.specs.Grammar.{unsigned_from, with_sign, integer_at, is_objective, is_constraint, sum_from, terms_in, sum_at, sum_end, has_terms, is_bounded, is_exact, bound_from, bound_at, rule_at}
 use Rattle.statements.proofs.Parts.{size_signed}
 use Rattle.statements.proofs.Sums.{sum_none, no_term}
 use Rattle.opb_lines.specs.ReadText.{variables_in, objective_of, plan_of_text}
 use Rattle.opb_lines.specs.Lines.{next_line, lines_from}
 use Rattle.opb_lines.proofs.Lines.{lines_here, lines_none, lines_behind, lines_of, next_on}
-use Rattle.opb_fill.specs.Fill.{Says, constraints_from, Reaches, InRange, ConstraintHere}
+use Rattle.opb_fill.specs.Fill.{Says, of_kind, those_from, constraints_from, FirstFrom, Reaches, InRange, ConstraintHere}
 use Rattle.opb_fill.proofs.Accepted.{stated, not_objective, constraint_places, rules_are, terms_are, said, lawful_text}
 
 -- ---- from constraint to constraint
@@ -53,36 +55,34 @@ module _ (s : List ℕ) (at : ℕ) (l : at < length s) where
   line_split = lines_here s at l ∙ ap (λ ats. at ∷ ats) (lines_behind s at (omega arith))
 
   pub constraint_first : is_constraint s at ≡ true → constraints_from s at ≡ at ∷ constraints_from s (next_line s at)
-  unfolding constraints_from keep
+  unfolding those_from keep
   constraint_first h = rw (line_split, h)
 
-  pub constraint_skipped : is_constraint s at ≡ false → constraints_from s (next_line s at) ≡ constraints_from s at
-  unfolding constraints_from keep
-  constraint_skipped h = rw (line_split, h)
+  pub line_skipped : (such : List ℕ → ℕ → Bool) → such s at ≡ false → those_from such s (next_line s at) ≡ those_from such s at
+  unfolding those_from keep
+  line_skipped such h = rw (line_split, h)
 
 -- What is known of a line by its kind.
 module _ (s : List ℕ) (at : ℕ) where
-  pub constraint_at : IsKind s at Constraint → is_constraint s at ≡ true
+  -- A line is of a kind where its own is that one.
+  pub kind_tells : (k other : Kind) → IsKind s at k → of_kind other s at ≡ sameb the_type k other
   unfolding is_constraint ◌and◌
-  constraint_at (a, b) = rw (a, b)
-
-  pub constraint_not : (k : Kind) → IsKind s at k → (k ≡ Constraint → ⊥) → is_constraint s at ≡ false
-  unfolding is_constraint ◌and◌
-  constraint_not Comment a n = rw a
-  constraint_not Objective (a, b) n = rw (a, b)
-  constraint_not Constraint h n = absurd (n refl)
-
-  pub objective_not : (k : Kind) → IsKind s at k → (k ≡ Objective → ⊥) → is_objective s at ≡ false
-  objective_not Comment a n = not_objective s at a
-  objective_not Objective h n = absurd (n refl)
-  objective_not Constraint (a, b) n = b
+  kind_tells Comment Comment a = a
+  kind_tells Comment Objective a = not_objective s at a
+  kind_tells Comment Constraint a = rw a
+  kind_tells Objective Comment (a, b) = a
+  kind_tells Objective Objective (a, b) = b
+  kind_tells Objective Constraint (a, b) = rw (a, b)
+  kind_tells Constraint Comment (a, b) = a
+  kind_tells Constraint Objective (a, b) = b
+  kind_tells Constraint Constraint (a, b) = rw (a, b)
 
 pub constraints_none : (s : List ℕ) (at : ℕ) → length s ≤ at → constraints_from s at ≡ []
-unfolding constraints_from keep
+unfolding those_from keep
 constraints_none s at h = rw (lines_none s at h)
 
 pub all_constraints : (s : List ℕ) → constraint_places s ≡ constraints_from s (next_line s 0)
-unfolding constraints_from
+unfolding those_from
 all_constraints s = ap (keep (is_constraint s)) (lines_of s)
 
 -- ---- a constraint's rule
@@ -130,9 +130,10 @@ pub record Going (s : List ℕ) (at : ℕ) : Type 0 where
   pub right : all (λ k. rule_lawful (variables_in s) (rule_at s k)) (constraints_from s at) ≡ true
   pub stated_all : all (stated s) (constraints_from s at) ≡ true
 
--- What is reached from behind a line is reached from where the line ends.
-pub reaches_behind : {s : List ℕ} {at : ℕ} {u v : Text} → Behind next_line s at u → Reads Reaches u v → Reaches s (next_line s at) v
-reaches_behind b r = rw (sym b.at, sym b.bytes) r
+-- What is first from behind a line is first from where the line ends.
+pub first_behind :
+    {such : List ℕ → ℕ → Bool} {s : List ℕ} {at : ℕ} {u v : Text} → Behind next_line s at u → Reads (FirstFrom such) u v → FirstFrom such s (next_line s at) v
+first_behind b r = rw (sym b.at, sym b.bytes) r
 
 -- What is reached is in the text.
 pub reached : {s : List ℕ} {from : ℕ} {u : Text} → Reaches s from u → u.at ≤ length s
@@ -528,18 +529,42 @@ module _ {clauses : ℕ} {o : List ℕ} {c : ℕ} {t : List ℕ} (h : ClauseFill
 
 -- ---- the objective
 
-module _ (s : List ℕ) (at : ℕ) where
-  pub objective_here_lem : {u : Text} → at < length s → is_objective s at ≡ true → Behind behind_min s at u → read sum_at u ≡ objective_of s (lines_from s at)
+-- The terms of the first objective are those of the first among the objectives.
+kept_by :
+    (s : List ℕ) (t : Bool) (at : ℕ) (ats : List ℕ) → is_objective s at ≡ t → objective_of s ats ≡ objective_of s (keep (is_objective s) ats)
+    → cond t (terms_in s at) (objective_of s ats) ≡ objective_of s (cond t (at ∷ keep (is_objective s) ats) (keep (is_objective s) ats))
+unfolding objective_of
+kept_by s true at ats e h = rw e
+kept_by s false at ats e h = h
+
+objective_kept : (s ats : List ℕ) → objective_of s ats ≡ objective_of s (keep (is_objective s) ats)
+unfolding objective_of keep
+objective_kept s [] = refl
+objective_kept s (at ∷ ats) = kept_by s (is_objective s at) at ats refl (objective_kept s ats)
+
+module _ (s : List ℕ) (from : ℕ) {t : Text} (h : FirstFrom is_objective s from t) where
+  same_terms : objective_of s (lines_from s t.at) ≡ objective_of s (lines_from s from)
+  unfolding those_from
+  same_terms = objective_kept s (lines_from s t.at) ∙ ap (objective_of s) h.same ∙ sym (objective_kept s (lines_from s from))
+
+  pub objective_here_lem : {u : Text} → t.at < length t.bytes.now → Reads (Behind behind_min) t u → read sum_at u ≡ objective_of s (lines_from s from)
   unfolding objective_of sum_from
-  objective_here_lem l e q = rw (line_split s at l, e) (read_behind q sum_at)
+  objective_here_lem {u} l q =
+      let k : t.at < length s = omega (arith, l, ap length h.bytes) in
+      let is = h.here k in
+      let terms : read sum_at u ≡ objective_of s (lines_from s t.at) =
+      rw (line_split s t.at k, is) (read_behind q sum_at ∙ ap (λ x. sum_at x (behind_min x t.at)) h.bytes)
+      in
+      terms ∙ same_terms
 
-  pub objective_on : at < length s → is_objective s at ≡ false → objective_of s (lines_from s (next_line s at)) ≡ objective_of s (lines_from s at)
+  pub objective_none : length t.bytes.now ≤ t.at → read sum_at t ≡ objective_of s (lines_from s from)
   unfolding objective_of
-  objective_on l e = rw (line_split s at l, e)
-
-  pub objective_none : at ≤ length s → length s ≤ at → sum_at s at ≡ objective_of s (lines_from s at)
-  unfolding objective_of
-  objective_none l k = rw (lines_none s at k) (sum_none s at (no_term s at k)).0
+  objective_none k =
+      let l : length s ≤ t.at = omega (arith, k, ap length h.bytes) in
+      let terms : read sum_at t ≡ objective_of s (lines_from s t.at) =
+      ap (λ x. sum_at x t.at) h.bytes ∙ rw (lines_none s t.at l) (sum_none s t.at (no_term s t.at l)).0
+      in
+      terms ∙ same_terms
 
 module _ (s : List ℕ) (e : Says s) (ts : List Term) (q : ts ≡ objective_of s (lines_from s (next_line s 0))) where
   is_objective_lem : ts ≡ (plan_of_text s).objective

@@ -13,22 +13,26 @@ ghost use Rattle.statements.specs.Grammar.{sum_at, rule_at, with_sign};
 ghost use Rattle.opb_lines.specs.ReadText.{plan_of_text, objective_of};
 ghost use Rattle.opb_lines.specs.Lines.{next_line, lines_from};
 ghost use Rattle.tokens.specs.Found.{read, Reads};
-ghost use Rattle.opb_fill.specs.Fill.{Says, constraints_from, Reaches, InRange, ConstraintHere};
+ghost use Rattle.opb_fill.specs.Fill.{of_kind, FirstFrom, Reaches, InRange, ConstraintHere};
 
+mod lawful;
+
+use format::Mode;
+pub use lawful::Lawful;
 use opb_lines::next_line;
 use statements::{Kind, Signed, kind_at, objective_sum, relation_at, sum_at, term_at};
-use tables::entries::{put_clause, put5};
+use tables::entries::{put_clause, put_entry};
 use tables::sections::Counted;
 use tokens::Text;
 use words::{clear, narrow, write_two, write_u32};
 
-// The first constraint from a line on, or the end of the text.
-fn constraint_from(t: Text<'_>) -> Text<'_>
-    ensures { Reads Reaches t.entry result }
+// The first line of a kind from a line on, or the end of the text.
+fn first_from(kind: Kind, t: Text<'_>) -> Text<'_>
+    ensures { Reads (FirstFrom (of_kind kind)) t.entry result }
 {
     let mut text = t;
     while text.at < text.bytes.len() {
-        if let Kind::Constraint = kind_at(text.bytes, text.at) {
+        if kind_at(text.bytes, text.at) == kind {
             return text;
         }
         text = next_line(text);
@@ -40,10 +44,10 @@ fn constraint_from(t: Text<'_>) -> Text<'_>
 fn constraint_behind(t: Text<'_>) -> Text<'_>
     ensures { Reaches t.entry.bytes.now (read next_line t.entry) result }
 {
-    constraint_from(next_line(t))
+    first_from(Kind::Constraint, next_line(t))
 }
 
-// The word of a signed number.
+// The word of a signed number. It is no `From`: that keeps a number, and below 0 the word is another one.
 fn signed_word(number: Signed) -> u32
     ensures { result ≡ unsigned (with_sign number.negative number.size) }
 {
@@ -63,49 +67,16 @@ fn put_rule(t: Text<'_>, first: usize, out: &mut [u8]) -> usize
     let sum = sum_at(t, 0).unwrap();
     let relation = relation_at(sum.rest).unwrap();
     let bound = signed_word(relation.bound);
-    let mode = if relation.exact { 3 } else { 1 };
-    let upper = if relation.exact { bound } else { 0 };
-    put5(out, narrow(first), narrow(sum.count), mode, bound, upper);
+    let (mode, upper) = if relation.exact {
+        (Mode::Both, bound)
+    } else {
+        (Mode::Lower, 0)
+    };
+    put_entry(
+        out,
+        &[narrow(first), narrow(sum.count), mode as u32, bound, upper],
+    );
     sum.count
-}
-
-// The rules; it answers how many there are, and how many terms they have.
-pub fn rule_section(s: &[u8], out: &mut [u8]) -> Counted
-    requires says { Says s.now }
-    requires out_len { length out.old ≡ rule_section_size }
-    ensures { (result.rules ≡ length (rules_of (plan_of_text s.now))) × (result.terms ≡ term_count (plan_of_text s.now))
-        × (out.new ≡ word_bytes (rule_words (plan_of_text s.now))) }
-{
-    let mut text = constraint_behind(Text { bytes: s, at: 0 });
-    let mut rules = 0;
-    let mut first = 0;
-    while text.at < text.bytes.len() {
-        let place = 20 * rules;
-        first += put_rule(text, first, &mut out[place..]);
-        rules += 1;
-        text = constraint_behind(text);
-    }
-    let end = 20 * rules;
-    clear(&mut out[end..]);
-    Counted {
-        rules,
-        terms: first,
-    }
-}
-
-// The clauses, each of one rule.
-#[tactic(auto, using(crate::proofs::Filled::clause_space, crate::proofs::Filled::clause_all_space))]
-pub fn clause_section(s: &[u8], clauses: usize, out: &mut [u8])
-    requires says { Says s.now }
-    requires clauses_value { (clauses ≡ length (plan_of_text s.now).clauses) × (length out.old ≡ clause_section_size) }
-    ensures { out.new ≡ word_bytes (clause_words (plan_of_text s.now)) }
-{
-    for c in 0..clauses {
-        let place = 8 * c;
-        put_clause(&mut out[place..], c, 1);
-    }
-    let end = 8 * clauses;
-    clear(&mut out[end..]);
 }
 
 fn put_term(out: &mut [u8], variable: u32, weight: u32)
@@ -130,21 +101,6 @@ fn put_sum(t: Text<'_>, out: &mut [u8]) -> usize
     end
 }
 
-// The terms of the rules: the term table is lent from its current end onward to the function that writes one rule's terms.
-pub fn term_section(s: &[u8], terms: &mut [u8])
-    requires says { Says s.now }
-    requires terms_len { length terms.old ≡ term_size }
-    ensures { terms.new ≡ word_bytes (term_words (plan_of_text s.now)) }
-{
-    let mut text = constraint_behind(Text { bytes: s, at: 0 });
-    let mut end = 0;
-    while text.at < text.bytes.len() {
-        end += put_sum(text, &mut terms[end..]);
-        text = constraint_behind(text);
-    }
-    clear(&mut terms[end..]);
-}
-
 fn put_coefficient(out: &mut [u8], variable: u32, weight: u32)
     requires { (1 ≤ variable) × (variable ≤ 512) × (length out.old ≡ 2_048) }
     ensures { out.new ≡ put (4 * (variable - 1)) (bytes_of 4 weight) out.old }
@@ -153,7 +109,9 @@ fn put_coefficient(out: &mut [u8], variable: u32, weight: u32)
     write_u32(out, place, weight);
 }
 
-// The terms of a sum, each at its variable's place.
+// The terms of a sum, each at its variable's place. The loop is that of `put_sum`, and what it carries is not: as one loop over a closure, what the closure has
+// written so far would have to be said at each call. The length stands in each contract that has the section, since a section is a part of the lent table: an
+// array would have to be made of it first.
 fn put_coefficients(t: Text<'_>, out: &mut [u8])
     requires { InRange (read sum_at t) × (in_range (read sum_at t) ≡ true) × (length out.old ≡ 2_048) }
     ensures { out.new ≡ placed (read sum_at t.entry) out.old }
@@ -169,22 +127,81 @@ fn put_coefficients(t: Text<'_>, out: &mut [u8])
 fn objective_begins(s: &[u8]) -> Text<'_>
     ensures { read sum_at result ≡ objective_of s.now (lines_from s.now (next_line s.now 0)) }
 {
-    let mut text = next_line(Text { bytes: s, at: 0 });
-    while text.at < text.bytes.len() {
-        if let Kind::Objective = kind_at(text.bytes, text.at) {
-            return objective_sum(text);
-        }
-        text = next_line(text);
+    let text = first_from(Kind::Objective, next_line(Text { bytes: s, at: 0 }));
+    if text.at < text.bytes.len() {
+        objective_sum(text)
+    } else {
+        text
     }
-    text
 }
 
-// The objective, a word for each variable.
-pub fn objective_section(s: &[u8], out: &mut [u8])
-    requires says { Says s.now }
-    requires out_len { length out.old ≡ 2_048 }
-    ensures { out.new ≡ word_bytes (objective_words (plan_of_text s.now)) }
-{
-    clear(out);
-    put_coefficients(objective_begins(s), out);
+// The sections, as `tables` has them of a file. A file tells where each of its fields lies, while of a text each constraint is read on from the one before it:
+// only what is written is shared, the entries and the zeros behind them, and not the loops.
+impl<'a> Lawful<'a> {
+    // The objective, a word for each variable.
+    pub fn objective_section(self, out: &mut [u8])
+        requires out_len { length out.old ≡ 2_048 }
+        ensures { out.new ≡ word_bytes (objective_words (plan_of_text self.entry.text.now)) }
+    {
+        clear(out);
+        put_coefficients(objective_begins(self.text), out);
+    }
+
+    // The clauses, each of one rule.
+    #[tactic(auto, using(crate::proofs::Filled::clause_space, crate::proofs::Filled::clause_all_space))]
+    pub fn clause_section(self, clauses: usize, out: &mut [u8])
+        requires clauses_value { (clauses ≡ length (plan_of_text self.text.now).clauses) × (length out.old ≡ clause_section_size) }
+        ensures { out.new ≡ word_bytes (clause_words (plan_of_text self.entry.text.now)) }
+    {
+        for c in 0..clauses {
+            let place = 8 * c;
+            put_clause(&mut out[place..], c, 1);
+        }
+        let end = 8 * clauses;
+        clear(&mut out[end..]);
+    }
+
+    // The rules; it answers how many there are, and how many terms they have.
+    pub fn rule_section(self, out: &mut [u8]) -> Counted
+        requires out_len { length out.old ≡ rule_section_size }
+        ensures { (result.rules ≡ length (rules_of (plan_of_text self.entry.text.now))) × (result.terms ≡ term_count (plan_of_text self.entry.text.now))
+            × (out.new ≡ word_bytes (rule_words (plan_of_text self.entry.text.now))) }
+    {
+        let mut text = constraint_behind(Text {
+            bytes: self.text,
+            at: 0,
+        });
+        let mut rules = 0;
+        let mut first = 0;
+        while text.at < text.bytes.len() {
+            let place = 20 * rules;
+            first += put_rule(text, first, &mut out[place..]);
+            rules += 1;
+            text = constraint_behind(text);
+        }
+        let end = 20 * rules;
+        clear(&mut out[end..]);
+        Counted {
+            rules,
+            terms: first,
+        }
+    }
+
+    // The terms of the rules: the term table is lent from its current end onward to the function that writes one rule's terms.
+    // The two loops over the constraints have their form in common, and what each carries is its own, as with `put_sum`.
+    pub fn term_section(self, terms: &mut [u8])
+        requires terms_len { length terms.old ≡ term_size }
+        ensures { terms.new ≡ word_bytes (term_words (plan_of_text self.entry.text.now)) }
+    {
+        let mut text = constraint_behind(Text {
+            bytes: self.text,
+            at: 0,
+        });
+        let mut end = 0;
+        while text.at < text.bytes.len() {
+            end += put_sum(text, &mut terms[end..]);
+            text = constraint_behind(text);
+        }
+        clear(&mut terms[end..]);
+    }
 }

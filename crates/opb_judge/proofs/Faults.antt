@@ -21,6 +21,10 @@ use Rattle.statements.specs.declared.Sum.{Sum}
 use Rattle.statements.specs.Grammar.{unsigned_from, integer_at, bound_from, bound_at, is_comment, is_objective, min_word, sum_from, sum_at, sum_end, terms_in}
 use Rattle.statements.specs.Parts.{behind_min, SumAt}
 use Rattle.statements.proofs.Parts.{size_signed}
+use Rattle.std.specs.Prelude.{Result, Ok, Err}
+use Rattle.opb_judge.specs.declared.Fault.{Fault}
+use Rattle.opb_judge.specs.declared.Fault.TheVariants.{TermsUnlawful}
+use Rattle.opb_judge.specs.Steps.{number_of, Finds, Unless}
 use Rattle.opb_lines.specs.ReadText.{variables_in, first_met, objective_fault, constraint_fault, fault}
 
 false_true : false ≡ true → ⊥
@@ -66,6 +70,30 @@ refused_zero false x h = (refl, h)
 pub malformed_is : {a : Bool} (b c d e : Bool) → a ≡ false → 31 ≡ first_met (not a) b c d e
 unfolding first_met refuse
 malformed_is b c d e h = rw h
+
+-- A formed statement's faults, one after another: each is told where it is met and none before it is.
+pub above_first : {b : Bool} (c d e : Bool) → b ≡ true → 32 ≡ first_met false b c d e
+unfolding first_met refuse
+above_first c d e h = rw h
+
+pub full_next : {b c : Bool} (d e : Bool) → b ≡ false → c ≡ true → 4 ≡ first_met false b c d e
+unfolding first_met refuse
+full_next d e h k = rw (h, k)
+
+pub wide_next : {b c d : Bool} (e : Bool) → b ≡ false → c ≡ false → d ≡ true → 6 ≡ first_met false b c d e
+unfolding first_met refuse
+wide_next e h k l = rw (h, k, l)
+
+pub lawful_last :
+    {b c d : Bool} (e : Bool) → b ≡ false → c ≡ false → d ≡ false → (r : Result (Unit {0}) Fault) → Unless e TermsUnlawful r
+    → Finds (first_met false b c d e) r
+unfolding first_met refuse
+lawful_last e h k l (Ok u) m = rw (h, k, l, m)
+lawful_last e h k l (Err f) (m, f_is) = rw (h, k, l, m, f_is)
+
+-- What is told of a statement is told of its line.
+pub told_on : {n m : ℕ} → n ≡ m → {f g : Fault} → g ≡ f → number_of f ≡ n → number_of g ≡ m
+told_on e p q = ap number_of p ∙ q ∙ e
 
 -- "min:" is there where its end is behind its place.
 pub named_is : (t : Text) (r : Option Text) → Found (begins min_word (left t)) (Reads (Behind (word_end min_word)) t) r → is_some r ≡ takes (word_end min_word) t

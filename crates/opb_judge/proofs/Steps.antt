@@ -2,15 +2,20 @@
 -- Assumes nothing.
 use Prim.Native.Nat.{ℕ, ◌+◌, ◌≤◌, ◌<◌}
 use native.Mathlib.Omega.{arith}
-use mathlib.Core.Path.{◌≡◌, sym, ap, subst, ◌∙◌}
-use mathlib.Core.Bool.{true, false}
+use mathlib.Core.Path.{◌≡◌, refl, sym, ap, subst, ◌∙◌}
+use mathlib.Core.Bool.{Bool, true, false}
 use mathlib.Core.List.{List}
-use lib.Dec.{eqb}
+use lib.Dec.{eqb, leb}
 use lib.ListN.{length, drop}
-use borrow.Author.Tests.{eq-eqb, ne_eqb, lt-ltb, le-leb, lt-leb}
+use borrow.Author.Rules.{rules}
+use borrow.Author.Tests.{eq-eqb, ne_eqb, lt-ltb, le-leb, lt-leb, leb-true, leb-false, tests}
+use Rattle.std.specs.Ordering.{is_le, nat_cmp}
+use Rattle.std.specs.declared.ops.RangeInclusive.{RangeInclusive}
+use Rattle.std.specs.Range.{range_inclusive_start, range_inclusive_end, range_inclusive_exhausted, range_inclusive_contains}
 use Rattle.plpb.specs.Lists.{◌and◌, is_empty}
 use Rattle.plpb.specs.Plan.{Plan}
 use Rattle.format.specs.File.{Reading, refuse}
+use Rattle.format.proofs.Bools.{and_left, and_right}
 use Rattle.tokens.specs.declared.text.Text.{Text}
 use Rattle.tokens.specs.Tokens.{seen}
 use Rattle.tokens.specs.Found.{read, Behind}
@@ -24,7 +29,7 @@ use Rattle.opb_lines.proofs.Lines.{lines_here, lines_none, lines_behind}
 use Rattle.opb_judge.specs.declared.Passed.{Passed}
 use Rattle.opb_judge.specs.declared.Fault.{Fault}
 use Rattle.opb_judge.specs.declared.Fault.TheVariants.{Malformed, VariableAbove, ConstraintsMiscounted, OutOfRange, TermsUnlawful, BoundWide}
-use Rattle.std.specs.Prelude.{Result, Ok, Err}
+use Rattle.std.specs.Prelude.{Result, Ok, Err, Some}
 use Rattle.opb_judge.specs.Steps.{number_of, OnFault, Steps}
 use Rattle.opb_judge.proofs.Faults.{refused_zero, constraint_few}
 
@@ -111,6 +116,28 @@ module _ (s : List ℕ) (at : ℕ) (p : Passed) (h : length s ≤ at) (few : p.c
   pub judged_wrong : (p.constraints ≡ m → ⊥) → Refused 32 0 ≡ last
   unfolding judging outcome
   judged_wrong q = rw (lines_none s at h, sym same ∙ ne_eqb _ _ q)
+
+-- What a range's `contains` tells of a number is what its two tests say.
+le_test : (a b : ℕ) → is_le (nat_cmp a b) ≡ leb a b
+le_test a b = search (rules, tests)
+
+module _ {b : Bool} (n : ℕ) {r : RangeInclusive ℕ} (start : range_inclusive_start r ≡ 1) (end : range_inclusive_end r ≡ 512) (on : range_inclusive_exhausted r ≡ false)
+    (contains : b ≡ range_inclusive_contains (λ i j. Some (nat_cmp i j)) r n)
+  where
+    told : b ≡ leb 1 n and leb n 512
+    unfolding ◌and◌
+    told = rw (← le_test 1 n, ← le_test n 512) (contains ∙ rw (start, end, on))
+
+    pub inside : b ≡ true → (1 ≤ n) × (n ≤ 512)
+    inside e = let f = sym told ∙ e in (leb-true 1 n (and_left _ _ f), leb-true n 512 (and_right _ _ f))
+
+    pub outside : {R : Type 0} → b ≡ false → (n < 1 → R) → (1 ≤ n → 512 < n → R) → R
+    unfolding ◌and◌
+    outside {R} e below above = by (leb 1 n) refl (sym told ∙ e)
+      where
+        by : (x : Bool) → leb 1 n ≡ x → x and leb n 512 ≡ false → R
+        by true f g = above (leb-true 1 n f) (leb-false n 512 g)
+        by false f g = below (leb-false 1 n f)
 
 -- The first line.
 module _ (s : List ℕ) where

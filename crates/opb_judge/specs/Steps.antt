@@ -1,6 +1,6 @@
 -- The faults of a text by their numbers, and one line judged and read on from.
 -- Assumes nothing.
-use Rattle.std.specs.Prelude.{ℕ, ◌≤◌, ◌≡◌, Bool, List, ◌∷◌, Result, MatchResult}
+use Rattle.std.specs.Prelude.{ℕ, ◌≤◌, ◌≡◌, Bool, true, false, List, ◌∷◌, Result, MatchResult}
 use Rattle.plpb.specs.Lists.{is_empty}
 use Rattle.format.specs.File.{refused, refuse}
 use Rattle.statements.specs.Grammar.{terms_in}
@@ -21,6 +21,10 @@ number_of BoundWide = 6
 -- No fault, or the one of this number.
 abbrev pub Finds : ℕ → Result (Unit {0}) Fault → Type 0
 Finds number r = MatchResult r (λ u. number ≡ 0) (λ f. number_of f ≡ number)
+
+-- The fault that is told where it is met.
+abbrev pub Unless : Bool → Fault → Result (Unit {0}) Fault → Type 0
+Unless met fault r = MatchResult r (λ u. met ≡ false) (λ f. (met ≡ true) × (f ≡ fault))
 
 -- The fault of an objective and of a constraint, each malformed where its sum has no term.
 abbrev pub objective_line : List ℕ → Bool → ℕ → ℕ

@@ -7,8 +7,8 @@ ghost use Rattle.tokens.specs.Found.{read};
 ghost use Rattle.statements.specs.Grammar.{is_objective, sum_from, closes, sum_at};
 ghost use Rattle.statements.specs.Parts.{SumAt};
 ghost use Rattle.verdict.specs.Answers.{Refused, outcome};
-ghost use Rattle.opb_lines.specs.ReadText.{variables_in, constraints_in, starts, first_met, judging, read_text};
-ghost use Rattle.opb_judge.specs.Steps.{objective_line, constraint_line, number_of, Finds, OnFault, Steps};
+ghost use Rattle.opb_lines.specs.ReadText.{variables_in, constraints_in, starts, judging, read_text};
+ghost use Rattle.opb_judge.specs.Steps.{objective_line, constraint_line, number_of, Finds, Unless, OnFault, Steps};
 
 use faults::rules_full;
 use opb_lines::{first_line, next_line};
@@ -36,12 +36,12 @@ pub enum Fault {
     BoundWide,
 }
 
-impl Fault {
-    // Its number in a refusal.
-    fn number(self) -> u32
-        ensures { result ≡ number_of self }
-    {
-        match self {
+// Its number in a refusal.
+impl From<Fault> for u32 {
+    ghost from_gives = { λ fault n. n ≡ number_of fault };
+
+    fn from(fault: Fault) -> u32 {
+        match fault {
             Fault::Malformed => 31,
             Fault::VariableAbove => 32,
             Fault::ConstraintsMiscounted => 32,
@@ -70,26 +70,14 @@ fn closed(t: Text<'_>, end: usize) -> bool
     byte(t.bytes, t.at) == b';' && t.at + 1 == end
 }
 
-// "32 for a variable above n, then 4 to 6 as in a plan": the first that a formed statement meets.
-fn first_met(above: bool, full: bool, wide: bool, lawful: bool) -> Result<(), Fault>
-    ensures { Finds (first_met false above full wide (not lawful)) result }
+// A fault, where it is met.
+fn fault_if(met: bool, fault: Fault) -> Result<(), Fault>
+    ensures { Unless met fault result }
 {
-    if above {
-        return Err(Fault::VariableAbove);
-    }
-    if full {
-        return Err(Fault::OutOfRange);
-    }
-    if wide {
-        return Err(Fault::BoundWide);
-    }
-    if lawful {
-        Ok(())
-    } else {
-        Err(Fault::TermsUnlawful)
-    }
+    if met { Err(fault) } else { Ok(()) }
 }
 
+// "32 for a variable above n, then 4 to 6 as in a plan": the first that a formed statement meets.
 fn objective_fault(line: Line<'_>, sum: Sum<'_>, free: bool) -> Result<(), Fault>
     requires { SumAt line.text.bytes.now (read sum_from line.text) (variables_in line.text.bytes.now) sum }
     ensures { Finds (objective_line line.entry.text.bytes.now free line.entry.text.at) result }
@@ -99,7 +87,8 @@ fn objective_fault(line: Line<'_>, sum: Sum<'_>, free: bool) -> Result<(), Fault
     if !formed {
         return Err(Fault::Malformed);
     }
-    first_met(sum.above, false, false, sum.lawful)
+    fault_if(sum.above, Fault::VariableAbove)?;
+    fault_if(!sum.lawful, Fault::TermsUnlawful)
 }
 
 fn constraint_fault(line: Line<'_>, sum: Sum<'_>, passed: Passed) -> Result<(), Fault>
@@ -112,14 +101,12 @@ fn constraint_fault(line: Line<'_>, sum: Sum<'_>, passed: Passed) -> Result<(), 
     if !closed(relation.rest, line.end) {
         return Err(Fault::Malformed);
     }
+    fault_if(sum.above, Fault::VariableAbove)?;
     // "4: [..] the 513th clause, [..] or a field that brings terms of rules above 6,000."
-    let past = rules_full::<512>(passed.constraints, passed.terms, sum.count);
-    first_met(
-        sum.above,
-        past,
-        1000000000 < relation.bound.size,
-        sum.lawful,
-    )
+    let full = rules_full::<512>(passed.constraints, passed.terms, sum.count);
+    fault_if(full, Fault::OutOfRange)?;
+    fault_if(1000000000 < relation.bound.size, Fault::BoundWide)?;
+    fault_if(!sum.lawful, Fault::TermsUnlawful)
 }
 
 fn objective_step(line: Line<'_>, passed: Passed) -> Result<Passed, Fault>
@@ -133,8 +120,7 @@ fn objective_step(line: Line<'_>, passed: Passed) -> Result<Passed, Fault>
     objective_fault(line, sum, passed.free)?;
     Ok(Passed {
         free: false,
-        constraints: passed.constraints,
-        terms: passed.terms,
+        ..passed
     })
 }
 
@@ -174,7 +160,7 @@ fn refused(fault: Fault, at: usize) -> Result<(), Refusal>
     ensures { result ≡ Refused (number_of fault) at }
 {
     Err(Refusal {
-        number: fault.number(),
+        number: u32::from(fault),
         offset: at,
     })
 }
@@ -210,10 +196,7 @@ pub fn judge_text(s: &[u8]) -> Result<(), Refusal>
     let Some(first) = first_line(s) else {
         return refused(Fault::Malformed, 0);
     };
-    if first.variables < 1 {
-        return refused(Fault::OutOfRange, 0);
-    }
-    if 512 < first.variables {
+    if !(1..=512).contains(&first.variables) {
         return refused(Fault::OutOfRange, 0);
     }
     judge_lines(s, first.variables, first.constraints)

@@ -4,18 +4,18 @@ use mathlib.Core.Path.{◌≡◌, sym, ap, ◌∙◌}
 use mathlib.Core.Bool.{Bool, true, false}
 use mathlib.Core.List.{List, [], ◌∷◌}
 use Prim.Native.Nat.{ℕ}
-use lib.Dec.{ltb}
+use lib.Dec.{ltb, eqb}
+use native.Mathlib.Omega.{arith}
 use lib.ListN.{get_or, drop}
-use borrow.Author.Tests.{eq-eqb, ne_eqb}
 use Rattle.std.specs.Prelude.{Option, Some, None}
 use Rattle.plpb.specs.Lists.{◌and◌}
 use Rattle.format.proofs.Bools.{and_join}
 use Rattle.tokens.specs.Tokens.{blanks_end, digits_end, begins, word_end, number_at, seen}
 use Rattle.tokens.specs.declared.text.Text.{Text}
-use Rattle.tokens.specs.Found.{read, Reads, Behind, takes, Found, NumberAt}
+use Rattle.tokens.specs.Found.{left, read, Reads, Behind, takes, Found, NumberAt}
 use Rattle.tokens.specs.declared.Number.{Number}
 use Rattle.tokens.proofs.Runs.{word_there, read_behind, behind}
-use Rattle.statements.proofs.Parts.{left_false, last_false}
+use Rattle.statements.proofs.Parts.{left_false, last_false, word_of_one}
 use Rattle.opb_lines.specs.ReadText.{star, variable_name, constraint_name, named_from, named_end, is_named, variables_at, constraints_at, first_end, first_formed}
 use Rattle.opb_lines.specs.Lines.{NamedAt}
 
@@ -90,19 +90,19 @@ module _ {s : List ℕ} {k : Text} (p : Behind (word_end star) s 0 k) {v : Text}
       unfolding first_formed
       no_constraints e = left_false _ (last_false _ (constraints_by e))
 
-      module _ {j : Text} (u : Reads (Behind (named_end constraint_name)) c j) {l : Text} (w : Reads (Behind blanks_end) j l) {b : ℕ} (x : b ≡ read (λ s at. get_or s at 0) l) where
-        feed_is : b ≡ get_or s (first_end s) 0
+      module _ {j : Text} (u : Reads (Behind (named_end constraint_name)) c j) {l : Text} (w : Reads (Behind blanks_end) j l) where
+        feed_by : {t : Bool} → begins (10 ∷ []) (left l) ≡ t → eqb (get_or s (first_end s) 0) 10 ≡ t
         unfolding first_end
-        feed_is = x ∙ read_behind (behind (behind second_is u) w) (λ s at. get_or s at 0)
+        feed_by e =
+            word_of_one 10 s (first_end s) (omega arith) ∙ sym (read_behind (behind (behind second_is u) w) (λ s at. begins (10 ∷ []) (drop at s))) ∙ e
 
-        pub no_feed : (b ≡ 10 → ⊥) → first_formed s ≡ false
+        pub no_feed : begins (10 ∷ []) (left l) ≡ false → first_formed s ≡ false
         unfolding first_formed
-        no_feed n = last_false _ (ne_eqb (get_or s (first_end s) 0) 10 (λ e. n (feed_is ∙ e)))
+        no_feed e = last_false _ (feed_by e)
 
         pub first_there :
-            begins star (drop 0 s) ≡ true → read (Named variable_name) v ≡ true → takes blanks_end i ≡ true → read (Named constraint_name) c ≡ true → b ≡ 10
-            → first_formed s ≡ true
+            begins star (drop 0 s) ≡ true → read (Named variable_name) v ≡ true → takes blanks_end i ≡ true → read (Named constraint_name) c ≡ true
+            → begins (10 ∷ []) (left l) ≡ true → first_formed s ≡ true
         unfolding first_formed
         first_there e f g h n =
-            and_join _ _ (and_join _ _ (and_join _ _ (and_join _ _ (word_there 42 [] s 0 ∙ e) (variables_by f)) (blanks_by g)) (constraints_by h))
-            (eq-eqb (get_or s (first_end s) 0) 10 (sym feed_is ∙ n))
+            and_join _ _ (and_join _ _ (and_join _ _ (and_join _ _ (word_there 42 [] s 0 ∙ e) (variables_by f)) (blanks_by g)) (constraints_by h)) (feed_by n)

@@ -7,13 +7,15 @@ use mathlib.Core.Bool.{Bool, true, false, not, cond}
 use mathlib.Core.List.{List, [], ◌∷◌}
 use lib.Dec.{ltb, eqb}
 use lib.ListN.{length, get_or, drop, length-drop, drop_of_length-le}
-use lib.Seq.{drop-drop}
+use lib.Seq.{drop-drop, get_or-drop}
 use borrow.Author.Tests.{lt-ltb, le-ltb, ltb-true, ltb-false}
 use Rattle.plpb.specs.Lists.{◌and◌, is_empty}
-use Rattle.tokens.specs.Tokens.{run, run_end, is_inside, line_end}
+use Rattle.std.specs.Prelude.{Option, Some, None}
+use Rattle.std.specs.Option.{unwrap_or}
+use Rattle.tokens.specs.Tokens.{run, run_end, is_inside, line_end, begins, word_end}
 use Rattle.tokens.specs.declared.text.Text.{Text}
-use Rattle.tokens.specs.Found.{Behind}
-use Rattle.tokens.proofs.Runs.{here, run_from}
+use Rattle.tokens.specs.Found.{left, Reads, Behind, Found}
+use Rattle.tokens.proofs.Runs.{here, run_from, read_behind}
 use Rattle.opb_lines.specs.ReadText.{starts}
 use Rattle.opb_lines.specs.Lines.{next_line, lines_from}
 
@@ -91,19 +93,55 @@ module _ (s : List ℕ) (at : ℕ) (h : at ≤ length s) where
       go true e = omega (arith, run_from is_inside s at)
       go false e = k
 
--- The line behind a line feed, or the end of the text.
-module _ {s : List ℕ} {at : ℕ} {end : Text} (b : Behind line_end s at end) where
-  pub behind_feed : end.at < length end.bytes.now → {r : Text} → r.bytes.now ≡ end.bytes.now → r.at ≡ end.at + 1 → Behind next_line s at r
-  unfolding next_line
-  behind_feed k p q =
-      let e : line_end s at < length s = omega (arith, b.at, ap length b.bytes) in
-      record { bytes = p ∙ b.bytes; at = q ∙ rw (lt-ltb _ _ e) (ap (λ x. x + 1) b.at) }
+-- Where bytes that are such end within a list, a byte stands that is none.
+stop_by :
+    (such : ℕ → Bool) (t : Bool) (b : ℕ) (bs : List ℕ) → such b ≡ t → (run such bs < length bs → such (get_or bs (run such bs) 0) ≡ false)
+    → cond t (suc (run such bs)) 0 < length (b ∷ bs) → such (get_or (b ∷ bs) (cond t (suc (run such bs)) 0) 0) ≡ false
+stop_by such true b bs e f h = f (omega arith)
+stop_by such false b bs e f h = e
 
-  pub next_none : length end.bytes.now ≤ end.at → Behind next_line s at end
-  unfolding next_line
-  next_none k =
-      let e : length s ≤ line_end s at = omega (arith, b.at, ap length b.bytes) in
-      record { bytes = b.bytes; at = rw (le-ltb _ _ e) (omega (arith, k, end.within, ap length b.bytes)) }
+run_stops : (such : ℕ → Bool) (bs : List ℕ) → run such bs < length bs → such (get_or bs (run such bs) 0) ≡ false
+unfolding run
+run_stops such [] h = absurd (omega arith)
+run_stops such (b ∷ bs) h = stop_by such (such b) b bs refl (run_stops such bs) h
+
+one_byte : (t : Bool) → not t ≡ false → t and true ≡ true
+unfolding ◌and◌
+one_byte true e = refl
+one_byte false e = absurd (let n : true ≡ false = e in let z : ◌≡◌ {A = ℕ} 0 1 = cc in omega arith)
+
+module _ (s : List ℕ) (at : ℕ) (h : at ≤ length s) where
+  -- A line feed stands where a line ends before the text does.
+  feed_at : line_end s at < length s → begins (10 ∷ []) (drop (line_end s at) s) ≡ true
+  unfolding begins run_end is_inside
+  feed_at k =
+      let l : run is_inside (drop at s) < length (drop at s) = omega (arith, length-drop at s) in
+      let e = run_stops is_inside (drop at s) l in
+      rw (here s (line_end s at) k) (one_byte _ (ap is_inside (sym (get_or-drop at s (run is_inside (drop at s)) 0)) ∙ e))
+
+  no_feed : length s ≤ line_end s at → begins (10 ∷ []) (drop (line_end s at) s) ≡ false
+  unfolding begins
+  no_feed k = rw (drop_of_length-le s {i = line_end s at} k) refl
+
+  -- The text behind that line feed, or the end of the text.
+  pub next_passed :
+      {end : Text} → Behind line_end s at end → (feed : Option Text)
+      → Found (begins (10 ∷ []) (left end)) (Reads (Behind (word_end (10 ∷ []))) end) feed → Behind next_line s at (unwrap_or feed end)
+  unfolding next_line word_end
+  next_passed {end} b feed found = go (ltb (line_end s at) (length s)) refl feed found
+    where
+      there : {t : Bool} → begins (10 ∷ []) (left end) ≡ t → begins (10 ∷ []) (drop (line_end s at) s) ≡ t
+      there e = sym (read_behind b (λ s at. begins (10 ∷ []) (drop at s))) ∙ e
+
+      go :
+          (t : Bool) → ltb (line_end s at) (length s) ≡ t → (feed : Option Text)
+          → Found (begins (10 ∷ []) (left end)) (Reads (Behind (word_end (10 ∷ []))) end) feed → Behind next_line s at (unwrap_or feed end)
+      go true e None f = absurd (let z : true ≡ false = sym (feed_at (ltb-true _ _ e)) ∙ there f in let y : ◌≡◌ {A = ℕ} 0 1 = cc in omega arith)
+      go true e (Some k) (f, g) = record { bytes = g.bytes ∙ b.bytes; at = rw e (g.at ∙ rw f (ap (λ x. x + 1) b.at)) }
+      go false e None f = record { bytes = b.bytes; at = rw e (omega (arith, ltb-false _ _ e, b.at, end.within, ap length b.bytes)) }
+      go false e (Some k) (f, g) =
+          let n : length s ≤ line_end s at = ltb-false _ _ e in
+          absurd (let z : true ≡ false = sym (there f) ∙ no_feed n in let y : ◌≡◌ {A = ℕ} 0 1 = cc in omega arith)
 
 -- All lines behind the first.
 pub lines_of : (s : List ℕ) → starts 0 s ≡ lines_from s (next_line s 0)

@@ -8,7 +8,7 @@ ghost use Rattle.tokens.specs.Found.{left, read, Reads, Behind, Found};
 ghost use Rattle.opb_lines.specs.ReadText.{named_from, named_end, first_formed};
 ghost use Rattle.opb_lines.specs.Lines.{NamedAt, FirstOf, next_line};
 
-use tokens::{Number, Text, byte};
+use tokens::{Number, Text};
 
 // A number behind its name.
 fn named_at<'a>(t: Text<'a>, name: &[u8]) -> Option<Number<'a>>
@@ -33,26 +33,17 @@ pub fn first_line(s: &[u8]) -> Option<First>
     let variables = named_at(behind.past_blanks(), b"#variable=")?;
     let second = variables.rest.past_some_blanks()?;
     let constraints = named_at(second, b"#constraint=")?;
-    let end = constraints.rest.past_blanks();
-    if byte(end.bytes, end.at) != b'\n' {
-        return None;
-    }
+    constraints.rest.past_blanks().past_word(b"\n")?;
     Some(First {
         variables: variables.value,
         constraints: constraints.value,
     })
 }
 
-// The next line, or the end of the text.
+// Behind the line feed that ends the line, or the end of the text.
 pub fn next_line(t: Text<'_>) -> Text<'_>
     ensures { Reads (Behind next_line) t.entry result }
 {
     let end = t.line_end();
-    if end.at == end.bytes.len() {
-        return end;
-    }
-    Text {
-        bytes: end.bytes,
-        at: end.at + 1,
-    }
+    end.past_word(b"\n").unwrap_or(end)
 }

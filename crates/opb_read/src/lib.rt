@@ -1,5 +1,8 @@
 // The tables filled from an OPB text (document 02, T-02). The whole text is judged before a byte is written; then each section of the tables is filled by a
 // loop of its own, and last the order, from the others.
+// `tables` fills from a file by the same steps: what is judged and what each section is read from is another thing, so that one function for both would take
+// five closures, or a trait with a law for each section.
+// The buffers to write come one by one: one is read while another is written, which a struct of them would not let be proved.
 #![tactic(auto)]
 
 ghost use Rattle.std.specs.Prelude.{◌≡◌, ◌≤◌, length, replicate};
@@ -7,11 +10,10 @@ ghost use Rattle.words.specs.Words.{word_bytes};
 ghost use Rattle.words.specs.Writes.{front};
 ghost use Rattle.format.specs.Tables.{base_words, term_words, table_size, term_size};
 ghost use Rattle.opb_lines.specs.ReadText.{plan_of_text};
-ghost use Rattle.opb_fill.specs.Fill.{Says};
 ghost use Rattle.opb_read.specs.Reads.{reading, tables_read, terms_read};
 
 use arrange::derive;
-use opb_fill::{clause_section, objective_section, rule_section, term_section};
+use opb_fill::Lawful;
 use opb_judge::judge_text;
 use opb_lines::first_line;
 use tables::entries::put_head;
@@ -26,23 +28,18 @@ fn put_no_locks(out: &mut [u8])
 }
 
 // The table of counts, objective, clauses, rules and locks of an accepted text: all but the order of the terms.
-fn fill_tables(text: &[u8], tables: &mut [u8])
-    requires says { Says text.now }
+fn fill_tables(lawful: Lawful<'_>, tables: &mut [u8])
     requires table_size_in_bounds { table_size ≤ length tables.old }
-    ensures { tables.new ≡ front (word_bytes (base_words (plan_of_text text.now))) tables.old }
+    ensures { tables.new ≡ front (word_bytes (base_words (plan_of_text lawful.entry.text.now))) tables.old }
 {
-    let first = first_line(text).unwrap();
+    let first = first_line(lawful.text).unwrap();
     let clauses = first.constraints as usize;
-    objective_section(
-        text,
-        &mut tables[format::OBJECTIVE_BYTE..format::CLAUSES_BYTE],
-    );
-    clause_section(
-        text,
+    lawful.objective_section(&mut tables[format::OBJECTIVE_BYTE..format::CLAUSES_BYTE]);
+    lawful.clause_section(
         clauses,
         &mut tables[format::CLAUSES_BYTE..format::RULES_BYTE],
     );
-    let counted = rule_section(text, &mut tables[format::RULES_BYTE..format::LOCKS_BYTE]);
+    let counted = lawful.rule_section(&mut tables[format::RULES_BYTE..format::LOCKS_BYTE]);
     put_no_locks(&mut tables[format::LOCKS_BYTE..format::ENDS_BYTE]);
     put_head(
         tables,
@@ -54,12 +51,11 @@ fn fill_tables(text: &[u8], tables: &mut [u8])
 }
 
 // The table of the terms of an accepted text's constraints.
-fn fill_terms(text: &[u8], terms: &mut [u8])
-    requires says { Says text.now }
+fn fill_terms(lawful: Lawful<'_>, terms: &mut [u8])
     requires term_size_in_bounds { term_size ≤ length terms.old }
-    ensures { terms.new ≡ front (word_bytes (term_words (plan_of_text text.now))) terms.old }
+    ensures { terms.new ≡ front (word_bytes (term_words (plan_of_text lawful.entry.text.now))) terms.old }
 {
-    term_section(text, &mut terms[0..format::TERMS]);
+    lawful.term_section(&mut terms[0..format::TERMS]);
 }
 
 // Fills the two tables from an OPB text, or refuses it: 21, then the text.
@@ -68,21 +64,16 @@ pub fn read_opb(text: &[u8], tables: &mut [u8], terms: &mut [u8]) -> Result<(), 
     ensures tables_after { tables.new ≡ tables_read text.now tables.old terms.old }
     ensures terms_after { terms.new ≡ terms_read text.now tables.old terms.old }
 {
-    if tables.len() < format::TABLES {
-        return Err(Refusal {
-            number: 21,
-            offset: 0,
-        });
-    }
-    if terms.len() < format::TERMS {
+    if tables.len() < format::TABLES || terms.len() < format::TERMS {
         return Err(Refusal {
             number: 21,
             offset: 0,
         });
     }
     judge_text(text)?;
-    fill_tables(text, tables);
-    fill_terms(text, terms);
+    let lawful = Lawful { text };
+    fill_tables(lawful, tables);
+    fill_terms(lawful, terms);
     derive(tables, terms);
     Ok(())
 }

@@ -1,4 +1,5 @@
 // What the program prints for the contents of its three files (document 01, "The program and its two lines").
+// The buffers to write come one by one: one is read while another is written, which a struct of them would not let be proved.
 #![tactic(auto)]
 
 ghost use Rattle.std.specs.Prelude.{◌≡◌, ◌≤◌, length};
@@ -11,7 +12,8 @@ use lines::refusal_line;
 use report::respond_loaded;
 use tables::load;
 
-// What is printed, whole: it is written into `out` from its front. `more` says that one of the files has bytes behind those given.
+// What is printed, whole: it is written into `out` from its front. `more` says that one of the files has bytes behind those given. It is one flag for the
+// three, since what is printed does not tell which of them that is: an option beside each file would be opened only to be joined to it.
 pub fn respond(
     plan: &[u8],
     walk: &[u8],
@@ -28,8 +30,7 @@ pub fn respond(
     if any_too_long(more, plan, walk, numbers) {
         return refusal_line(out, 9, 0);
     }
-    let a = load(plan, tables, terms);
-    match a {
+    match load(plan, tables, terms) {
         Err(refusal) => refusal_line(out, refusal.number, refusal.offset),
         Ok(()) => respond_loaded(tables, terms, walk, numbers, out),
     }

@@ -8,9 +8,9 @@ use mathlib.Core.List.{List, [], ◌∷◌}
 use lib.Dec.{leb, ltb, eqb}
 use lib.IntN.{ℤ, pos, nat_abs}
 use lib.ListN.{length, get_or, drop, drop_of_length-le, get_or-eq_default}
-use borrow.Author.Tests.{eq-eqb, ne_eqb, lt-ltb, le-ltb, lt-leb, leb-true, ltb-true, ltb-false}
+use borrow.Author.Tests.{eq-eqb, ne_eqb, lt-ltb, lt-leb, leb-true, ltb-true, ltb-false}
 use Rattle.plpb.specs.Lists.{◌and◌, ◌or◌}
-use Rattle.plpb.proofs.Lists.{and_false}
+use Rattle.plpb.proofs.Lists.{and_true, and_false}
 use Rattle.std.specs.Prelude.{Option, Some, None}
 use Rattle.format.proofs.Bools.{and_join}
 use Rattle.format.specs.Limits.{weight_lawful}
@@ -18,7 +18,8 @@ use Rattle.bodies.specs.Terms.{term_lawful}
 use Rattle.tokens.specs.Tokens.{blanks_end, digits_end, number_at, begins, word_end, most, seen}
 use Rattle.tokens.specs.declared.text.Text.{Text}
 use Rattle.tokens.specs.Found.{left, read, Reads, Behind, takes, Found}
-use Rattle.tokens.proofs.Runs.{word_there, read_behind, behind}
+use Rattle.tokens.proofs.Runs.{here, word_there, read_behind, behind}
+use Rattle.std.specs.Option.{option_or, unwrap_or}
 use Rattle.tokens.proofs.Numbers.{seen_small, seen_ltb, seen_leb}
 use Rattle.statements.specs.declared.Signed.{Signed}
 use Rattle.statements.specs.Parts.{SignedAt}
@@ -155,10 +156,6 @@ module _ (s : List ℕ) (at : ℕ) where
   unfolding unsigned_from ◌or◌
   sign_other n m = rw (ne_eqb _ 43 n, ne_eqb _ 45 m)
 
-  pub relation_none : length s ≤ at → ltb at (relation_end s at) ≡ false
-  unfolding relation_end is_exact word_end begins
-  relation_none h = rw (none s at 61 h (omega arith), drop_of_length-le s {i = at} h) (le-ltb at at (omega arith))
-
   pub relation_equal : get_or s at 0 ≡ 61 → at + 1 ≡ relation_end s at
   unfolding relation_end is_exact
   relation_equal h = rw (eq-eqb _ 61 h)
@@ -167,24 +164,54 @@ module _ (s : List ℕ) (at : ℕ) where
   unfolding relation_end is_exact
   relation_other n e = rw (ne_eqb _ 61 n) e
 
-  pub relation_there : get_or s at 0 ≡ 61 → ltb at (relation_end s at) ≡ true
-  relation_there h = let e = relation_equal h in lt-ltb at (relation_end s at) (omega (arith, e))
-
--- Where no "=" stands, the relation is the word ">=".
-pub relation_word :
-    (t : Text) (r : Option Text) → (read (λ s at. get_or s at 0) t ≡ 61 → ⊥)
-    → Found (begins (62 ∷ 61 ∷ []) (left t)) (Reads (Behind (word_end (62 ∷ 61 ∷ []))) t) r → Found (takes relation_end t) (Reads (Behind relation_end) t) r
-relation_word t r n h = go r h
+-- A word of one byte, which is not 0, is that byte, and is as long as it.
+pub word_of_one : (w : ℕ) (s : List ℕ) (at : ℕ) → 0 < w → eqb (get_or s at 0) w ≡ begins (w ∷ []) (drop at s)
+unfolding begins
+word_of_one w s at n = go (ltb at (length s)) refl
   where
-    ends : word_end (62 ∷ 61 ∷ []) t.bytes.now t.at ≡ read relation_end t
-    ends = relation_other t.bytes.now t.at n refl
+    go : (t : Bool) → ltb at (length s) ≡ t → eqb (get_or s at 0) w ≡ begins (w ∷ []) (drop at s)
+    go true e = rw (here s at (ltb-true at (length s) e)) (sym (and_true (eqb (get_or s at 0) w)))
+    go false e =
+        let l = ltb-false at (length s) e in
+        rw (drop_of_length-le s {i = at} l) (none s at w l n)
 
-    there : {b : Bool} → begins (62 ∷ 61 ∷ []) (left t) ≡ b → takes relation_end t ≡ b
-    there e = sym (ap (ltb t.at) ends) ∙ word_there 62 (61 ∷ []) t.bytes.now t.at ∙ e
+module _ (w : ℕ) (n : 0 < w) (t : Text) where
+  no_word : begins (w ∷ []) (left t) ≡ false → read (λ s at. eqb (get_or s at 0) w) t ≡ false
+  no_word e = word_of_one w t.bytes.now t.at n ∙ e
 
-    go : (r : Option Text) → Found (begins (62 ∷ 61 ∷ []) (left t)) (Reads (Behind (word_end (62 ∷ 61 ∷ []))) t) r → Found (takes relation_end t) (Reads (Behind relation_end) t) r
-    go None e = there e
-    go (Some k) (e, b) = (there e, record { bytes = b.bytes; at = b.at ∙ ends })
+  module _ {k : Text} (there : begins (w ∷ []) (left t) ≡ true) (b : Reads (Behind (word_end (w ∷ []))) t k) where
+    a_word : read (λ s at. eqb (get_or s at 0) w) t ≡ true
+    a_word = word_of_one w t.bytes.now t.at n ∙ there
+
+    word_on : k.at ≡ t.at + 1
+    unfolding word_end
+    word_on = b.at ∙ rw there refl
+
+-- A sign is passed where one stands.
+pub sign_passed :
+    (t : Text) (plus minus : Option Text) → Found (begins (43 ∷ []) (left t)) (Reads (Behind (word_end (43 ∷ []))) t) plus
+    → Found (begins (45 ∷ []) (left t)) (Reads (Behind (word_end (45 ∷ []))) t) minus → Reads (Behind unsigned_from) t (unwrap_or (option_or plus minus) t)
+unfolding unsigned_from ◌or◌
+sign_passed t None None p m = record { bytes = refl; at = rw (no_word 43 (omega arith) t p, no_word 45 (omega arith) t m) }
+sign_passed t None (Some k) p (m, b) = record {
+  bytes = b.bytes;
+  at = rw (no_word 43 (omega arith) t p, a_word 45 (omega arith) t m b) (word_on 45 (omega arith) t m b);
+}
+sign_passed t (Some k) minus (p, b) m = record { bytes = b.bytes; at = rw (a_word 43 (omega arith) t p b) (word_on 43 (omega arith) t p b) }
+
+-- A relation is one of two words.
+pub relation_passed :
+    (t : Text) (equal least : Option Text) → Found (begins (61 ∷ []) (left t)) (Reads (Behind (word_end (61 ∷ []))) t) equal
+    → Found (begins (62 ∷ 61 ∷ []) (left t)) (Reads (Behind (word_end (62 ∷ 61 ∷ []))) t) least
+    → Found (takes relation_end t) (Reads (Behind relation_end) t) (option_or equal least)
+unfolding relation_end is_exact
+relation_passed t None None e l = rw (no_word 61 (omega arith) t e) (word_there 62 (61 ∷ []) t.bytes.now t.at ∙ l)
+relation_passed t None (Some k) e (l, b) =
+    let no = no_word 61 (omega arith) t e in
+    (rw no (word_there 62 (61 ∷ []) t.bytes.now t.at ∙ l), record { bytes = b.bytes; at = rw no b.at })
+relation_passed t (Some k) least (e, b) l =
+    let is = a_word 61 (omega arith) t e b in
+    (rw is (lt-ltb t.at (t.at + 1) (omega arith)), record { bytes = b.bytes; at = rw is (word_on 61 (omega arith) t e b) })
 
 -- A number's size does not depend on its sign.
 pub size_signed : (b : Bool) (k : ℕ) → nat_abs (with_sign b k) ≡ k

@@ -51,22 +51,7 @@ pub struct Integer<'a> {
 fn past_sign(t: Text<'_>) -> Text<'_>
     ensures { Reads (Behind unsigned_from) t.entry result }
 {
-    if t.at == t.bytes.len() {
-        return t;
-    }
-    if t.bytes[t.at] == b'+' {
-        return Text {
-            bytes: t.bytes,
-            at: t.at + 1,
-        };
-    }
-    if t.bytes[t.at] == b'-' {
-        return Text {
-            bytes: t.bytes,
-            at: t.at + 1,
-        };
-    }
-    t
+    t.past_word(b"+").or(t.past_word(b"-")).unwrap_or(t)
 }
 
 pub fn integer_at(t: Text<'_>) -> Option<Integer<'_>>
@@ -126,8 +111,8 @@ pub fn sum_at(t: Text<'_>, n: u32) -> Option<Sum<'_>>
     let mut above = false;
     let mut lawful = true;
     while let Some(term) = term_at(rest) {
-        above = above | (n < term.variable);
-        lawful = lawful & term_fits(term.variable, term.weight.size, before, n);
+        above |= n < term.variable;
+        lawful &= term_fits(term.variable, term.weight.size, before, n);
         before = term.variable;
         rest = term.rest;
         count += 1;
@@ -154,16 +139,7 @@ pub struct Relation<'a> {
 fn past_relation(t: Text<'_>) -> Option<Text<'_>>
     ensures { Found (takes relation_end t.entry) (Reads (Behind relation_end) t.entry) result }
 {
-    if t.at == t.bytes.len() {
-        return None;
-    }
-    if t.bytes[t.at] == b'=' {
-        return Some(Text {
-            bytes: t.bytes,
-            at: t.at + 1,
-        });
-    }
-    t.past_word(b">=")
+    t.past_word(b"=").or(t.past_word(b">="))
 }
 
 pub fn relation_at(t: Text<'_>) -> Option<Relation<'_>>

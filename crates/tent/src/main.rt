@@ -70,7 +70,8 @@ fn read_from<R: Read>(reader: &mut R, buffer: &mut [u8]) -> Option<usize>
     }
 }
 
-// How many bytes a file has, 0 where it cannot be opened or read, none where it has more than there is room for.
+// How many bytes a file has, 0 where it cannot be opened or read, none where it has more than there is room for. It answers a count, as the library's `read`
+// does, and not the part of the buffer: the clauses speak of the buffer that was lent, which a part lent on would have to be told from.
 fn read(rt: &impl Files, name: &str, buffer: &mut [u8]) -> Option<usize>
     ensures { IfSome result (λ n. IsPrefixLen n buffer.new) }
 {

@@ -16,15 +16,15 @@ pub fn byte(s: &[u8], at: usize) -> u8
     s.get(at).copied().unwrap_or(0)
 }
 
-// A number with one digit more, up to 4,000,000,000.
+// A number with one digit more, up to 4,000,000,000: a sum or a product cut at the greatest word is past it too.
 fn with_digit(value: u32, digit: u8) -> u32
     requires { (value ≤ most) × (48 ≤ digit) × (digit ≤ 57) }
     ensures { result ≡ seen (10 * value + (digit - 48)) }
 {
-    if 399999999 < value {
-        return 4000000000;
-    }
-    10 * value + ((digit - 48) as u32)
+    value
+        .saturating_mul(10)
+        .saturating_add(u32::from(digit - b'0'))
+        .min(4000000000)
 }
 
 // What is seen of a number, and the text behind its digits.
@@ -35,7 +35,8 @@ pub struct Number<'a> {
 }
 
 impl<'a> Text<'a> {
-    // Behind the bytes that are such.
+    // Behind the bytes that are such. The loop tells places of the whole text, which is what the clauses speak of: the library's `position` counts from the
+    // part's start and lends each byte to its closure, so that both would be turned back.
     fn past_such<F: Fn(u8) -> bool>(self, such: F) -> Text<'a>
         requires { F.IsAlwaysCallable such }
         ensures same { result.bytes.now ≡ self.entry.bytes.now }
@@ -70,7 +71,8 @@ impl<'a> Text<'a> {
         self.past_such(|b| b != b'\n')
     }
 
-    // Behind a word, where it stands.
+    // Behind a word, where it stands: only there is its end a place of the text, so that the end is worked out behind the test; the closure of
+    // a `then` would have that clause once more.
     pub fn past_word(self, word: &[u8]) -> Option<Text<'a>>
         ensures { Found (begins word.now (left self.entry)) (Reads (Behind (word_end word.now)) self.entry) result }
     {
@@ -89,33 +91,19 @@ impl<'a> Text<'a> {
         ensures { Found (takes blanks_end self.entry) (Reads (Behind blanks_end) self.entry) result }
     {
         let end = self.past_blanks();
-        if self.at < end.at { Some(end) } else { None }
+        (self.at < end.at).then_some(end)
     }
 
     // The digits, be there any or none.
     fn digits(self) -> Number<'a>
         ensures { Reads NumberAt self.entry result }
     {
+        let rest = self.past_such(|b| b.is_ascii_digit());
         let mut value = 0;
-        for at in self.at..self.bytes.len() {
-            if !self.bytes[at].is_ascii_digit() {
-                return Number {
-                    value,
-                    rest: Text {
-                        bytes: self.bytes,
-                        at,
-                    },
-                };
-            }
-            value = with_digit(value, self.bytes[at]);
+        for &digit in &self.bytes[self.at..rest.at] {
+            value = with_digit(value, digit);
         }
-        Number {
-            value,
-            rest: Text {
-                bytes: self.bytes,
-                at: self.bytes.len(),
-            },
-        }
+        Number { value, rest }
     }
 
     // A number, which has a digit at least.
@@ -123,10 +111,6 @@ impl<'a> Text<'a> {
         ensures { Found (takes digits_end self.entry) (Reads NumberAt self.entry) result }
     {
         let number = self.digits();
-        if self.at < number.rest.at {
-            Some(number)
-        } else {
-            None
-        }
+        (self.at < number.rest.at).then_some(number)
     }
 }

@@ -1,4 +1,4 @@
--- `respond::is_found` meets its contract: number by number.
+-- `answers::is_found` meets its contract: number by number.
 -- Assumes nothing.
 use Rattle.std.proofs.Common.{arith}
 use Rattle.std.proofs.lemmas.Bool.Decides.{nat_tests}

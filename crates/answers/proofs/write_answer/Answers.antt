@@ -1,4 +1,4 @@
--- `respond::write_answer` meets its contract: the second line is written behind the first, which is short enough to leave it room.
+-- `answers::write_answer` meets its contract: the second line is written behind the first, which is short enough to leave it room.
 -- Assumes nothing.
 use native.Mathlib.Omega.{arith}
 use mathlib.Core.Path.{◌≡◌, refl, ap, ◌∙◌}

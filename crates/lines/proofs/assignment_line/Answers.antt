@@ -1,4 +1,4 @@
--- `folder::lines::assignment_line` meets its contract: the assignment where something was found, - otherwise.
+-- `lines::assignment_line` meets its contract: the assignment where something was found, - otherwise.
 -- Assumes nothing.
 use Prim.Native.Nat.{◌≤◌}
 use native.Mathlib.Omega.{arith}

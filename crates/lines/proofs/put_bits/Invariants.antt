@@ -1,4 +1,4 @@
--- `folder::lines::put_bits` meets its contract. The invariant: the first i characters are written, the rest as it was.
+-- `lines::put_bits` meets its contract. The invariant: the first i characters are written, the rest as it was.
 -- Assumes nothing.
 use mathlib.Core.List.{map}
 use Rattle.lines.proofs.Writing.{Copied, character}

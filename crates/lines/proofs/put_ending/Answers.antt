@@ -1,4 +1,4 @@
--- `folder::lines::put_ending` meets its contract: number by number.
+-- `lines::put_ending` meets its contract: number by number.
 -- Assumes nothing.
 use mathlib.Core.Path.{refl, ap}
 use Rattle.plpb.specs.Search.{floor, ended, none, short_found, short_none}

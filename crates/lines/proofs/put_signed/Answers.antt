@@ -1,4 +1,4 @@
--- `folder::lines::put_signed` meets its contract: by its sign; a '-' and the digits behind it are one write.
+-- `lines::put_signed` meets its contract: by its sign; a '-' and the digits behind it are one write.
 -- Assumes nothing.
 use native.Mathlib.Omega.{arith}
 use mathlib.Core.Path.{ap, ◌∙◌}

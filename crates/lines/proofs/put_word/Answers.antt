@@ -1,4 +1,4 @@
--- `folder::lines::put_word` meets its contract: the byte that ends it is stored behind the word.
+-- `lines::put_word` meets its contract: the byte that ends it is stored behind the word.
 -- Assumes nothing.
 use mathlib.Core.Path.{refl}
 use Rattle.words.specs.Writes.{front}

@@ -1,4 +1,4 @@
--- `folder::lines::refusal_line` meets its contract: its three items, one behind the other.
+-- `lines::refusal_line` meets its contract: its three items, one behind the other.
 -- Assumes nothing.
 use mathlib.Core.Path.{◌∙◌, ap}
 use mathlib.Core.List.{List, [], ◌∷◌, ◌++◌}
@@ -19,7 +19,7 @@ returns c =
     let q = c.put_number in
     let first = text "refused" ++ (32 ∷ []) in
     let second = decimal a.number ++ (32 ∷ []) in
-    let two = next_item o first second (w.ensures.0, w.ensures.1) p.ensures.0 p.ensures.1 in
+    let two = next_item o first second (w.ensures.0, w.ensures.1) (rw c.from.ensures at p.ensures.0) (rw c.from.ensures at p.ensures.1) in
     let all = next_item o (first ++ second) (decimal a.offset ++ (10 ∷ [])) two q.ensures.0 q.ensures.1 in
     let is = refusal_items a.number a.offset in
     (all.0 ∙ ap (λ (x : List ℕ). front x o) is, all.1 ∙ ap length is)

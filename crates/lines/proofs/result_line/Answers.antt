@@ -1,4 +1,4 @@
--- `folder::lines::result_line` meets its contract: its five items, one behind the other.
+-- `lines::result_line` meets its contract: its five items, one behind the other.
 -- Assumes nothing.
 use mathlib.Core.Path.{◌∙◌, ap}
 use mathlib.Core.List.{List, [], ◌∷◌, ◌++◌}

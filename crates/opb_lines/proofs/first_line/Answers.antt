@@ -24,10 +24,11 @@ returns-in_err-constraints c =
     rw c.from_residual-in_err-constraints.ensures
     (no_constraints c.in_ok-behind.ensures.1 c.past_blanks.ensures c.in_ok-variables.ensures.1.rest c.in_ok-second.ensures.1 c.in_err-constraints.ensures)
 
-pub returns-then-byte-ne10 : goal.returns-then-byte-ne10
-returns-then-byte-ne10 c =
-    no_feed c.in_ok-behind.ensures.1 c.past_blanks.ensures c.in_ok-variables.ensures.1.rest c.in_ok-second.ensures.1 c.in_ok-constraints.ensures.1.rest
-    c.past_blanks-end.ensures c.byte.ensures c.if-byte-ne10.true
+pub returns-in_err-past_word : goal.returns-in_err-past_word
+returns-in_err-past_word c =
+    rw c.from_residual-in_err-past_word.ensures
+    (no_feed c.in_ok-behind.ensures.1 c.past_blanks.ensures c.in_ok-variables.ensures.1.rest c.in_ok-second.ensures.1 c.in_ok-constraints.ensures.1.rest
+    c.past_blanks-2.ensures c.in_err-past_word.ensures)
 
 pub returns : goal.returns
 unfolding variables_in constraints_in
@@ -37,8 +38,7 @@ returns c =
     let variables = c.in_ok-variables.ensures in
     let second = c.in_ok-second.ensures in
     let constraints = c.in_ok-constraints.ensures in (
-      first_there star.1 from variables.1.rest second.1 constraints.1.rest c.past_blanks-end.ensures c.byte.ensures star.0 variables.0 second.0 constraints.0
-          c.if-byte-ne10.false,
+      first_there star.1 from variables.1.rest second.1 constraints.1.rest c.past_blanks-2.ensures star.0 variables.0 second.0 constraints.0 c.in_ok-past_word.ensures.0,
       record {
         variables = variables.1.value ∙ ap seen (read_behind (first_is star.1 from) (λ s k. number_at s (named_from variable_name s k)));
         constraints =

@@ -11,24 +11,24 @@ use Rattle.opb_read.proofs.Whole.{first_variables, first_constraints, no_locks}
 use Rattle.opb_read.proofs.fill_tables.Goals as goal
 
 pub unwrap-first-requires : goal.unwrap-first-requires
-unwrap-first-requires c = let e = formed c.args.text.now _ c.requires.says in search rules
+unwrap-first-requires c = let e = formed c.args.lawful.text.now _ c.args.lawful.says in search rules
 
 pub clause_section-requires : goal.clause_section-requires
 clause_section-requires c =
-    record { says = c.requires.says; clauses_value = (first_constraints _ c.requires.says _ (MatchOption-at_some _ _ _ c.unwrap-first.ensures c.first_line.ensures).1, search rules) }
+    record { clauses_value = (first_constraints _ c.args.lawful.says _ (MatchOption-at_some _ _ _ c.unwrap-first.ensures c.first_line.ensures).1, search rules) }
 
 pub slice_bounds-put_no_locks-end : goal.slice_bounds-put_no_locks-end
 slice_bounds-put_no_locks-end c =
     omega (
       arith,
-      three_long _ (lawful_text _ _ c.requires.says) c.args.tables.now _ _ _ c.requires.table_size_in_bounds
+      three_long _ (lawful_text _ _ c.args.lawful.says) c.args.tables.now _ _ _ c.requires.table_size_in_bounds
           c.objective_section.ensures c.clause_section.ensures c.rule_section-counted.ensures.2,
       c.requires.table_size_in_bounds,
     )
 
 pub put_head-requires : goal.put_head-requires
 put_head-requires c =
-    let q = lawful_text _ _ c.requires.says in
+    let q = lawful_text _ _ c.args.lawful.says in
     let rules = c.rule_section-counted.ensures in (
       omega (
         arith,
@@ -36,7 +36,7 @@ put_head-requires c =
             c.objective_section.ensures c.clause_section.ensures rules.2 _ (c.put_no_locks.ensures ∙ no_locks _),
         c.requires.table_size_in_bounds,
       ),
-      omega (arith, first_constraints _ c.requires.says _ (MatchOption-at_some _ _ _ c.unwrap-first.ensures c.first_line.ensures).1, q.clause_count),
+      omega (arith, first_constraints _ c.args.lawful.says _ (MatchOption-at_some _ _ _ c.unwrap-first.ensures c.first_line.ensures).1, q.clause_count),
       omega (arith, rules.0, q.rule_count),
       omega (arith, rules.1, q.terms),
     )
@@ -45,11 +45,11 @@ pub returns : goal.returns
 returns c =
     let first = (MatchOption-at_some _ _ _ c.unwrap-first.ensures c.first_line.ensures).1 in
     let rules = c.rule_section-counted.ensures in
-    tables_whole _ (lawful_text _ _ c.requires.says) c.args.tables.now _ _ _ c.requires.table_size_in_bounds
+    tables_whole _ (lawful_text _ _ c.args.lawful.says) c.args.tables.now _ _ _ c.requires.table_size_in_bounds
     c.objective_section.ensures c.clause_section.ensures rules.2 _ (c.put_no_locks.ensures ∙ no_locks _) _
-    (first_variables _ c.requires.says _ first) (first_constraints _ c.requires.says _ first)
+    (first_variables _ c.args.lawful.says _ first) (first_constraints _ c.args.lawful.says _ first)
     rules.0 rules.1 c.put_head.ensures
 
 pub shape_of-tables : goal.shape_of-tables
 shape_of-tables c =
-    ap length (returns c) ∙ base_size_lem _ (lawful_text _ _ c.requires.says) c.args.tables.now c.requires.table_size_in_bounds
+    ap length (returns c) ∙ base_size_lem _ (lawful_text _ _ c.args.lawful.says) c.args.tables.now c.requires.table_size_in_bounds

@@ -6,4 +6,4 @@ use Rattle.opb_read.proofs.fill_terms.Goals as goal
 
 pub returns : goal.returns
 returns c =
-    terms_whole _ (lawful_text _ _ c.requires.says) _ _ c.requires.term_size_in_bounds c.term_section.ensures
+    terms_whole _ (lawful_text _ _ c.args.lawful.says) _ _ c.requires.term_size_in_bounds c.term_section.ensures

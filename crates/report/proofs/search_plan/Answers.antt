@@ -1,4 +1,4 @@
--- `respond::search_plan` meets its contract: nothing is refused, and what is written is the answer's text.
+-- `report::search_plan` meets its contract: nothing is refused, and what is written is the answer's text.
 -- Assumes nothing.
 use native.Mathlib.Omega.{arith}
 use Rattle.report.proofs.Answering.{few_variables, search_written}

@@ -1,12 +1,11 @@
--- `tokens::with_digit` meets its contract: from 400,000,000 on a digit more is past the most.
+-- `tokens::with_digit` meets its contract: what is cut at each step is what is seen.
 -- Assumes nothing.
+use Rattle.std.proofs.Common.{◌-◌, ◌≤◌}
 use native.Mathlib.Omega.{arith}
-use mathlib.Core.Path.{sym}
-use Rattle.tokens.proofs.Numbers.{seen_small, seen_large}
+use Rattle.tokens.proofs.Numbers.{seen_cut}
 use Rattle.tokens.proofs.with_digit.Goals as goal
 
-pub returns-then-value-gt399999999 : goal.returns-then-value-gt399999999
-returns-then-value-gt399999999 c = sym (seen_large _ (omega arith))
-
 pub returns : goal.returns
-returns c = sym (seen_small _ (omega arith))
+returns c =
+    let d : c.args.digit - 48 ≤ 9 = omega arith in
+    rw (c.min.ensures, c.saturating_add.ensures, c.saturating_mul.ensures, c.from.ensures) (seen_cut c.args.value (c.args.digit - 48) d)

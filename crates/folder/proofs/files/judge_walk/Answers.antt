@@ -40,6 +40,6 @@ returns c =
     let r = sized _ c.in_ok-size.ensures.0 _ c.in_ok-size.ensures.1 in omega (arith, r.2, c.if-size-file.false) in
     c.judge_settings.ensures
     ∙ read_settings _ c.in_ok-size.ensures.0 _ c.in_ok-size.ensures.1 c.if-size-file.false
-    c.read_u16.ensures c.read_u16-2.ensures c.read_u32.ensures c.byte_word.ensures
-    (c.heuristic_in.ensures ∙ ap (λ n. if_long n (num_at 1 c.args.file.now 12)) size)
-    (c.chance_in.ensures ∙ ap (λ n. if_long n (num_at 2 c.args.file.now 13)) size)
+    c.read_u16.ensures c.read_u16-2.ensures c.read_u32.ensures c.from.ensures
+    (c.choice_in-heuristic.ensures.heuristic ∙ ap (λ n. if_long n (num_at 1 c.args.file.now 12)) size)
+    (c.choice_in-heuristic.ensures.chance ∙ ap (λ n. if_long n (num_at 2 c.args.file.now 13)) size)

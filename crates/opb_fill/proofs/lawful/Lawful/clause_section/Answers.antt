@@ -3,11 +3,11 @@ use native.Mathlib.Omega.{arith}
 use mathlib.Core.Path.{refl}
 use Rattle.opb_fill.proofs.Accepted.{lawful_text}
 use Rattle.opb_fill.proofs.Filled.{clause_start, clause_same, clause_part, clause_more, clause_end}
-use Rattle.opb_fill.proofs.clause_section.Goals as goal
+use Rattle.opb_fill.proofs.lawful.Lawful.clause_section.Goals as goal
 
 pub loop-c-init : goal.loop-c-init
 loop-c-init c =
-    clause_start _ _ c.requires.clauses_value.1 (omega (arith, c.requires.clauses_value.0, (lawful_text _ _ c.requires.says).clause_count))
+    clause_start _ _ c.requires.clauses_value.1 (omega (arith, c.requires.clauses_value.0, (lawful_text _ _ c.args.self.says).clause_count))
 
 pub put_clause-requires : goal.put_clause-requires
 put_clause-requires c =
