@@ -1,13 +1,12 @@
 -- What opening answers, test by test: the first one that fails decides.
-use Prim.Native.Nat.{ℕ, ◌≤◌, ◌<◌}
+use Prim.Native.Nat.{ℕ, ◌≤◌}
 use native.Mathlib.Omega.{arith}
 use mathlib.Core.Path.{◌≡◌, refl, sym, ap, ◌∙◌}
 use Rattle.std.specs.Prelude.{Result, Ok, Err}
 use Rattle.std.specs.Result.{IsErrAnd}
-use mathlib.Core.Bool.{true, false, not}
-use lib.Dec.{T, ltb, nltb→le}
+use mathlib.Core.Bool.{Bool, true, false, not}
+use lib.Dec.{T, nltb→le}
 use lib.ListN.{length}
-use borrow.Author.Tests.{lt-ltb, le-ltb}
 use Rattle.plpb.specs.Lists.{◌or◌}
 use Rattle.plpb.proofs.Lists.{and_left, and_right, not_or, T_true}
 use Rattle.words.specs.Words.{word_at}
@@ -17,7 +16,7 @@ use Rattle.format.proofs.Lawful.{plan_parts}
 use Rattle.format.proofs.IsLoaded.{is_loaded_lawful}
 use Rattle.tallies.specs.Layout.{are_bits}
 use Rattle.tallies.specs.Calls.{Lent, plan, too_small, open_refusal}
-use Rattle.format.specs.Layout.{table_size, tally_size, term_size}
+use Rattle.format.specs.Layout.{table_size}
 use Rattle.calls.specs.Refusals.{number_of, refusal_of}
 use Rattle.calls.specs.declared.tests.Refusal.{Refusal}
 use Rattle.calls.specs.declared.tests.Refusal.TheVariants.{TooSmall, NotLoaded, NoVariable, NotBits, Stale, Locked}
@@ -36,26 +35,16 @@ pub passed_on : (r : Result (Unit {0}) Refusal) (q : Refusal) {k : ℕ} → IsEr
 passed_on (Ok u) q h n = absurd h
 passed_on (Err e) q h n = ap number_of h ∙ n
 
+-- The first test decides where it holds, and else the second.
+pub or_first : (b c : Bool) {v : Bool} → v ≡ b → b ≡ true → v ≡ (b or c)
+unfolding ◌or◌
+or_first b c e f = e ∙ f ∙ sym (ap (λ t. t or c) f)
+
+pub or_second : (b c : Bool) {v : Bool} → v ≡ c → b ≡ false → v ≡ (b or c)
+unfolding ◌or◌
+or_second b c e f = e ∙ sym (ap (λ t. t or c) f)
+
 module _ (l : Lent) where
-  pub small_tables : length l.tables < table_size → true ≡ too_small l
-  unfolding too_small ◌or◌
-  small_tables h = rw (lt-ltb (length l.tables) table_size h)
-
-  pub small_terms_lem : table_size ≤ length l.tables → length l.terms < term_size → true ≡ too_small l
-  unfolding too_small ◌or◌
-  small_terms_lem a h = rw (le-ltb (length l.tables) table_size a, lt-ltb (length l.terms) term_size h)
-
-  pub small_assignment : table_size ≤ length l.tables → term_size ≤ length l.terms → length l.assignment < 512 → true ≡ too_small l
-  unfolding too_small ◌or◌
-  small_assignment a b h =
-      rw (le-ltb (length l.tables) table_size a, le-ltb (length l.terms) term_size b, lt-ltb (length l.assignment) 512 h)
-
-  pub small_tallies : table_size ≤ length l.tables → term_size ≤ length l.terms → 512 ≤ length l.assignment
-      → ltb (length l.tallies) tally_size ≡ too_small l
-  unfolding too_small ◌or◌
-  small_tallies a b c =
-      rw (le-ltb (length l.tables) table_size a, le-ltb (length l.terms) term_size b, le-ltb (length l.assignment) 512 c)
-
   pub first_words : (plan l).variables ≡ word_at l.tables 0
   unfolding plan plan_of_tables plan_in
   first_words = refl

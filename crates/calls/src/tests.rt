@@ -43,7 +43,7 @@ fn bits(bytes: &[u8]) -> bool
     bytes.iter().all(|b| *b <= 1)
 }
 
-// What the host program lends, to be tested.
+// What the host program lends, to be tested: nothing is known of it yet, so that there is no ghost field.
 #[derive(Clone, Copy)]
 pub struct Lent<'a> {
     pub tables: &'a [u8],
@@ -57,18 +57,13 @@ impl Lent<'_> {
     fn too_small(&self) -> bool
         ensures { result ≡ too_small (lent_in self.now) }
     {
-        if self.tables.len() < format::TABLES {
-            return true;
-        }
-        if self.terms.len() < format::TERMS {
-            return true;
-        }
-        if self.assignment.len() < 512 {
-            return true;
-        }
-        self.tallies.len() < format::TALLIES
+        self.tables.len() < format::TABLES
+            || self.terms.len() < format::TERMS
+            || self.assignment.len() < format::ASSIGNMENT
+            || self.tallies.len() < format::TALLIES
     }
 
+    // What opening is refused for.
     pub fn open_refusal(&self) -> Result<(), Refusal>
         ensures { refusal_of result ≡ open_refusal (lent_in self.now) }
     {
@@ -85,6 +80,7 @@ impl Lent<'_> {
         Ok(())
     }
 
+    // What a flip of x and counts of it are refused for.
     pub fn call_refusal(&self, x: u32) -> Result<(), Refusal>
         ensures { refusal_of result ≡ call_refusal (lent_in self.now) x }
     {
@@ -96,16 +92,13 @@ impl Lent<'_> {
         if !fresh(&t, self.assignment, self.tallies) {
             return Err(Refusal::Stale);
         }
-        if x == 0 {
-            return Err(Refusal::NoVariable);
-        }
-        if word(self.tables, 0) < x {
+        if x == 0 || word(self.tables, 0) < x {
             return Err(Refusal::NoVariable);
         }
         Ok(())
     }
 
-    // A locked variable is refused to flips alone, so the test stands apart from what counts tests too.
+    // What a flip of x is refused for. A locked variable is refused to flips alone, so the test stands apart from what counts tests too.
     pub fn flip_refusal(&self, x: u32) -> Result<(), Refusal>
         ensures { refusal_of result ≡ flip_refusal (lent_in self.now) x }
     {

@@ -21,6 +21,7 @@ use rules::state::read_state_from;
 use std::ops::Add;
 use words::index;
 
+// How many clauses a flip spoils, and how many it mends.
 #[derive(Clone, Copy)]
 pub struct Counts {
     pub breaks: Count,
@@ -72,7 +73,7 @@ impl Asked<'_> {
         shares.joined(s.shares())
     }
 
-    // The shares of a clause.
+    // The shares of all rules of a clause.
     fn clause_shares(&self, c: usize) -> Shares
         requires { c < word_at self.now.lent.plan.tables.now 1 }
         ensures { shares_in result
@@ -80,7 +81,7 @@ impl Asked<'_> {
     {
         let rules = rules_of(self.lent.plan.tables, c);
         let mut shares = Shares::START;
-        for r in rules.first..rules.end {
+        for r in rules.start..rules.end {
             shares = self.join_rule(shares, r);
         }
         shares
@@ -103,7 +104,7 @@ impl Asked<'_> {
         }
     }
 
-    // The sum over the clauses.
+    // What a flip spoils and mends of the plan: the sum over the clauses.
     fn counts(&self) -> Counts
         ensures { CountsAre (capped (break_sum (plan self.now.lent.plan) (bits_in self.now.lent.bits.now) self.now.x))
             (capped (make_sum (plan self.now.lent.plan) (bits_in self.now.lent.bits.now) self.now.x)) result }
@@ -117,7 +118,7 @@ impl Asked<'_> {
     }
 }
 
-// Of a variable from 1 to n.
+// What the flip of a variable from 1 to n spoils and mends.
 pub fn counts_core(t: &Tables<'_>, assignment: &[u8], x: u32) -> Counts
     requires { ((plan t.now).variables ≤ length assignment.now) × (0 < x) × (x ≤ (plan t.now).variables) }
     ensures { CountsAre

@@ -14,12 +14,10 @@ use Rattle.counting.specs.Bound.{bound_of}
 use Rattle.words.specs.Words.{word_at}
 use Rattle.order.specs.Along.{holds_by, exchanged}
 use Rattle.format.specs.Tables.{rule_of}
-use Rattle.format.specs.Layout.{holding_at, rule_first_at, rule_room, unsatisfied_at}
+use Rattle.format.specs.Layout.{holding_at, rule_room, unsatisfied_at}
 use Rattle.rules.specs.declared.state.State.{State}
-use Rattle.rules.specs.Rules.{rule_at}
 use Rattle.rules.specs.State.{Balanced, StateOf, holds_in}
 use Rattle.rules.proofs.States.{holds_rule}
-use Rattle.rules.proofs.Tables.{rule_at_lem}
 use Rattle.recount.specs.Core.{Wrote}
 use Rattle.flips.specs.Passing.{Countable, Inside, ClausePassed, Passable, Passed}
 
@@ -94,9 +92,9 @@ rule_passed {b} {q} {r} {c} {held} {holds} {z} {s} {a} {t} k n l e f w d = (
 
 -- ---- from what the code reads
 
-module _ (tables terms : List ℕ) {b : Assignment} {z : State} {r k : ℕ} (e : r ≡ k) (h : StateOf b 0 (rule_at (word_at tables) (word_at terms) (rule_first_at r)) z) where
+module _ (tables terms : List ℕ) {b : Assignment} {z : State} {r k : ℕ} (e : r ≡ k) (h : StateOf b 0 (rule_of (word_at tables) (word_at terms) r) z) where
   pub state_read : StateOf b 0 (rule_of (word_at tables) (word_at terms) k) z
-  state_read = rw (rule_at_lem (word_at tables) (word_at terms) r, e) at h
+  state_read = rw e at h
 
   module _ {c p : ℕ} {t : List ℕ} (n : Passable (rule_of (word_at tables) (word_at terms) k) k c t) (m : p ≡ word_at t r) where
     weight_here : p ≡ word_at t k

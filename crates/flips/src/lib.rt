@@ -1,5 +1,7 @@
 // Flip without its checks: one assignment byte is turned over, and the tallies follow along the variable's run in the order of the tables. Only P of the
 // rules that name the variable, the counts of their clauses and the total are written.
+// The tallies, and the assignment where it is turned over, stand beside what is read: in one struct with it they would be read while they are lent for writing,
+// which the proof of borrows does not cover.
 #![tactic(auto)]
 
 ghost use Rattle.std.specs.Prelude.{◌≡◌, cond, ◌+◌, ◌-◌, ◌≤◌, ◌<◌, length};
@@ -18,13 +20,12 @@ ghost use Rattle.recount.specs.Core.{Flippable, recounted};
 ghost use Rattle.recount.specs.Plans.{plan, rule};
 ghost use Rattle.flips.specs.Passing.{Countable, ClausePassed, Passable, Passed, Inside, Followable};
 
-use format::{ENDS, HOLDING, ORDER, RULES, UNSATISFIED};
+use format::{ENDS, HOLDING, ORDER, UNSATISFIED};
 use places::{clause_in, rule_in};
 use recount::lent::Lent;
-use recount::recount::put;
 use recount::tables::Tables;
-use rules::state::{State, read_state};
-use words::{index, narrow, word};
+use rules::state::State;
+use words::{index, narrow, word, write_word};
 
 fn opposite(b: u8) -> u8
     ensures { result ≡ 1 - b }
@@ -54,15 +55,10 @@ fn held_with(s: State, p: u32) -> bool
     requires { Balanced s × (p ≤ s.n + s.p) }
     ensures { result ≡ (below_size (s.n + s.p - p) (bound_of s.a) and below_size p (bound_of s.b)) }
 {
-    let stands = s.stands;
-    let a = s.a;
-    let b = s.b;
     let before = State {
         n: s.n + s.p - p,
         p,
-        stands,
-        a,
-        b,
+        ..s
     };
     before.holds()
 }
@@ -76,8 +72,8 @@ pub fn pass_clause(tallies: &mut [u8], c: usize, held: bool, holds: bool)
     let before = word(tallies, HOLDING + c);
     let total = word(tallies, UNSATISFIED);
     let after = exchanged(held, holds, before);
-    put(tallies, HOLDING + c, after);
-    put(
+    write_word(tallies, HOLDING + c, after);
+    write_word(
         tallies,
         UNSATISFIED,
         exchanged(before == 0, after == 0, total),
@@ -93,13 +89,13 @@ fn pass(lent: &Lent<'_>, tallies: &mut [u8], w: u32)
         × Inside tallies.old tallies.new }
 {
     let r = rule_in(w);
-    let s = read_state(lent.plan.tables, lent.plan.terms, lent.bits, RULES + 5 * r);
+    let s = lent.state(r);
     let held = held_with(s, word(tallies, r));
-    put(tallies, r, s.p);
+    write_word(tallies, r, s.p);
     pass_clause(tallies, clause_in(w), held, s.holds());
 }
 
-// The whole run of x; it answers how many rules it passed.
+// The whole run of x; it answers how many rules it passed. The places are told by the indices of their words, where a slice would count bytes.
 fn follow(lent: &Lent<'_>, tallies: &mut [u8], x: usize) -> u32
     requires { Followable lent.now.plan.tables.now lent.now.plan.terms.now lent.now.bits.now tallies.old x }
     ensures { (result ≡ rules_named (plan lent.now.plan) x)

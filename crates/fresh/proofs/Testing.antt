@@ -5,6 +5,7 @@ use Prim.Native.Nat.{ℕ, ◌+◌, ◌-◌, ◌≤◌, ◌<◌}
 use native.Mathlib.Omega.{arith}
 use mathlib.Core.Path.{◌≡◌, refl, sym, ap, ◌∙◌}
 use Rattle.std.specs.Prelude.{Option, Some, None}
+use Rattle.std.specs.Bool.{then_some}
 use mathlib.Core.Bool.{Bool, true, false, cond}
 use mathlib.Core.List.{List}
 use lib.Dec.{eqb}
@@ -19,11 +20,9 @@ use Rattle.words.proofs.Words.{Below}
 use Rattle.words.proofs.Tests.{not_decides}
 use Rattle.format.specs.Tables.{rule_of, plan_of_tables, same_bytes}
 use Rattle.rules.specs.Terms.{bits_in}
-use Rattle.rules.specs.Rules.{rule_at}
 use Rattle.rules.specs.State.{StateOf, holds_in}
 use Rattle.rules.specs.declared.state.State.{State}
 use Rattle.rules.proofs.States.{holds_rule}
-use Rattle.rules.proofs.Tables.{rule_at_lem}
 use Rattle.tallies.specs.Layout.{tally_size, bits_of, tally_bytes, tally_word}
 use Rattle.recount.specs.Core.{Laid, Ready, ClauseCounted, Unused}
 use Rattle.fresh.specs.Found.{FoundAt}
@@ -33,7 +32,7 @@ use Rattle.recount.proofs.Laid.{rules_word, clauses_word, rules_few, clauses_few
 use Rattle.recount.proofs.Keeping.{kept_none, none_wrote}
 use Rattle.recount.proofs.Cores.{first_bits_of}
 use Rattle.recount.proofs.Recounting.{word_of_rule, RulesDone, rules_step, rules_end, rules_all, ClausesDone, clauses_end, clauses_all}
-use Rattle.format.specs.Layout.{holding_at, rule_first_at, rule_room, unsatisfied_at}
+use Rattle.format.specs.Layout.{holding_at, rule_room, unsatisfied_at}
 
 -- ---- tests
 
@@ -47,18 +46,16 @@ decides_same false xs ys d = go (same_bytes xs ys) refl
 
 -- ---- a rule
 
-module _ (tables terms bits tallies : List ℕ) (l : Laid tables terms) (r x : ℕ) (h : r < word_at tables 2) {s : State} (k : StateOf (bits_in bits) x (rule_at (word_at tables) (word_at terms) (rule_first_at r)) s) (w : ℕ) (e : w ≡ word_at tallies r) where
-  here : StateOf (bits_in bits) x (rule_of (word_at tables) (word_at terms) r) s
-  here = rw (rule_at_lem (word_at tables) (word_at terms) r) at k
-
+module _ (tables terms bits tallies : List ℕ) (l : Laid tables terms) (r x : ℕ) (h : r < word_at tables 2) {s : State} (k : StateOf (bits_in bits) x (rule_of (word_at tables) (word_at terms) r) s) (w : ℕ) (e : w ≡ word_at tallies r) where
   wanted : tally_word (plan_of_tables tables terms) (bits_in bits) r ≡ s.p
-  wanted = word_of_rule tables terms l (bits_in bits) r h ∙ sym here.trues
+  wanted = word_of_rule tables terms l (bits_in bits) r h ∙ sym k.trues
 
-  pub found_same : (b : Bool) → w ≡ s.p → b ≡ holds_in s → FoundAt tables terms bits tallies r (Some b)
-  found_same b q m = (sym e ∙ q ∙ sym wanted, m ∙ holds_rule here)
-
-  pub found_other : (w ≡ s.p → ⊥) → FoundAt tables terms bits tallies r None
-  found_other q = λ z. q (e ∙ z ∙ wanted)
+  pub found : (b : Bool) {o : Option Bool} → o ≡ then_some (eqb w s.p) b → b ≡ holds_in s → FoundAt tables terms bits tallies r o
+  found b q m = rw q (by (eqb w s.p) refl)
+    where
+      by : (t : Bool) → eqb w s.p ≡ t → FoundAt tables terms bits tallies r (then_some t b)
+      by true f = (sym e ∙ eqb-true w s.p f ∙ sym wanted, m ∙ holds_rule k)
+      by false f = λ z. eqb-false w s.p f (e ∙ z ∙ wanted)
 
 -- ---- a clause
 

@@ -17,7 +17,6 @@ use recount::clause::rules_of;
 use recount::lent::Lent;
 use recount::recount::bit;
 use recount::tables::Tables;
-use rules::state::read_state;
 use words::{index, word, zeros};
 
 // Tallies beside what is lent.
@@ -30,22 +29,13 @@ struct Tallied<'a, 'b> {
 }
 
 impl Tallied<'_, '_> {
-    // Whether a rule holds, if its own P stands for it.
+    // Whether a rule holds, if the word that stands for it is its P.
     fn check_rule(&self, r: usize) -> Option<bool>
         requires { r < word_at self.now.lent.plan.tables.now 2 }
         ensures { FoundAt self.now.lent.plan.tables.now self.now.lent.plan.terms.now self.now.lent.bits.now self.now.tallies.now r result }
     {
-        let s = read_state(
-            self.lent.plan.tables,
-            self.lent.plan.terms,
-            self.lent.bits,
-            format::RULES + 5 * r,
-        );
-        if word(self.tallies, r) == s.p {
-            Some(s.holds())
-        } else {
-            None
-        }
+        let s = self.lent.state(r);
+        (word(self.tallies, r) == s.p).then_some(s.holds())
     }
 
     // Whether the words of a clause are right: those of its rules and its count.
@@ -56,7 +46,7 @@ impl Tallied<'_, '_> {
     {
         let rules = rules_of(self.lent.plan.tables, c);
         let mut holding: u32 = 0;
-        for r in rules.first..rules.end {
+        for r in rules.start..rules.end {
             let Some(holds) = self.check_rule(r) else {
                 return false;
             };
@@ -65,7 +55,7 @@ impl Tallied<'_, '_> {
         word(self.tallies, format::HOLDING + c) == holding
     }
 
-    // Whether those of all clauses are, and the total: then all words are, where unused entries are 0.
+    // Whether the words of all clauses and the total are right: then all words are, where unused entries are 0.
     fn clauses_fresh(&self) -> bool
         requires { Unused (plan self.now.lent.plan) self.now.tallies.now }
         ensures { Decides result
@@ -83,7 +73,7 @@ impl Tallied<'_, '_> {
     }
 }
 
-// Unused entries are looked at first: it costs least.
+// Whether the tallies are those of the assignment. Unused entries are looked at first: it costs least.
 pub fn fresh(t: &Tables<'_>, assignment: &[u8], tallies: &[u8]) -> bool
     requires { ((plan t.now).variables ≤ length assignment.now) × (tally_size ≤ length tallies.now) }
     ensures { result

@@ -1,5 +1,7 @@
 // A flip on what is kept. It goes along the variable's run and reads of each place its word in the order, its weight, and P, K, A and B of its rule: no term.
 // It writes P and the two needs, and the clause's count and the total only where the rule's holding changes.
+// The tallies, and the assignment where it is turned over, come one by one beside what is read: in one struct they would be read while a part of it is lent for
+// writing, which the proof of borrows does not cover, and each function would have to promise that each field is still the same buffer.
 #![tactic(auto)]
 
 ghost use Rattle.std.specs.Prelude.{◌≡◌, ◌≤◌, not, ◌%◌, length};
@@ -28,7 +30,7 @@ use words::{index, word, write_word};
 fn was_true(w: u32, value: bool) -> bool
     ensures { result ≡ was_true w value }
 {
-    if w % 2 == 1 { value } else { !value }
+    value == (w % 2 == 1)
 }
 
 // Whether a rule held before, and whether it holds: two facts, each of which may be so without the other.
@@ -38,8 +40,8 @@ struct Change {
     holds: bool,
 }
 
-// One literal of a rule is turned over: P and the needs follow. Whether it was true before is a fact of the literal, and so it is below of a rule whether it
-// held and whether it holds: they are compared and counted.
+// One literal of a rule is turned over: P and the needs follow. Whether it was true before is a fact of the literal, which tells the side that its weight
+// leaves: an enum of the two sides would be made of that fact, and matched in `moved` alone.
 fn turn_rule(tallies: &mut [u8], r: usize, on: bool, w: u32) -> Change
     requires { Turnable on w r tallies.old }
     ensures { RuleTurned on w r result tallies.old tallies.new }
@@ -54,15 +56,15 @@ fn turn_rule(tallies: &mut [u8], r: usize, on: bool, w: u32) -> Change
     }
 }
 
-// The clause's count and the total follow where something has changed.
-fn pass_change(tallies: &mut [u8], c: usize, held: bool, holds: bool)
-    requires { Countable c held tallies.old }
-    ensures { ClausePassed c held holds tallies.old tallies.new }
+// The clause's count and the total follow where a rule that held holds no more, or the reverse. Both are facts of the rule: they are compared and counted.
+fn pass_change(tallies: &mut [u8], c: usize, change: Change)
+    requires { Countable c change.held tallies.old }
+    ensures { ClausePassed c change.held change.holds tallies.old tallies.new }
 {
-    if held == holds {
+    if change.held == change.holds {
         return;
     }
-    pass_clause(tallies, c, held, holds);
+    pass_clause(tallies, c, change.held, change.holds);
 }
 
 // One place of the run, of which the word in the order is o and the weight w.
@@ -71,10 +73,11 @@ fn pass(tallies: &mut [u8], o: u32, value: bool, w: u32)
     ensures { PlaceTurned (was_true o value) w (word_place o) tallies.old tallies.new }
 {
     let change = turn_rule(tallies, rule_in(o), was_true(o, value), w);
-    pass_change(tallies, clause_in(o), change.held, change.holds);
+    pass_change(tallies, clause_in(o), change);
 }
 
-// The whole run of x. The terms are not read: with the tables they say the plan.
+// The whole run of x. The terms are not read: with the tables they say the plan. The places are told by the indices of their words, of which two tables have
+// one each: slices of both would count bytes.
 fn follow(t: &Tables<'_>, marks: &[u8], bits: &[u8], tallies: &mut [u8], x: u32)
     requires { Followed t.now.tables.now t.now.terms.now marks.now bits.now tallies.old x }
     ensures { Kept (plan t.now) (bits_in bits.now) tallies.old tallies.new }
@@ -92,7 +95,7 @@ fn follow(t: &Tables<'_>, marks: &[u8], bits: &[u8], tallies: &mut [u8], x: u32)
     }
 }
 
-// Turns a variable over.
+// Turns a variable over, and what is kept of the assignment follows.
 pub fn flip_kept(t: &Tables<'_>, marks: &[u8], assignment: &mut [u8], tallies: &mut [u8], x: u32)
     requires { Keepable t.now.tables.now t.now.terms.now marks.now assignment.old tallies.old x }
     ensures { (assignment.new ≡ turned assignment.old x)

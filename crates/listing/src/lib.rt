@@ -1,5 +1,7 @@
 // The variables that may be chosen of each clause, as lists: so a move looks at no term to know them. They are made along the order, variable after
 // variable, which is linear in the terms.
+// The marks come beside the tables that are read: in one struct with them they would be read while they are lent for writing, which the proof of borrows does
+// not cover. So their size and what the lists hold so far stand in each clause, of the marks before and of those after.
 #![tactic(auto)]
 
 ghost use Rattle.std.specs.Prelude.{◌≡◌, ◌+◌, ◌*◌, ◌-◌, ◌≤◌, ◌<◌, false, ltb, eqb, length};
@@ -24,13 +26,10 @@ fn ends_with(marks: &[u8], at: usize, n: usize, x: usize) -> bool
     requires { (at + n ≤ 6_512) × (column_size ≤ length marks.now) }
     ensures { result ≡ (ltb 0 n and eqb (word_at marks.now (list_at (at + n - 1))) x) }
 {
-    if n == 0 {
-        return false;
-    }
-    index(marks, LISTS + (at + n - 1)) == x
+    0 < n && index(marks, LISTS + (at + n - 1)) == x
 }
 
-// A variable of a plan.
+// A plan, and one of its variables.
 #[derive(Drop)]
 struct Variable<'a> {
     plan: Tables<'a>,
@@ -40,7 +39,7 @@ struct Variable<'a> {
 }
 
 impl Variable<'_> {
-    // One entry of its run: the clause's list gets the variable, unless it has it already.
+    // One entry of the variable's run: the list of the entry's clause gets the variable, unless it has it already.
     fn list_entry(&self, k: usize, marks: &mut [u8])
         requires { (is_locked (planOf self.now.plan) self.now.x ≡ false)
             × (word_at self.now.plan.tables.now (end_at (self.now.x - 1)) ≤ k) × (k < word_at self.now.plan.tables.now (end_at self.now.x))
@@ -59,7 +58,7 @@ impl Variable<'_> {
         write_word(marks, LIST_COUNTS + c, narrow(n + 1));
     }
 
-    // Its whole run.
+    // All entries of the variable's run.
     fn list_run(&self, marks: &mut [u8])
         requires { (is_locked (planOf self.now.plan) self.now.x ≡ false) × Listing (planOf self.now.plan) self.now.x 0 marks.old }
         ensures { Listing (planOf self.now.plan) (self.now.x + 1) 0 marks.new
@@ -71,7 +70,7 @@ impl Variable<'_> {
         }
     }
 
-    // .. where it is not locked.
+    // All entries of the variable's run, unless it is locked: then no list gets it.
     fn list(&self, marks: &mut [u8])
         requires { Listing (planOf self.now.plan) self.now.x 0 marks.old }
         ensures { Listing (planOf self.now.plan) (self.now.x + 1) 0 marks.new
@@ -84,7 +83,7 @@ impl Variable<'_> {
     }
 }
 
-// No list has a variable yet.
+// Before the first variable is listed no list has one.
 fn clear_counts(t: &Tables<'_>, marks: &mut [u8])
     requires { column_size ≤ length marks.old }
     ensures { Listing (planOf t.now) 1 0 marks.new
@@ -94,7 +93,7 @@ fn clear_counts(t: &Tables<'_>, marks: &mut [u8])
     marks[4 * LIST_COUNTS..4 * (LIST_COUNTS + clauses)].fill(0);
 }
 
-// All variables.
+// Lists all variables in turn, each in the lists of the clauses that name it.
 pub fn list_clauses(t: &Tables<'_>, marks: &mut [u8])
     requires { column_size ≤ length marks.old }
     ensures { Listed (planOf t.now) marks.new

@@ -1,5 +1,6 @@
 // What a rule's two sides need: how much weight has to come to its false literals, or to its true ones, before a part is false that a bound asks for. A flip
 // spoils a part where the weight it brings is not below the need, so one comparison tells it.
+// The tallies are lent by themselves, for each function that writes them reads them too.
 #![tactic(auto)]
 
 ghost use Rattle.std.specs.Prelude.{◌≡◌, ◌+◌, ◌≤◌, ◌<◌, length};
@@ -25,6 +26,7 @@ pub struct KeptRule {
     pub b: u32,
 }
 
+// What is kept of rule r.
 pub fn read_rule(tallies: &[u8], r: usize) -> KeptRule
     requires { Readable r tallies.now }
     ensures { ReadAs (word_at tallies.now) r result }
@@ -68,20 +70,18 @@ impl KeptRule {
     }
 }
 
-// What a side with m so far needs for a part of this size.
+// What a side with m so far needs for a part of this size. A size that is absent has the word that is above each weight, so that a need is one word, which a
+// flip compares once: an Option would be a second word of the lent tallies, and a second question at each place.
 fn need(size: u32, m: u32) -> u32
     ensures { result ≡ need_word size m }
 {
-    if size == 0 {
-        return NEVER;
-    }
-    if size == NEVER {
+    if size == 0 || size == NEVER {
         return NEVER;
     }
     size.saturating_sub(m)
 }
 
-// The needs of rule r, which stands so.
+// The needs of rule r, of which this is kept.
 pub fn put_needs(tallies: &mut [u8], r: usize, k: KeptRule)
     requires { (r < rule_room) × (kept_size ≤ length tallies.old) }
     ensures { NeedsPut r k tallies.old tallies.new }
@@ -90,7 +90,7 @@ pub fn put_needs(tallies: &mut [u8], r: usize, k: KeptRule)
     write_word(tallies, NEEDS + (2 * r + 1), need(k.a, k.n));
 }
 
-// Those of all rules, from the P that stands in the tallies.
+// The needs of all rules, from the P that stands in the tallies.
 pub fn fill_needs(t: &Tables<'_>, tallies: &mut [u8])
     requires { Sized (plan t.now) tallies.old × Weighable (plan t.now) tallies.old }
     ensures { Needed (plan t.now) tallies.new × Sized (plan t.now) tallies.new

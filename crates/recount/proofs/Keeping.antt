@@ -1,29 +1,23 @@
 -- Tallies that become right word by word: what was right stays so, so that once every word is written or was right all are.
 -- Assumes nothing.
-use Prim.Native.Nat.{ℕ, ◌*◌, ◌≤◌, ◌<◌}
+use Prim.Native.Nat.{ℕ, ◌≤◌, ◌<◌}
 use native.Mathlib.Decide.{ℕ_discrete}
 use native.Mathlib.Omega.{arith}
 use mathlib.Core.Path.{◌≡◌, refl, sym, ap, ◌∙◌}
-use mathlib.Core.List.{List}
+use mathlib.Core.List.{List, [], ◌∷◌}
 use lib.ListN.{length}
-use Rattle.words.specs.Words.{word_at, bytes_of}
-use Rattle.words.specs.Writes.{put}
-use Rattle.words.proofs.Words.{length_bytes_of}
-use Rattle.words.proofs.Writes.{length_put, read_put, drop_put, put_beside}
+use Rattle.words.specs.Words.{word_at}
+use Rattle.words.specs.Writes.{put_words}
+use Rattle.words.proofs.Writes.{word_wrote}
 use Rattle.tallies.specs.Layout.{tally_size}
 use Rattle.recount.specs.Core.{Wrote, Kept}
 use Rattle.format.specs.Layout.{tally_word_count}
 
-pub put_wrote : (s : List ℕ) (i v : ℕ) → i < tally_word_count → v < 4_294_967_296 → tally_size ≤ length s → Wrote i v s (put (4 * i) (bytes_of 4 v) s)
-unfolding word_at
-put_wrote s i v h k l =
-    let long = length_bytes_of 4 v in
-    record {
-      here = read_put 4 (4 * i) v s (omega arith) k;
-      others = λ j n. unfold word_at in put_beside s i j v (omega arith) n;
-      size = length_put (4 * i) (bytes_of 4 v) s (rw long (omega arith));
-      beyond = drop_put tally_size (4 * i) (bytes_of 4 v) s (rw long (omega arith)) l;
-    }
+-- A word that is written within the tallies' full limits is one of them, and nothing past them changes.
+pub tally_wrote : (i v : ℕ) (s t : List ℕ) → i < tally_word_count → v < 4_294_967_296 → tally_size ≤ length s → t ≡ put_words i (v ∷ []) s → Wrote i v s t
+tally_wrote i v s t h k l e =
+    let w = word_wrote i v s t (omega arith) k e in
+    record { here = w.here; others = w.others; size = w.size; beyond = w.beyond tally_size (omega arith) l }
 
 -- Nothing need be written where the word stands there.
 pub none_wrote : (s : List ℕ) (i v : ℕ) → word_at s i ≡ v → Wrote i v s s

@@ -22,11 +22,9 @@ use Rattle.words.specs.Words.{word_at}
 use Rattle.words.proofs.Words.{Below}
 use Rattle.format.specs.Tables.{rule_of, clause_of, plan_in, plan_of_tables}
 use Rattle.rules.specs.Terms.{bits_in}
-use Rattle.rules.specs.Rules.{rule_at}
 use Rattle.rules.specs.State.{StateOf, holds_in}
 use Rattle.rules.specs.declared.state.State.{State}
 use Rattle.rules.proofs.States.{holds_rule}
-use Rattle.rules.proofs.Tables.{rule_at_lem}
 use Rattle.tallies.specs.Layout.{tally_size, tally_bytes, tally_word}
 use Rattle.recount.specs.Core.{Laid, Wrote, Kept, Right, RuleCounted, ClauseCounted, Unused}
 use Rattle.recount.proofs.Along.{along_step, along_end}
@@ -34,7 +32,7 @@ use Rattle.tallies.proofs.TallyBytes.{roomy_fits}
 use Rattle.tallies.proofs.Tallied.{rule_word, clause_word, total_word, unused_rule, unused_clause, words_fresh}
 use Rattle.recount.proofs.Laid.{rules_word, clauses_word, rule_here, clause_here, first_rule_lem, next_rule_lem, last_rule}
 use Rattle.recount.proofs.Keeping.{kept_none, kept_more, wrote_kept}
-use Rattle.format.specs.Layout.{clause_count_at, clause_first_at, holding_at, rule_first_at, rule_room, tally_word_count, unsatisfied_at}
+use Rattle.format.specs.Layout.{clause_count_at, clause_first_at, holding_at, rule_room, tally_word_count, unsatisfied_at}
 
 -- ---- the words of rules and clauses as they are read
 
@@ -52,14 +50,11 @@ module _ (tables terms : List ℕ) (l : Laid tables terms) (a : Assignment) wher
 
 -- ---- a rule
 
-module _ (tables terms bits : List ℕ) (r y : ℕ) (h : r < word_at tables 2) {s : State} (k : StateOf (bits_in bits) y (rule_at (word_at tables) (word_at terms) (rule_first_at r)) s) where
-  state_here : StateOf (bits_in bits) y (rule_of (word_at tables) (word_at terms) r) s
-  state_here = rw (rule_at_lem (word_at tables) (word_at terms) r) at k
-
+module _ (tables terms bits : List ℕ) (r y : ℕ) (h : r < word_at tables 2) {s : State} (k : StateOf (bits_in bits) y (rule_of (word_at tables) (word_at terms) r) s) where
   pub rule_counted : Laid tables terms → (b : Bool) (t u : List ℕ) → b ≡ holds_in s → Wrote r s.p t u → RuleCounted tables terms bits r b t u
   rule_counted l b t u e w =
-      let right : s.p ≡ tally_word (plan_of_tables tables terms) (bits_in bits) r = state_here.trues ∙ sym (word_of_rule tables terms l (bits_in bits) r h) in
-      record { holds = e ∙ holds_rule state_here; here = w.here ∙ right; kept = wrote_kept _ t u r s.p w right }
+      let right : s.p ≡ tally_word (plan_of_tables tables terms) (bits_in bits) r = k.trues ∙ sym (word_of_rule tables terms l (bits_in bits) r h) in
+      record { holds = e ∙ holds_rule k; here = w.here ∙ right; kept = wrote_kept _ t u r s.p w right }
 
 -- ---- words in a row
 

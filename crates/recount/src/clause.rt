@@ -8,26 +8,18 @@ ghost use Rattle.format.specs.Layout.{clause_count_at, clause_first_at};
 
 use crate::tables::Tables;
 use rules::state::names;
+use std::ops::Range;
 use words::index;
 
-// The first of a clause's rules, and where they end.
-#[derive(Clone, Copy)]
-pub struct Run {
-    pub first: usize,
-    pub end: usize,
-}
-
-pub fn rules_of(tables: &[u8], c: usize) -> Run
+// Where a clause's rules stand among all rules. Where an invariant speaks of the rule's number, a loop or chain goes from one end to the other, so that the
+// number is its own variable; `joining` goes over the range itself and reads the number off what is left of it.
+pub fn rules_of(tables: &[u8], c: usize) -> Range<usize>
     requires { RunReadable tables.now c }
-    ensures { (result.first ≡ word_at tables.now (clause_first_at c))
+    ensures { (result.start ≡ word_at tables.now (clause_first_at c))
         × (result.end ≡ word_at tables.now (clause_first_at c) + word_at tables.now (clause_count_at c)) }
 {
     let first = index(tables, format::CLAUSES + 2 * c);
-    let count = index(tables, format::CLAUSE_COUNT + 2 * c);
-    Run {
-        first,
-        end: first + count,
-    }
+    first..first + index(tables, format::CLAUSE_COUNT + 2 * c)
 }
 
 impl Tables<'_> {
@@ -39,18 +31,12 @@ impl Tables<'_> {
         names(self.tables, self.terms, format::RULES + 5 * r, x)
     }
 
-    // Whether one of a clause's rules does.
+    // Whether one of a clause's rules names the variable.
     pub fn clause_names(&self, c: usize, x: u32) -> bool
         requires { c < word_at self.now.tables.now 1 }
         ensures { result ≡ clauseNames (clause self.now c) x }
     {
         let rules = rules_of(self.tables, c);
-        let end = rules.end;
-        for r in rules.first..end {
-            if self.rule_names(r, x) {
-                return true;
-            }
-        }
-        false
+        (rules.start..rules.end).any(|r| self.rule_names(r, x))
     }
 }

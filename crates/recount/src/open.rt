@@ -4,7 +4,7 @@ ghost use Rattle.tallies.specs.Layout.{tally_size};
 ghost use Rattle.recount.specs.Core.{recounted};
 ghost use Rattle.recount.specs.Plans.{plan};
 
-use crate::recount::recount;
+use crate::lent::Lent;
 use crate::tables::Tables;
 use words::{clear, index};
 
@@ -15,5 +15,9 @@ pub fn open_core(t: &Tables<'_>, assignment: &[u8], tallies: &mut [u8])
 {
     let n = index(t.tables, 0);
     clear(&mut tallies[..format::TALLIES]);
-    recount(t, &assignment[..n], tallies);
+    let lent = Lent {
+        plan: *t,
+        bits: &assignment[..n],
+    };
+    lent.recount(tallies);
 }

@@ -3,15 +3,14 @@ ghost use Rattle.std.specs.Prelude.{◌≡◌, cond, ◌≤◌, ◌<◌, length}
 ghost use Rattle.words.specs.Words.{word_at};
 ghost use Rattle.rules.specs.Terms.{bits_in};
 ghost use Rattle.tallies.specs.Layout.{tally_size, with_tallies};
-ghost use Rattle.recount.specs.Core.{Wrote, RuleCounted, ClauseCounted, Unused};
-ghost use Rattle.recount.specs.Plans.{plan};
-ghost use Rattle.format.specs.Layout.{tally_word_count};
+ghost use Rattle.rules.specs.State.{StateOf};
+ghost use Rattle.recount.specs.Core.{RuleCounted, ClauseCounted, Unused};
+ghost use Rattle.recount.specs.Plans.{plan, rule};
 
 use crate::clause::rules_of;
 use crate::lent::Lent;
-use crate::tables::Tables;
-use rules::state::read_state;
-use words::{index, word, write_u32};
+use rules::state::{State, read_state};
+use words::{index, word, write_word};
 
 // 1 where it is so. `u32::from` says which number; that it is at most 1 is what the sums of such bits cite.
 pub fn bit(b: bool) -> u32
@@ -20,27 +19,27 @@ pub fn bit(b: bool) -> u32
     u32::from(b)
 }
 
-// Writes one word of the tallies.
-pub fn put(tallies: &mut [u8], i: usize, v: u32)
-    requires { (i < tally_word_count) × (tally_size ≤ length tallies.old) }
-    ensures { Wrote i v tallies.old tallies.new }
-{
-    write_u32(tallies, 4 * i, v);
-}
-
 impl Lent<'_> {
+    // The state of a rule, seen from no variable.
+    pub fn state(&self, r: usize) -> State
+        requires { r < word_at self.now.plan.tables.now 2 }
+        ensures { StateOf (bits_in self.now.bits.now) 0 (rule self.now.plan r) result }
+    {
+        read_state(
+            self.plan.tables,
+            self.plan.terms,
+            self.bits,
+            format::RULES + 5 * r,
+        )
+    }
+
     // P of a rule, and whether it holds.
     fn recount_rule(&self, tallies: &mut [u8], r: usize) -> bool
         requires { (tally_size ≤ length tallies.old) × (r < word_at self.now.plan.tables.now 2) }
         ensures { RuleCounted self.now.plan.tables.now self.now.plan.terms.now self.now.bits.now r result tallies.old tallies.new }
     {
-        let s = read_state(
-            self.plan.tables,
-            self.plan.terms,
-            self.bits,
-            format::RULES + 5 * r,
-        );
-        put(tallies, r, s.p);
+        let s = self.state(r);
+        write_word(tallies, r, s.p);
         s.holds()
     }
 
@@ -51,14 +50,14 @@ impl Lent<'_> {
     {
         let rules = rules_of(self.plan.tables, c);
         let mut holding: u32 = 0;
-        for r in rules.first..rules.end {
+        for r in rules.start..rules.end {
             holding += bit(self.recount_rule(tallies, r));
         }
-        put(tallies, format::HOLDING + c, holding);
+        write_word(tallies, format::HOLDING + c, holding);
     }
 
-    // All clauses, and how many of them hold no rule.
-    fn recount(&self, tallies: &mut [u8])
+    // The tallies of all clauses, and how many of them hold no rule.
+    pub fn recount(&self, tallies: &mut [u8])
         requires { (tally_size ≤ length tallies.old) × Unused (plan self.now.plan) tallies.old }
         ensures { tallies.new ≡ with_tallies (plan self.now.plan) (bits_in self.now.bits.now) tallies.old }
     {
@@ -68,16 +67,6 @@ impl Lent<'_> {
             self.recount_clause(tallies, c);
             unsatisfied += bit(word(tallies, format::HOLDING + c) == 0);
         }
-        put(tallies, format::UNSATISFIED, unsatisfied);
+        write_word(tallies, format::UNSATISFIED, unsatisfied);
     }
-}
-
-// All clauses, and how many of them hold no rule.
-pub fn recount(t: &Tables<'_>, bits: &[u8], tallies: &mut [u8])
-    requires { ((plan t.now).variables ≤ length bits.now) × (tally_size ≤ length tallies.old)
-        × Unused (plan t.now) tallies.old }
-    ensures { tallies.new ≡ with_tallies (plan t.now) (bits_in bits.now) tallies.old }
-{
-    let lent = Lent { plan: *t, bits };
-    lent.recount(tallies);
 }

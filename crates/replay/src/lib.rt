@@ -1,7 +1,7 @@
 // Opening, and then a list of calls one after another on the lent buffers: demand 3 as a claim about running code.
 #![tactic(auto)]
 
-ghost use Rattle.std.specs.Prelude.{◌≡◌, ◌+◌, ◌*◌, ◌/◌, ◌≤◌, get_or, length};
+ghost use Rattle.std.specs.Prelude.{◌≡◌, [], ◌∷◌, ◌++◌, ◌+◌, ◌*◌, ◌/◌, ◌≤◌, get_or, length};
 ghost use Rattle.counting.specs.Count.{marked_words};
 ghost use Rattle.words.specs.Words.{num_at, word_bytes};
 ghost use Rattle.words.specs.Writes.{front};
@@ -10,9 +10,10 @@ ghost use Rattle.replay.specs.Replay.{called, call_of, calls_of, answer_size, an
 ghost use Rattle.replay.specs.Replay.{replay_refusal, replay_out, replay_assignment, replay_tallies};
 ghost use Rattle.tallies.specs.Calls.{lent, answer, left_by};
 
-use calls::counts::counts;
-use calls::flip::flip;
+use calls::counts::{Counted, counts};
+use calls::flip::{Flipped, flip};
 use calls::open::open;
+use calls::tests::Refusal;
 use counting::count::Marked;
 use words::{read_u32, write_u32};
 
@@ -38,6 +39,34 @@ struct Answered {
     makes: Marked,
 }
 
+// A flip gives no counts.
+impl From<Flipped> for Answered {
+    ghost from_gives = { λ f a. answered_words a ≡ f.refusal ∷ f.rules ∷ 0 ∷ 0 ∷ 0 ∷ 0 ∷ [] };
+
+    fn from(f: Flipped) -> Answered {
+        Answered {
+            refusal: f.refusal,
+            rules: f.rules,
+            breaks: Marked::ZERO,
+            makes: Marked::ZERO,
+        }
+    }
+}
+
+// Counts rewrite no rule's tally.
+impl From<Counted> for Answered {
+    ghost from_gives = { λ c a. answered_words a ≡ c.refusal ∷ 0 ∷ (marked_words c.breaks ++ marked_words c.makes) };
+
+    fn from(c: Counted) -> Answered {
+        Answered {
+            refusal: c.refusal,
+            rules: 0,
+            breaks: c.breaks,
+            makes: c.makes,
+        }
+    }
+}
+
 // The call that stands at a place of the caller's list: its kind, 0 for a flip and any other for counts, and its variable.
 fn call_at(list: &[u8], at: usize) -> Call
     requires { at + 5 ≤ length list.now }
@@ -51,7 +80,7 @@ fn call_at(list: &[u8], at: usize) -> Call
     }
 }
 
-// Makes one call. The tables stay two, for nothing is known of them before the call has tested them.
+// Makes one call. The buffers come one by one, as the C interface lends them: nothing is known of them before the call has tested them.
 fn make_call(
     tables: &[u8],
     terms: &[u8],
@@ -67,24 +96,8 @@ fn make_call(
         ≡ (left_by (lent tables.now terms.now assignment.old tallies.old) (called call)).tallies }
 {
     match call {
-        Call::Flip(x) => {
-            let f = flip(tables, terms, assignment, tallies, x);
-            Answered {
-                refusal: f.refusal,
-                rules: f.rules,
-                breaks: Marked::ZERO,
-                makes: Marked::ZERO,
-            }
-        }
-        Call::Counts(x) => {
-            let c = counts(tables, terms, assignment, tallies, x);
-            Answered {
-                refusal: c.refusal,
-                rules: 0,
-                breaks: c.breaks,
-                makes: c.makes,
-            }
-        }
+        Call::Flip(x) => Answered::from(flip(tables, terms, assignment, tallies, x)),
+        Call::Counts(x) => Answered::from(counts(tables, terms, assignment, tallies, x)),
     }
 }
 
@@ -108,7 +121,8 @@ fn write_answer(out: &mut [u8], answer: Answered)
     write_count(&mut out[16..24], answer.makes);
 }
 
-// Makes the calls of a list, each on what the one before it left. The buffers come one by one, as the C interface lends them.
+// Makes the calls of a list, each on what the one before it left. The buffers come one by one, as the C interface lends them. A call and its answer are found
+// by the call's number: after a loop that is lent the answers' places chunk by chunk, what `out` ends as is not said (see `races::put_in`).
 fn make_calls(
     tables: &[u8],
     terms: &[u8],
@@ -161,7 +175,7 @@ pub fn replay(
         out.old }
 {
     if out.len() / ANSWER < list.len() / CALL {
-        return 21;
+        return u32::from(Refusal::TooSmall);
     }
     let refusal = open(tables, terms, assignment, tallies);
     if refusal != 0 {
@@ -171,7 +185,7 @@ pub fn replay(
     0
 }
 
-// The same for C.
+// The same under the name that C calls.
 #[unsafe(no_mangle)]
 pub extern "C" fn replay_calls(
     tables: &[u8],

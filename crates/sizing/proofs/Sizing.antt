@@ -12,12 +12,10 @@ use Rattle.counting.specs.Bound.{bound_of}
 use Rattle.words.specs.Words.{word_at}
 use Rattle.words.specs.Writes.{Wrote}
 use Rattle.order.specs.Order.{rule_at, no_rule}
-use Rattle.format.specs.Layout.{rule_first_at, rule_room}
+use Rattle.format.specs.Layout.{rule_room}
 use Rattle.format.specs.Tables.{rule_of, plan_of_tables}
 use Rattle.rules.specs.declared.state.State.{State}
-use Rattle.rules.specs.Rules.{rule_at as rule_from}
 use Rattle.rules.specs.State.{StateOf}
-use Rattle.rules.proofs.Tables.{rule_at_lem}
 use Rattle.recount.specs.Core.{Laid, Ready}
 use Rattle.recount.proofs.Laid.{parts, rules_word, rule_here, rule_lawful_lem, terms_long}
 use Rattle.columns.specs.Layout.{total_at, lower_size_at, upper_size_at, need_at, kept_size}
@@ -37,23 +35,20 @@ sizes_put {r} x y z = record {
   only = only_next (wrote_only (omega arith) (omega arith) x) (only_next (wrote_only (omega arith) (omega arith) y) (wrote_only (omega arith) (omega arith) z));
 }
 
-module _ (tables terms : List ℕ) (r : ℕ) {b : Assignment} {z : State} (h : StateOf b 0 (rule_from (word_at tables) (word_at terms) (rule_first_at r)) z) where
-  state_here : StateOf b 0 (rule_of (word_at tables) (word_at terms) r) z
-  state_here = rw (rule_at_lem (word_at tables) (word_at terms) r) at h
-
+module _ (tables terms : List ℕ) (r : ℕ) {b : Assignment} {z : State} (h : StateOf b 0 (rule_of (word_at tables) (word_at terms) r) z) where
   module _ (l : Laid tables terms) (i : r < word_at tables 2) where
     pub lower_fits : Small (bound_of z.a)
-    lower_fits = rw state_here.lower (lower_small _ _ (parts tables terms l).high (rule_lawful_lem tables terms l r i))
+    lower_fits = rw h.lower (lower_small _ _ (parts tables terms l).high (rule_lawful_lem tables terms l r i))
 
     pub upper_fits : Small (bound_of z.b)
-    upper_fits = rw state_here.upper (upper_small _ _ (parts tables terms l).high (rule_lawful_lem tables terms l r i))
+    upper_fits = rw h.upper (upper_small _ _ (parts tables terms l).high (rule_lawful_lem tables terms l r i))
 
   pub rule_sized : {a c : ℕ} {s t : List ℕ} → a ≡ size_word (bound_of z.a) → c ≡ size_word (bound_of z.b) → SizesPut r (z.n + z.p) a c s t → RuleSized tables terms r s t
   rule_sized {a} {c} {s} {t} e f p = record {
     sizes = record {
-      total = p.total ∙ ap₂ ◌+◌ state_here.falses state_here.trues ∙ N_and_P b _;
-      lower = p.lower ∙ e ∙ ap size_word state_here.lower;
-      upper = p.upper ∙ f ∙ ap size_word state_here.upper;
+      total = p.total ∙ ap₂ ◌+◌ h.falses h.trues ∙ N_and_P b _;
+      lower = p.lower ∙ e ∙ ap size_word h.lower;
+      upper = p.upper ∙ f ∙ ap size_word h.upper;
     };
     only = p.only;
   }

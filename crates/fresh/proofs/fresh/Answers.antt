@@ -34,9 +34,6 @@ slice_bounds-lent-end c =
 pub invariant_of-lent : goal.invariant_of-lent
 invariant_of-lent c = record { bytes = (first_ready _ _ _ (record { laid = c.args.t.now.laid; bytes = c.requires.0 }) _ c.index-n.ensures).bytes }
 
-pub invariant_of-tallied : goal.invariant_of-tallied
-invariant_of-tallied c = record { room = c.requires.1; bytes = λ i. (c.type_inv.tallies i).fits }
-
 pub clauses_fresh-requires : goal.clauses_fresh-requires
 clauses_fresh-requires c =
     both_unused _ _ _ _ (record { laid = c.args.t.now.laid; bytes = c.requires.0 }) _ c.index-n.ensures _ _ c.index-rules.ensures c.index-clauses.ensures

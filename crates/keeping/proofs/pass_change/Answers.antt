@@ -3,5 +3,5 @@
 use Rattle.keeping.proofs.Turning.{beq_same, none_passed}
 use Rattle.keeping.proofs.pass_change.Goals as goal
 
-pub returns-then-held-holds : goal.returns-then-held-holds
-returns-then-held-holds c = none_passed _ (beq_same _ _ c.if-held-holds.true)
+pub returns-then-change : goal.returns-then-change
+returns-then-change c = none_passed _ (beq_same _ _ c.if-change.true)

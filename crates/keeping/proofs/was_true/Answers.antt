@@ -1,14 +1,18 @@
--- `was_true` meets its contract, by cases on the sign.
+-- `was_true` meets its contract, by cases on the sign and on the value.
 -- Assumes nothing.
-use mathlib.Core.Path.{refl}
-use borrow.Author.Tests.{eq-eqb, ne_eqb}
+use mathlib.Core.Path.{◌≡◌, refl}
+use mathlib.Core.Bool.{Bool, true, false, not, cond, beq}
+use lib.Dec.{eqb}
+use Prim.Native.Nat.{◌%◌}
 use Rattle.keeping.specs.Keeping.{was_true}
 use Rattle.keeping.proofs.was_true.Goals as goal
 
-pub returns-then-w-eq1 : goal.returns-then-w-eq1
-unfolding was_true
-returns-then-w-eq1 c = rw (eq-eqb _ 1 c.if-w-eq1.true) refl
+as_sign : (value odd : Bool) → beq value odd ≡ cond odd value (not value)
+as_sign true true = refl
+as_sign true false = refl
+as_sign false true = refl
+as_sign false false = refl
 
-pub returns-else-w-eq1 : goal.returns-else-w-eq1
+pub returns : goal.returns
 unfolding was_true
-returns-else-w-eq1 c = rw (ne_eqb _ 1 c.if-w-eq1.false) refl
+returns c = as_sign c.args.value (eqb (c.args.w % 2) 1)

@@ -10,10 +10,12 @@ use Rattle.words.specs.Words.{word_at}
 use Rattle.columns.specs.Layout.{list_at}
 use Rattle.listing.proofs.ends_with.Goals as goal
 
-pub returns-then-n-eq0 : goal.returns-then-n-eq0
+pub returns-else-n-gt0 : goal.returns-else-n-gt0
 unfolding ◌and◌
-returns-then-n-eq0 c = sym (ap (λ b. b and eqb (word_at c.args.marks.now (list_at (c.args.at + c.args.n - 1))) c.args.x) (le-ltb 0 c.args.n (omega (arith, c.if-n-eq0.true))))
+returns-else-n-gt0 c =
+    let none = le-ltb 0 c.args.n (omega (arith, c.if-n-gt0.false)) in
+    none ∙ sym (ap (λ b. b and eqb (word_at c.args.marks.now (list_at (c.args.at + c.args.n - 1))) c.args.x) none)
 
-pub returns : goal.returns
+pub returns-then-n-gt0 : goal.returns-then-n-gt0
 unfolding ◌and◌
-returns c = ap (λ w. eqb w c.args.x) c.index.ensures ∙ sym (ap (λ b. b and eqb (word_at c.args.marks.now (list_at (c.args.at + c.args.n - 1))) c.args.x) (lt-ltb 0 c.args.n (omega (arith, c.if-n-eq0.false))))
+returns-then-n-gt0 c = ap (λ w. eqb w c.args.x) c.index.ensures ∙ sym (ap (λ b. b and eqb (word_at c.args.marks.now (list_at (c.args.at + c.args.n - 1))) c.args.x) (lt-ltb 0 c.args.n (omega (arith, c.if-n-gt0.true))))

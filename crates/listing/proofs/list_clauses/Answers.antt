@@ -1,31 +1,15 @@
 -- The goals that the search leaves.
 use native.Mathlib.Omega.{arith}
-use mathlib.Core.Path.{◌∙◌}
 use Rattle.recount.proofs.Laid.{tables_long, variables_word}
-use Rattle.columns.proofs.Frames.{only_none, only_next}
+use Rattle.columns.proofs.Frames.{only_next}
 use Rattle.listing.proofs.Listing.{all_listed}
 use Rattle.listing.proofs.list_clauses.Goals as goal
-
-pub clear_counts-requires : goal.clear_counts-requires
-clear_counts-requires c = c.requires
 
 pub index-n-requires : goal.index-n-requires
 index-n-requires c = omega (arith, tables_long _ _ c.args.t.now.laid)
 
-pub loop-x-init : goal.loop-x-init
-loop-x-init c = (omega arith, omega arith, c.clear_counts.ensures.0, only_none _ _ _)
-
 pub invariant_of-variable : goal.invariant_of-variable
 invariant_of-variable c = record { low = c.loop-x.invariant.0; high = omega (arith, c.loop-x-test.true, c.index-n.ensures, variables_word _ _ c.args.t.now.laid) }
-
-pub list-requires : goal.list-requires
-list-requires c = c.loop-x.invariant.2
-
-pub loop-x-preserved : goal.loop-x-preserved
-loop-x-preserved c = (omega arith, omega (arith, c.loop-x-test.true), c.list.ensures.0, only_next c.loop-x.invariant.3 c.list.ensures.1)
-
-pub shape_of-marks : goal.shape_of-marks
-shape_of-marks c = c.loop-x.invariant.3.size ∙ c.clear_counts.ensures.1.size
 
 pub returns : goal.returns
 returns c = (all_listed c.args.t.now.laid c.index-n.ensures c.loop-x.invariant.1 c.loop-x-test.false c.loop-x.invariant.2, only_next c.clear_counts.ensures.1 c.loop-x.invariant.3)

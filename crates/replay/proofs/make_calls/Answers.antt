@@ -21,15 +21,6 @@ loop-k-preserved c =
       same_len_mid _ _ l.out _ c.write_answer.auto.out ∙ l.invariant.4,
     )
 
-pub shape_of-assignment : goal.shape_of-assignment
-shape_of-assignment c = c.loop-k.invariant.2
-
-pub shape_of-tallies : goal.shape_of-tallies
-shape_of-tallies c = c.loop-k.invariant.3
-
-pub shape_of-out : goal.shape_of-out
-shape_of-out c = c.loop-k.invariant.4
-
 pub returns : goal.returns
 returns c =
     let b = c.loop-k in

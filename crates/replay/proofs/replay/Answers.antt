@@ -15,7 +15,7 @@ returns-then-out-list c =
     let l : Lent = record { tables = c.args.tables.now; terms = c.args.terms.now; assignment = c.args.assignment.now; tallies = c.args.tallies.now } in
     let e = no_room l c.args.list.now c.args.out.now c.if-out-list.true in
     let k = refused_keeps l c.args.list.now c.args.out.now 21 e (λ z. omega arith) in
-    record { value = e; out_after = k.0; assignment_after = k.1; tallies_after = k.2 }
+    record { value = c.from.ensures ∙ e; out_after = k.0; assignment_after = k.1; tallies_after = k.2 }
 
 pub returns-then-refusal-ne0 : goal.returns-then-refusal-ne0
 returns-then-refusal-ne0 c =

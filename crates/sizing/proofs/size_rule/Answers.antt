@@ -1,17 +1,17 @@
 -- `size_rule` meets its contract: the rule's state has its sizes, and N and P together are K.
 -- Assumes nothing.
 use native.Mathlib.Omega.{arith}
-use Rattle.recount.proofs.Laid.{rules_few, rule_ready}
+use Rattle.recount.proofs.Laid.{rules_few}
 use Rattle.sizing.proofs.Sizing.{lower_fits, upper_fits, rule_sized}
 use Rattle.sizing.proofs.size_rule.Goals as goal
 
 pub size_word-requires : goal.size_word-requires
 size_word-requires c =
-    lower_fits c.args.lent.now.plan.tables.now c.args.lent.now.plan.terms.now c.args.r c.read_state-s.ensures c.args.lent.now.plan.laid c.requires.0
+    lower_fits c.args.lent.now.plan.tables.now c.args.lent.now.plan.terms.now c.args.r c.state-s.ensures c.args.lent.now.plan.laid c.requires.0
 
 pub size_word-requires-2 : goal.size_word-requires-2
 size_word-requires-2 c =
-    upper_fits c.args.lent.now.plan.tables.now c.args.lent.now.plan.terms.now c.args.r c.read_state-s.ensures c.args.lent.now.plan.laid c.requires.0
+    upper_fits c.args.lent.now.plan.tables.now c.args.lent.now.plan.terms.now c.args.r c.state-s.ensures c.args.lent.now.plan.laid c.requires.0
 
 pub put_sizes-requires : goal.put_sizes-requires
 put_sizes-requires c =
@@ -19,13 +19,4 @@ put_sizes-requires c =
 
 pub returns : goal.returns
 returns c =
-    rule_sized c.args.lent.now.plan.tables.now c.args.lent.now.plan.terms.now c.args.r c.read_state-s.ensures c.size_word.ensures c.size_word-2.ensures c.put_sizes.ensures
-
-pub overflow_mul-r : goal.overflow_mul-r
-overflow_mul-r c = omega (arith, c.requires.0, rules_few _ _ c.args.lent.now.plan.laid)
-
-pub overflow_add-r : goal.overflow_add-r
-overflow_add-r c = omega (arith, c.requires.0, rules_few _ _ c.args.lent.now.plan.laid)
-
-pub read_state-s-requires : goal.read_state-s-requires
-read_state-s-requires c = rule_ready _ _ _ (record { laid = c.args.lent.now.plan.laid; bytes = c.args.lent.now.bytes }) _ c.requires.0
+    rule_sized c.args.lent.now.plan.tables.now c.args.lent.now.plan.terms.now c.args.r c.state-s.ensures c.size_word.ensures c.size_word-2.ensures c.put_sizes.ensures

@@ -1,13 +1,12 @@
--- `size_word` meets its contract, by cases on the size: one that is there is small.
+-- `size_word` meets its contract, by cases on the size.
 -- Assumes nothing.
-use mathlib.Core.Path.{refl}
+use borrow.Author.Rules.{rules}
+use mathlib.Core.Path.{◌≡◌}
+use Rattle.counting.specs.Bound.{bound_of}
+use Rattle.counting.proofs.Bounds.{by_bound}
 use Rattle.columns.specs.Columns.{size_word}
 use Rattle.sizing.proofs.size_word.Goals as goal
 
-pub returns-in-None : goal.returns-in-None
+pub returns : goal.returns
 unfolding size_word
-returns-in-None c = rw c.in-None.is refl
-
-pub returns-in-Some : goal.returns-in-Some
-unfolding size_word
-returns-in-Some c = rw c.in-Some.is refl
+returns c = by_bound (λ b. c.map_or.result ≡ size_word (bound_of b)) c.args.size c.map_or.ensures (λ e. e) (λ k h. search rules)

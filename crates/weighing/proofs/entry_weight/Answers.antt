@@ -2,6 +2,10 @@
 -- Assumes nothing.
 use Prim.Native.Nat.{◌<◌}
 use native.Mathlib.Omega.{arith}
+use mathlib.Core.Path.{ap, ◌∙◌}
+use lib.IntN.{nat_abs}
+use mir.Facts.{to_z-of_z}
+use mir.Syntax.{w32}
 use Rattle.recount.proofs.Laid.{tables_long, rules_few}
 use Rattle.weighing.proofs.Weighing.{entries_few, rule_there, term_few, term_inside, weight_here}
 use Rattle.weighing.proofs.entry_weight.Goals.{After-rule_in}
@@ -38,4 +42,4 @@ pub word-requires : goal.word-requires
 word-requires c = omega (arith, term_inside c.args.t.now.laid c.requires c.word-w.ensures c.rule_in.ensures c.index.ensures c.term_in.ensures)
 
 pub returns : goal.returns
-returns c = weight_here c.args.t.now.laid c.requires c.word-w.ensures c.rule_in.ensures c.index.ensures c.term_in.ensures c.word.ensures c.size_in.ensures
+returns c = weight_here c.args.t.now.laid c.requires c.word-w.ensures c.rule_in.ensures c.index.ensures c.term_in.ensures c.word.ensures (c.magnitude.ensures ∙ ap nat_abs (to_z-of_z {w = w32} (record { sfits = c.to_signed.type_inv }) ∙ c.to_signed.ensures))

@@ -9,7 +9,7 @@ use Rattle.order.specs.Order.{term_count}
 use Rattle.format.specs.Tables.{plan_of_tables}
 use Rattle.recount.specs.Core.{Laid}
 use Rattle.recount.proofs.Laid.{tables_long, sections}
-use Rattle.weighing.proofs.Weighing.{weighed_none, weighed_next, weighed_all, entries_few}
+use Rattle.weighing.proofs.Weighing.{weighed_next, weighed_all, entries_few}
 use Rattle.weighing.proofs.weigh.Goals as goal
 
 -- An entry below the count is one of the order's.
@@ -18,9 +18,6 @@ next y h e = omega (arith, h, e, (sections _ _ y).terms)
 
 pub index-count-requires : goal.index-count-requires
 index-count-requires c = omega (arith, tables_long _ _ c.args.t.now.laid)
-
-pub loop-k-init : goal.loop-k-init
-loop-k-init c = (omega arith, weighed_none _ _)
 
 pub overflow_add-k : goal.overflow_add-k
 overflow_add-k c = omega (arith, entries_few c.args.t.now.laid (next c.args.t.now.laid c.loop-k-test.true c.index-count.ensures))
@@ -33,9 +30,6 @@ write_word-requires c = omega (arith, entries_few c.args.t.now.laid (next c.args
 
 pub loop-k-preserved : goal.loop-k-preserved
 loop-k-preserved c = (omega (arith, c.loop-k-test.true), weighed_next c.requires (entries_few c.args.t.now.laid (next c.args.t.now.laid c.loop-k-test.true c.index-count.ensures)) (search rules) c.entry_weight.ensures c.loop-k.invariant.1 c.write_word.ensures)
-
-pub shape_of-marks : goal.shape_of-marks
-shape_of-marks c = c.loop-k.invariant.1.only.size
 
 pub returns : goal.returns
 returns c = weighed_all c.args.t.now.laid c.requires c.index-count.ensures c.loop-k-test.false c.loop-k.invariant.1

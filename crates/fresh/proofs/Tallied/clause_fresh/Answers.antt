@@ -1,10 +1,8 @@
 -- The goals that the search leaves.
 use native.Mathlib.Omega.{arith}
-use mathlib.Core.Path.{refl}
 use Rattle.recount.proofs.Laid.{run_readable, rules_inside, rules_few, clauses_few}
 use Rattle.recount.proofs.Recounting.{rules_start}
-use Rattle.words.proofs.Tests.{not_decides}
-use Rattle.fresh.proofs.Testing.{check_step, check_stop, check_end}
+use Rattle.fresh.proofs.Testing.{check_step, check_end}
 use Rattle.fresh.proofs.Tallied.clause_fresh.Goals as goal
 
 pub rules_of-rules-requires : goal.rules_of-rules-requires
@@ -16,10 +14,6 @@ loop-r-init c = rules_start _ _ _ _ _ _ _ c.rules_of-rules.ensures.0 c.rules_of-
 pub check_rule-requires : goal.check_rule-requires
 check_rule-requires c =
     omega (arith, c.loop-r-test.true, c.loop-r.invariant.ends, rules_inside _ _ c.args.self.now.lent.plan.laid _ c.requires)
-
-pub returns-in_default : goal.returns-in_default
-returns-in_default c =
-    not_decides refl (check_stop _ _ _ _ _ _ _ _ c.loop-r.invariant _ c.loop-r-test.true c.check_rule.ensures c.in_default.is)
 
 pub overflow_add-holding : goal.overflow_add-holding
 overflow_add-holding c =

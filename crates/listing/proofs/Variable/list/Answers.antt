@@ -17,6 +17,3 @@ returns-then-index-gt0 c = let v = c.args.self.now in (locked_listed v.plan.laid
 
 pub list_run-requires : goal.list_run-requires
 list_run-requires c = let v = c.args.self.now in (is_free v.plan.laid v.low v.high c.index.ensures c.if-index-gt0.false, c.requires)
-
-pub returns : goal.returns
-returns c = c.list_run.ensures

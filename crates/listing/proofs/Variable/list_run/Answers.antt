@@ -5,7 +5,7 @@ use mathlib.Core.Path.{◌≡◌}
 use Rattle.words.specs.Words.{word_at}
 use Rattle.format.specs.Layout.{end_at}
 use Rattle.recount.proofs.Laid.{tables_long}
-use Rattle.columns.proofs.Frames.{only_none, only_next}
+use Rattle.columns.proofs.Frames.{only_none}
 use Rattle.listing.proofs.Listing.{variables_few, run_begins, run_listed, list_at_end}
 use Rattle.listing.proofs.Variable.list_run.Goals as goal
 
@@ -27,20 +27,8 @@ overflow_add-self c = omega (arith, c.args.self.now.high, variables_few c.args.s
 pub index-end-requires : goal.index-end-requires
 index-end-requires c = omega (arith, c.args.self.now.high, variables_few c.args.self.now.plan.laid, tables_long _ _ c.args.self.now.plan.laid)
 
-pub overflow_sub-self : goal.overflow_sub-self
-overflow_sub-self c = omega (arith, c.args.self.now.low)
-
 pub overflow_add-self-2 : goal.overflow_add-self-2
 overflow_add-self-2 c = omega (arith, c.args.self.now.high, variables_few c.args.self.now.plan.laid)
 
 pub index-k-requires : goal.index-k-requires
 index-k-requires c = omega (arith, c.args.self.now.high, variables_few c.args.self.now.plan.laid, tables_long _ _ c.args.self.now.plan.laid)
-
-pub list_entry-requires : goal.list_entry-requires
-list_entry-requires c = let i = c.loop-k.invariant in (c.requires.0, i.0, omega (arith, c.loop-k-test.true, c.index-end.ensures), i.2)
-
-pub loop-k-preserved : goal.loop-k-preserved
-loop-k-preserved c = let i = c.loop-k.invariant in (omega (arith, i.0), omega (arith, c.loop-k-test.true), c.list_entry.ensures.0, only_next i.3 c.list_entry.ensures.1)
-
-pub shape_of-marks : goal.shape_of-marks
-shape_of-marks c = c.loop-k.invariant.3.size

@@ -1,9 +1,6 @@
 -- `open_core` meets its contract: cleared tallies have 0 in unused entries, and the recount does the rest.
 -- Assumes nothing.
 use native.Mathlib.Omega.{arith}
-use mathlib.Core.Path.{sym}
-use lib.Seq.{length-take-le}
-use Rattle.tallies.specs.Layout.{tally_size}
 use Rattle.recount.proofs.Laid.{tables_long}
 use Rattle.recount.proofs.Cores.{first_length, first_ready, first_counted, cleared_room, cleared_unused, cleared_beyond}
 use Rattle.recount.proofs.open.open_core.Goals as goal
@@ -11,16 +8,15 @@ use Rattle.recount.proofs.open.open_core.Goals as goal
 pub index-n-requires : goal.index-n-requires
 index-n-requires c = omega (arith, tables_long _ _ c.args.t.now.laid)
 
-pub slice_bounds-clear-end-2 : goal.slice_bounds-clear-end-2
-slice_bounds-clear-end-2 c = sym (length-take-le tally_size c.args.tallies.now c.requires.1)
-
-pub slice_bounds-recount-end : goal.slice_bounds-recount-end
-slice_bounds-recount-end c =
+pub slice_bounds-lent-end : goal.slice_bounds-lent-end
+slice_bounds-lent-end c =
     first_length _ _ _ (record { laid = c.args.t.now.laid; bytes = c.requires.0 }) _ c.index-n.ensures
+
+pub invariant_of-lent : goal.invariant_of-lent
+invariant_of-lent c = record { bytes = (first_ready _ _ _ (record { laid = c.args.t.now.laid; bytes = c.requires.0 }) _ c.index-n.ensures).bytes }
 
 pub recount-requires : goal.recount-requires
 recount-requires c = (
-  (first_ready _ _ _ (record { laid = c.args.t.now.laid; bytes = c.requires.0 }) _ c.index-n.ensures).bytes,
   cleared_room c.args.tallies.now _ c.requires.1 c.clear.ensures,
   cleared_unused c.args.tallies.now _ c.requires.1 c.clear.ensures _,
 )

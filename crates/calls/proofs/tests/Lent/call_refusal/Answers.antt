@@ -7,6 +7,7 @@ use Rattle.tallies.proofs.Refusals.{opens, tallies_room}
 use Rattle.recount.proofs.Callers.{opens_ready}
 use Rattle.calls.proofs.Opening.{passed_on, some_number}
 use Rattle.calls.proofs.Accepting.{loaded_tables, call_first, call_25, call_zero, call_high, call_none}
+use Rattle.calls.proofs.tests.Lent.call_refusal.Goals.{then-x-eq0-via-then-x-eq0, then-x-eq0-via-else-x-eq0+then-word-x}
 use Rattle.calls.proofs.tests.Lent.call_refusal.Goals as goal
 
 pub returns-in_err-open_refusal : goal.returns-in_err-open_refusal
@@ -28,18 +29,16 @@ returns-then-not-fresh c =
 pub returns-then-x-eq0 : goal.returns-then-x-eq0
 unfolding fresh_bytes plan
 returns-then-x-eq0 c =
-    call_zero _ _ (sym c.in_ok-open_refusal.ensures) (sym c.fresh.ensures ∙ not-false _ c.if-not-fresh.false-raw)
-    c.if-x-eq0.true
+    let opened = sym c.in_ok-open_refusal.ensures in
+    let same = sym c.fresh.ensures ∙ not-false _ c.if-not-fresh.false-raw in
+    elim c.then-x-eq0.branch [
+      | then-x-eq0-via-then-x-eq0 w ↦ call_zero _ _ opened same w.if-x-eq0.true
+      | then-x-eq0-via-else-x-eq0+then-word-x w ↦ call_high _ _ opened same w.if-x-eq0.false (omega (arith, w.word.ensures, w.if-word-x.true))
+    ]
 
 pub word-requires : goal.word-requires
 word-requires c =
     omega (arith, loaded_tables _ (opens _ (sym c.in_ok-open_refusal.ensures)))
-
-pub returns-then-word-x : goal.returns-then-word-x
-unfolding fresh_bytes plan
-returns-then-word-x c =
-    call_high _ _ (sym c.in_ok-open_refusal.ensures) (sym c.fresh.ensures ∙ not-false _ c.if-not-fresh.false-raw)
-    c.if-x-eq0.false (omega (arith, c.word.ensures))
 
 pub returns : goal.returns
 unfolding fresh_bytes plan

@@ -11,11 +11,6 @@ returns-in_err-call_refusal c =
     let q = c.in_err-call_refusal.field-0.0 in
     passed_on _ q c.from_residual.ensures.1 (flip_first _ _ _ c.in_err-call_refusal.ensures (some_number q))
 
-pub overflow_add-x : goal.overflow_add-x
-overflow_add-x c =
-    let z = sym c.in_ok-call_refusal.ensures in
-    omega (arith, few_variables _ _ z)
-
 pub word-requires : goal.word-requires
 word-requires c =
     let z = sym c.in_ok-call_refusal.ensures in

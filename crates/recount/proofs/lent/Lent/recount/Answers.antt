@@ -1,7 +1,8 @@
 -- The goals that the search leaves.
+use borrow.Author.Rules.{rules}
 use native.Mathlib.Omega.{arith}
-use mathlib.Core.Path.{◌∙◌}
 use Rattle.recount.proofs.Laid.{tables_long, clauses_few}
+use Rattle.recount.proofs.Keeping.{tally_wrote}
 use Rattle.recount.proofs.Recounting.{clauses_start, clauses_step, clauses_end}
 use Rattle.recount.proofs.lent.Lent.recount.Goals as goal
 
@@ -11,10 +12,6 @@ index-clauses-requires c =
 
 pub loop-c-init : goal.loop-c-init
 loop-c-init c = clauses_start _ _ _ c.args.self.now.plan.laid _
-
-pub recount_clause-requires : goal.recount_clause-requires
-recount_clause-requires c =
-    (omega (arith, c.requires.0, c.loop-c.invariant.kept.size), omega (arith, c.loop-c-test.true, c.index-clauses.ensures))
 
 pub overflow_add-c : goal.overflow_add-c
 overflow_add-c c =
@@ -35,15 +32,9 @@ loop-c-preserved c =
     (omega (arith, c.loop-c-test.true, c.index-clauses.ensures))
     c.recount_clause.ensures c.word.ensures c.bit-unsatisfied.ensures.0
 
-pub put-requires : goal.put-requires
-put-requires c =
-    (omega arith, omega (arith, c.requires.0, c.loop-c.invariant.kept.size))
-
-pub shape_of-tallies : goal.shape_of-tallies
-shape_of-tallies c = c.put.ensures.size ∙ c.loop-c.invariant.kept.size
-
 pub returns : goal.returns
 returns c =
+    let w = tally_wrote _ c.loop-c.unsatisfied _ _ (omega arith) (search rules) (omega (arith, c.requires.0, c.loop-c.invariant.kept.size)) c.write_word.ensures in
     clauses_end _ _ _ c.args.self.now.plan.laid _ _ _ _ c.loop-c.invariant _ (λ i. omega (arith, c.slice_known-2-1.given i)) c.requires.0 c.requires.1
     (omega (arith, c.loop-c-test.false, c.index-clauses.ensures))
-    c.put.ensures
+    w

@@ -1,7 +1,8 @@
 -- The goals that the search leaves.
+use borrow.Author.Rules.{rules}
 use native.Mathlib.Omega.{arith}
-use mathlib.Core.Path.{◌∙◌}
 use Rattle.recount.proofs.Laid.{run_readable, rules_inside, rules_few, clauses_few}
+use Rattle.recount.proofs.Keeping.{tally_wrote}
 use Rattle.recount.proofs.Recounting.{rules_start, rules_step, rules_end}
 use Rattle.recount.proofs.lent.Lent.recount_clause.Goals as goal
 
@@ -32,14 +33,13 @@ pub overflow_add-c : goal.overflow_add-c
 overflow_add-c c =
     omega (arith, clauses_few _ _ c.args.self.now.plan.laid)
 
-pub put-requires : goal.put-requires
-put-requires c =
-    let d = c.loop-r.invariant in
-    (omega (arith, clauses_few _ _ c.args.self.now.plan.laid), omega (arith, c.requires.0, d.kept.size))
-
-pub shape_of-tallies : goal.shape_of-tallies
-shape_of-tallies c = c.put.ensures.size ∙ c.loop-r.invariant.kept.size
+pub write_word-requires : goal.write_word-requires
+write_word-requires c =
+    omega (arith, clauses_few _ _ c.args.self.now.plan.laid, c.requires.0, c.requires.1, c.loop-r.invariant.kept.size)
 
 pub returns : goal.returns
 returns c =
-    rules_end _ _ _ _ _ _ _ _ _ c.loop-r.invariant c.args.self.now.plan.laid c.requires.1 _ c.loop-r-test.false c.put.ensures
+    let d = c.loop-r.invariant in
+    let few = clauses_few _ _ c.args.self.now.plan.laid in
+    let w = tally_wrote _ c.loop-r.holding _ _ (omega (arith, few, c.requires.1)) (search rules) (omega (arith, c.requires.0, d.kept.size)) c.write_word.ensures in
+    rules_end _ _ _ _ _ _ _ _ _ d c.args.self.now.plan.laid c.requires.1 _ c.loop-r-test.false w
