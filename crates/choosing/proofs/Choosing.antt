@@ -11,8 +11,7 @@ use Rattle.plpb.specs.Choice.{skc_choice, novelty_choice, choice_by}
 use Rattle.settings.specs.Settings.{heuristic_of}
 use Rattle.std.specs.Prelude.{Result}
 use Rattle.numbers.specs.declared.Short.{Short}
-use Rattle.picking.specs.declared.Chosen.{Chosen}
-use Rattle.picking.specs.Outcome.{Chooses}
+use Rattle.picking.specs.Outcome.{Chosen, Chooses}
 
 module _ (s : Settings) (p : Plan) (t : Try) (last : ℕ → ℕ) (xs : List ℕ) {ns : List ℕ} {used n : ℕ} (h : ℕ) {r : Result Chosen Short} where
   pub set_skc : h ≡ 0 → Chooses (skc_choice s p t xs) ns used n r → Chooses (choice_by (heuristic_of h) s p t last xs) ns used n r

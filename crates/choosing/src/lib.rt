@@ -14,10 +14,13 @@ use effects::Footing;
 use novelty::choose_novelty;
 use numbers::Short;
 use picking::Chosen;
+use picks::Choice;
 use settings::Settings;
 use skc::choose;
 
-// Of the marks only hints and picks change. The heuristic stays the number that the C interface takes.
+// Of the marks only hints and picks change. The heuristic stays the number that the C interface takes. The number is asked here alone and at once: an enum of
+// the two would be made of it by a match, only to be matched again. The clause comes as a number, which the walk has picked: here it becomes the struct that
+// each choice takes. The numbers and how many of them are used come as two, as in `numbers`.
 pub fn choose_in(
     footing: &Footing<'_>,
     marks: &mut [u8],
@@ -32,8 +35,12 @@ pub fn choose_in(
         (of_clause footing.now c)) (numbers_of numbers.now) used (plan_on footing.now).variables result
         × Noted marks.old marks.new }
 {
+    let choice = Choice {
+        footing: *footing,
+        clause: c,
+    };
     if s.heuristic == 0 {
-        return choose(footing, marks, c, numbers, used, s);
+        return choose(&choice, marks, numbers, used, s);
     }
-    choose_novelty(footing, marks, c, numbers, used, s)
+    choose_novelty(&choice, marks, numbers, used, s)
 }

@@ -1,1 +1,2 @@
--- Nothing of its own.
+-- Idle places one behind the other.
+mod Idle

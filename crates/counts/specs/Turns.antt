@@ -1,6 +1,6 @@
 -- What a flip spoils and mends of the clause of one group.
 -- Assumes nothing.
-use Rattle.std.specs.Prelude.{ℕ, ◌+◌, ◌≡◌}
+use Rattle.std.specs.Prelude.{ℕ, ◌+◌, ◌≤◌, ◌<◌, ◌≡◌}
 use Rattle.plpb.specs.Plan.{Clause, Assignment}
 use Rattle.plpb.specs.Count.{capped}
 use Rattle.plpb.specs.Equations.{clause_break, clause_make}
@@ -8,7 +8,8 @@ use Rattle.counting.specs.Count.{number}
 use Rattle.effects.specs.declared.run.Run.{Run}
 use Rattle.effects.specs.Run.{bits, clause}
 use Rattle.groups.specs.Run.{end_of_group}
-use Rattle.counts.specs.declared.Turn.{Turn}
+use Rattle.exact.specs.declared.Counts.{Counts}
+use Rattle.spoiling.specs.declared.Step.{Step}
 
 -- The flip neither spoils nor mends anything of the clause.
 pub record Idle (a : Assignment) (x : ℕ) (k : Clause) : Type 0 where
@@ -20,7 +21,12 @@ pub record IdleAt (q : Run) (k : ℕ) : Type 0 where
   pub alone : end_of_group q k ≡ k + 1
   pub idle : Idle (bits q) q.x (clause q k)
 
-pub record TurnAt (q : Run) (k : ℕ) (r : Turn) : Type 0 where
-  pub breaks : number r.breaks ≡ capped (clause_break (bits q) q.x (clause q k))
-  pub makes : number r.makes ≡ capped (clause_make (bits q) q.x (clause q k))
+-- The places from k on, below j, are such.
+pub record IdleUpTo (q : Run) (k j : ℕ) : Type 0 where
+  pub least : k ≤ j
+  pub idle : (i : ℕ) → k ≤ i → i < j → IdleAt q i
+
+pub record TurnAt (q : Run) (k : ℕ) (r : Step Counts) : Type 0 where
+  pub breaks : number r.count.breaks ≡ capped (clause_break (bits q) q.x (clause q k))
+  pub makes : number r.count.makes ≡ capped (clause_make (bits q) q.x (clause q k))
   pub ends : r.next ≡ end_of_group q k

@@ -110,7 +110,7 @@ module _ {tables terms assignment tallies marks : List ℕ} {x k : ℕ} (v : Vis
   lit = literal_true a (literal t)
 
   -- The side,
-  pub place_side : {o y : ℕ} → o ≡ word_at tables (entry_at k) → y ≡ get_or assignment (x - 1) 0 → 2 * (o % 4_096 / 2) + (o % 2 + y) % 2 ≡ 2 * (place_at tables terms k).rule + cond (literal_true (lent_bits tables terms assignment) (literal (term_at (plan_of_tables tables terms) (place_at tables terms k)))) 1 0
+  pub place_side : {o y : ℕ} → o ≡ word_at tables (entry_at k) → y ≡ get_or assignment (x - 1) 0 → 2 * (word_place o).rule + (o % 2 + y) % 2 ≡ 2 * (place_at tables terms k).rule + cond (literal_true (lent_bits tables terms assignment) (literal (term_at (plan_of_tables tables terms) (place_at tables terms k)))) 1 0
   unfolding place_word literal_true literal
   place_side {o} {y} e f =
       let byte : y ≡ cond (value a x) 1 0 = f ∙ byte_value p.variables assignment x v.going.low v.going.high (going_byte v.going) w.bits in

@@ -2,16 +2,19 @@
 -- Assumes nothing.
 use Prim.Native.Nat.{ℕ, zero, suc, ◌+◌, ◌*◌, ◌-◌, ◌/◌, ◌%◌, ◌<◌}
 use native.Mathlib.Omega.{arith}
-use mathlib.Core.Path.{◌≡◌, refl, ap, ap₂}
+use mathlib.Core.Path.{◌≡◌, refl, ap, ap₂, ◌∙◌}
 use mathlib.Core.Bool.{Bool, true, false, not, cond}
-use lib.Dec.{leb}
+use lib.Dec.{leb, eqb}
 use borrow.Author.Tests.{le-leb, lt-leb, lt-ltb, eq-eqb, ne_eqb, leb-true, leb-false}
+use Rattle.std.specs.Bool.{then_some}
+use Rattle.std.specs.Prelude.{Option}
 use Rattle.plpb.specs.Lists.{◌and◌}
 use Rattle.plpb.specs.Plan.{Bound, absent, present}
 use Rattle.plpb.specs.Equations.{on, off}
 use Rattle.order.specs.Order.{Place, spelled, word_place}
 use Rattle.order.proofs.Words.{Small, place_back}
 use Rattle.order.proofs.Groups.{reaches}
+use Rattle.counting.specs.Bound.{bound_of}
 use Rattle.columns.specs.Columns.{never, size_word, need}
 use Rattle.effects.specs.Kept.{size_in, stands_on}
 
@@ -24,8 +27,7 @@ module _ (q : Place) (s : Small q) where
   several_word false true = lt-leb 2_147_483_648 (0 + 4_194_304 * q.term + 4_096 * q.clause + 2 * q.rule + 1) (omega (arith, s.clause, s.rule, s.term))
   several_word false false = lt-leb 2_147_483_648 (0 + 4_194_304 * q.term + 4_096 * q.clause + 2 * q.rule + 0) (omega (arith, s.clause, s.rule, s.term))
 
-  rule_word : (b n : Bool) → spelled b q n % 4_096 / 2 ≡ q.rule
-  unfolding word_place
+  rule_word : (b n : Bool) → (word_place (spelled b q n)).rule ≡ q.rule
   rule_word b n = ap (λ u. u.rule) (place_back b q n s)
 
   -- Sign and value differ where the literal is true.
@@ -41,7 +43,7 @@ module _ (q : Place) (s : Small q) where
   parity false false false = omega arith
 
   -- The side that it is on, with the variable's byte.
-  pub side_word : (b n v : Bool) → 2 * (spelled b q n % 4_096 / 2) + (spelled b q n % 2 + cond v 1 0) % 2 ≡ 2 * q.rule + cond (cond n (not v) v) 1 0
+  pub side_word : (b n v : Bool) → 2 * (word_place (spelled b q n)).rule + (spelled b q n % 2 + cond v 1 0) % 2 ≡ 2 * q.rule + cond (cond n (not v) v) 1 0
   side_word b n v = ap₂ (λ r m. 2 * r + m) (rule_word b n) (parity b n v)
 
 -- ---- a side
@@ -77,3 +79,11 @@ need_reaches (present (suc k)) m w h l = rw (lt-ltb 0 (suc k) (omega arith), lt-
     at : (t : Bool) → leb (suc k) (m + w) ≡ t → leb (suc k - m) w ≡ t
     at true e = le-leb (suc k - m) w (omega (arith, leb-true (suc k) (m + w) e))
     at false e = lt-leb (suc k - m) w (omega (arith, leb-false (suc k) (m + w) e))
+
+pub size_read : (w : ℕ) {r : Option ℕ} → r ≡ then_some (not (eqb w never)) w → bound_of r ≡ size_in w
+unfolding size_in
+size_read w e = ap bound_of e ∙ by (eqb w never)
+  where
+    by : (b : Bool) → bound_of (then_some (not b) w) ≡ cond b absent (present w)
+    by true = refl
+    by false = refl

@@ -11,6 +11,7 @@ ghost use Rattle.effects.specs.Kept.{lent_bits};
 use recount::tables::Tables;
 
 // The tallies are those of the assignment, and the columns beside them those of the plan. The marks are not among them, since a choice writes to them.
+// Tables and terms are no `Tables` in it: `Tables` has `laid`, which `ready` says already, and with it the fact would stand twice.
 #[derive(Clone, Copy)]
 pub struct Footing<'a> {
     pub tables: &'a [u8],

@@ -21,22 +21,17 @@ ghost use Rattle.effects.specs.Run.{plan, bits, Inside, place, rule, clause};
 use columns::{LOWER_SIZES, NEEDS, NEVER, TOTALS, UPPER_SIZES, WEIGHTS};
 pub use footing::Footing;
 use format::ORDER;
-use places::clause_in;
+use places::{SEVERAL, clause_in, rule_in};
 use rules::place::Stands;
 use rules::state::State;
 pub use run::Run;
-use words::{index, word};
+use words::word;
 
-const SEVERAL: u32 = 2147483648; // the words of places in clauses of more than one rule begin here
-
-// The size that a word tells: NEVER, 2^32 - 1, is none. It is an `if`, since no law of the library tells what `then_some` gives.
+// The size that a word tells: NEVER, 2^32 - 1, is none.
 fn size_in(w: u32) -> Option<u64>
     ensures { bound_of result ≡ size_in w }
 {
-    if w == NEVER {
-        return None;
-    }
-    Some(u64::from(w))
+    (w != NEVER).then_some(u64::from(w))
 }
 
 // The state of rule r by its words: K, A, B and P.
@@ -62,6 +57,8 @@ fn stands_on(side: usize, weight: u32) -> Stands
     }
 }
 
+// Which place is asked is a number beside the run: the loops step it, and `run.spoils_at(k)` says in one call what a struct of both, built anew at each step,
+// would say in two.
 impl Run<'_, '_> {
     // The side of a rule that place k is on: 2r + 1 for a true literal of rule r, 2r for a false one. The word's lowest bit is the sign.
     fn side_at(&self, k: usize) -> usize
@@ -69,9 +66,9 @@ impl Run<'_, '_> {
         ensures { result
             ≡ 2 * (place self.now k).rule + cond (literal_true (bits self.now) (literal (term_at (plan self.now) (place self.now k)))) 1 0 }
     {
-        let o = index(self.footing.tables, ORDER + k);
-        let v = usize::from(self.footing.assignment[self.x - 1]);
-        2 * (o % 4096 / 2) + (o % 2 + v) % 2
+        let o = word(self.footing.tables, ORDER + k);
+        let v = u32::from(self.footing.assignment[self.x - 1]);
+        2 * rule_in(o) + ((o % 2 + v) % 2) as usize
     }
 
     // Whether the flip spoils a part of the rule at place k: its side needs no more than the term weighs.
@@ -82,7 +79,7 @@ impl Run<'_, '_> {
         word(self.footing.tallies, NEEDS + self.side_at(k)) <= word(self.marks, WEIGHTS + k)
     }
 
-    // The state of that rule, seen from the variable,
+    // The state of the rule at place k, seen from the variable.
     pub fn state_at(&self, k: usize) -> State
         requires { Inside self.now k }
         ensures { StateOf (bits self.now) self.now.x (rule self.now k) result }
@@ -95,7 +92,7 @@ impl Run<'_, '_> {
         )
     }
 
-    // whether it holds,
+    // Whether the rule at place k holds.
     pub fn holds_at(&self, k: usize) -> bool
         requires { Inside self.now k }
         ensures { result ≡ rule_holds (bits self.now) (rule self.now k) }
@@ -103,7 +100,7 @@ impl Run<'_, '_> {
         self.state_at(k).holds()
     }
 
-    // and whether some part of it is false after the flip, so that it does not hold then.
+    // Whether some part of the rule at place k is false after the flip, so that it does not hold then.
     pub fn fails_at(&self, k: usize) -> bool
         requires { Inside self.now k }
         ensures { result ≡ false_after (bits self.now) self.now.x (rule self.now k) }
@@ -112,7 +109,7 @@ impl Run<'_, '_> {
         !after.holds()
     }
 
-    // The clause of place k,
+    // The clause of place k.
     pub fn clause_at(&self, k: usize) -> usize
         requires { Inside self.now k }
         ensures { result ≡ (place self.now k).clause }
@@ -120,7 +117,7 @@ impl Run<'_, '_> {
         clause_in(word(self.footing.tables, ORDER + k))
     }
 
-    // and whether it has several rules.
+    // Whether the clause of place k has several rules. The words of places in such clauses are those from `SEVERAL` on.
     pub fn has_several(&self, k: usize) -> bool
         requires { Inside self.now k }
         ensures { result ≡ has_several (clause self.now k) }

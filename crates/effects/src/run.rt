@@ -12,6 +12,7 @@ use format::ENDS;
 use words::index;
 
 // The run of a variable: the places of the order from the first on, below the end. The marks have the weights of its terms.
+// First and end are two numbers: a `Range` is not `Copy`, so that each chain over the places would clone it.
 #[derive(Clone, Copy)]
 pub struct Run<'a, 'b> {
     pub footing: Footing<'a>,

@@ -3,17 +3,19 @@
 use Prim.Native.Nat.{ℕ, zero, suc, ◌+◌, ◌-◌, ◌≤◌, ◌<◌}
 use native.Mathlib.Omega.{arith}
 use mathlib.Core.Path.{◌≡◌, refl, sym, ap, ◌∙◌}
-use mathlib.Core.Bool.{Bool, true, false, not, cond}
+use mathlib.Core.Bool.{Bool, true, false, not, cond, ◌&&◌}
 use mathlib.Core.List.{List, [], ◌∷◌}
-use lib.Dec.{ltb, eqb}
+use lib.Dec.{leb, ltb, eqb}
 use lib.ListN.{length, get_or}
-use borrow.Author.Tests.{ltb-false}
+use borrow.Author.Rules.{rules}
+use borrow.Author.Tests.{ltb-true, ltb-false, leb-true, tests}
+use Rattle.std.specs.Ordering.{is_le, is_lt, nat_cmp}
 use Rattle.std.specs.Prelude.{Some, None}
 use Rattle.plpb.specs.Lists.{◌or◌, keep, any}
 use Rattle.plpb.specs.Plan.{Rule, Clause, Plan, Assignment, named_in}
 use Rattle.plpb.specs.Equations.{clause_break}
 use Rattle.plpb.specs.Count.{capped, capped_break}
-use Rattle.plpb.proofs.Lists.{true_or, or_true}
+use Rattle.plpb.proofs.Lists.{true_or, or_true, false_T}
 use Rattle.plpb.proofs.Capped.{capped_zero}
 use Rattle.words.specs.Words.{word_at}
 use Rattle.words.specs.Writes.{Wrote}
@@ -111,3 +113,20 @@ unbroken n h = let z : n ≡ 0 = omega (arith, ltb-false 0 n h) in rw (z, capped
 
 pub wrote_there : {i v : ℕ} {s t : List ℕ} → Wrote i v s t → Wrote i (word_at t i) s t
 wrote_there w = record { here = refl; others = w.others; size = w.size; before = w.before; beyond = w.beyond }
+
+-- ---- a place that a range contains
+
+le_test : (a b : ℕ) → is_le (nat_cmp a b) ≡ leb a b
+le_test a b = search (rules, tests)
+
+lt_test : (a b : ℕ) → is_lt (nat_cmp a b) ≡ ltb a b
+lt_test a b = search (rules, tests)
+
+both_true : (a b : Bool) → (a && b) ≡ true → (a ≡ true) × (b ≡ true)
+both_true true b e = (refl, e)
+both_true false b e = absurd (false_T (sym e) tt)
+
+pub within : {b : Bool} (m n k : ℕ) → b ≡ (is_le (nat_cmp m k) && is_lt (nat_cmp k n)) → b ≡ true → (m ≤ k) × (k < n)
+within m n k e t =
+    let h = both_true (is_le (nat_cmp m k)) (is_lt (nat_cmp k n)) (sym e ∙ t) in
+    (leb-true m k (sym (le_test m k) ∙ h.0), ltb-true k n (sym (lt_test k n) ∙ h.1))

@@ -36,7 +36,7 @@ fn passed(run: &Run<'_, '_>, k: usize) -> Option<usize>
     Some(group.end)
 }
 
-// The first place of the run whose group breaks its clause.
+// The first place of the run whose group breaks its clause. The place goes from group to group, as far as each is long, so that no `for` counts it.
 fn next_break(run: &Run<'_, '_>) -> Option<usize>
     ensures inside { IfSome result (λ k. k < run.now.end) }
     ensures found { is_some result ≡ not (eqb (capped_break (plan run.now) (bits run.now) run.now.x) 0) }
@@ -56,19 +56,11 @@ fn hint_breaks(run: &Run<'_, '_>) -> bool
     ensures { result ≡ true → eqb (capped_break (plan run.now) (bits run.now) run.now.x) 0 ≡ false }
 {
     let k = index(run.marks, HINTS + run.x);
-    if k < run.first {
-        return false;
-    }
-    if run.end <= k {
-        return false;
-    }
-    if run.has_several(k) {
-        return false;
-    }
-    run.spoils_at(k)
+    (run.first..run.end).contains(&k) && !run.has_several(k) && run.spoils_at(k)
 }
 
-// Whether the flip of x breaks nothing. Of the marks only the variable's hint may change.
+// Whether the flip of x breaks nothing. Of the marks only the variable's hint may change. What is handed in is no `Run`: a run lends the marks to be read, and
+// the hint is written behind it.
 pub fn is_free(footing: &Footing<'_>, marks: &mut [u8], x: usize) -> bool
     requires { HasRun footing.now marks.old x }
     ensures { (result ≡ eqb (capped_break (plan_on footing.now) (bits_on footing.now) x) 0)

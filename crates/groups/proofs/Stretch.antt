@@ -3,13 +3,16 @@
 use Prim.Native.Nat.{ℕ, zero, suc, ◌+◌, ◌-◌, ◌≤◌, ◌<◌}
 use native.Mathlib.Omega.{arith}
 use mathlib.Core.Path.{◌≡◌, refl, sym, ap, ap₂, ◌∙◌}
-use mathlib.Core.Bool.{Bool, true, false, cond}
+use mathlib.Core.Bool.{Bool, true, false, cond, not}
+use mathlib.Core.Logic.{⊎_elim}
 use mathlib.Core.List.{List, [], ◌∷◌, map}
 use lib.Dec.{T, ltb, eqb}
 use lib.ListN.{length, get_or, length-map}
 use borrow.Author.Tests.{eq-eqb, ne_eqb}
-use Rattle.std.specs.Prelude.{◌&&◌, ◌||◌}
-use Rattle.std.specs.List.{filter, list_any, list_all, range_with_len}
+use Rattle.std.specs.Prelude.{◌&&◌, ◌||◌, Option, Some}
+use Rattle.std.specs.List.{filter, find, list_any, list_all, range_with_len}
+use Rattle.std.specs.Option.{unwrap_or}
+use Rattle.std.proofs.lemmas.Bool.{cases_eq}
 use Rattle.plpb.specs.Lists.{◌and◌, ◌or◌, keep, any, all, count}
 use Rattle.plpb.specs.Plan.{Rule, Clause, Plan, Assignment, rule_holds, rising, numbers_rise}
 use Rattle.plpb.specs.Equations.{clause_break}
@@ -27,7 +30,7 @@ use Rattle.tallies.proofs.Tallied.{clause_word, fresh_words}
 use Rattle.tallies.proofs.TallyBytes.{roomy_fits}
 use Rattle.recount.proofs.Laid.{parts}
 use Rattle.columns.specs.Columns.{no_place}
-use Rattle.effects.specs.Kept.{lent_bits, Going, place_at, place_rule, Visited}
+use Rattle.effects.specs.Kept.{lent_bits, Going, place_at, place_rule}
 use Rattle.effects.proofs.Runs.{going_rises, going_bits, run_inside, run_few}
 
 -- The places from k on, below j, are some of x's run.
@@ -171,3 +174,17 @@ module _ {tables terms assignment tallies marks : List ℕ} {x : ℕ} (g : Going
   pub same_ends : run_end (plan_of_tables tables terms) x ≤ i → i ≡ i + same_clause c (cut i (run_end (plan_of_tables tables terms) x) (order (plan_of_tables tables terms)))
   unfolding same_clause
   same_ends h = rw (cut_past i end ps h) (omega arith)
+
+module _ {tables terms assignment tallies marks : List ℕ} {x : ℕ} (g : Going tables terms assignment tallies marks x) (c end : ℕ) (ends : end ≡ run_end (plan_of_tables tables terms) x) where
+  -- The first place from i on of another clause, or the run's end.
+  pub first_other : (n i : ℕ) → end - i ≡ n → i ≤ end → unwrap_or (find (λ j. not (eqb (place_at tables terms j).clause c)) (range_with_len i n)) end ≡ i + same_clause c (cut i (run_end (plan_of_tables tables terms) x) (order (plan_of_tables tables terms)))
+  first_other zero i e l =
+      let all : end ≡ i = omega (arith, e, l) in
+      all ∙ same_ends g i c (omega (arith, all, ends))
+  first_other (suc n) i e l =
+      let h : i < run_end (plan_of_tables tables terms) x = omega (arith, e, ends) in
+      let rest : Option ℕ = find (λ j. not (eqb (place_at tables terms j).clause c)) (range_with_len (i + 1) n) in
+      ⊎_elim
+      (λ q. ap (λ b. unwrap_or (cond (not b) (Some i) rest) end) (eq-eqb (place_at tables terms i).clause c q) ∙ first_other n (i + 1) (omega (arith, e)) (omega (arith, h, ends)) ∙ same_more g i c h q)
+      (λ q. ap (λ b. unwrap_or (cond (not b) (Some i) rest) end) (ne_eqb (place_at tables terms i).clause c q) ∙ same_stops g i c h q)
+      (cases_eq (place_at tables terms i).clause c)

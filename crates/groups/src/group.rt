@@ -8,6 +8,7 @@ use crate::group_end;
 use effects::Run;
 
 // The places from the first on, below the end, are those where the clause names the variable of the run.
+// First and end are two numbers: a `Range` is not `Copy`, so that each chain over the places would clone it.
 #[derive(Clone, Copy)]
 pub struct Group<'a> {
     pub run: &'a Run<'a, 'a>,

@@ -24,23 +24,20 @@ pub fn group_end(run: &Run<'_, '_>, k: usize) -> usize
     ensures { result ≡ end_of_group run.now k }
 {
     let c = run.clause_at(k);
-    for j in k..run.end {
-        if run.clause_at(j) != c {
-            return j;
-        }
-    }
-    run.end
+    (k..run.end)
+        .find(|&j| run.clause_at(j) != c)
+        .unwrap_or(run.end)
 }
 
 impl Group<'_> {
-    // Whether the flip spoils one of the rules,
+    // Whether the flip spoils one of the group's rules.
     fn any_spoils(&self) -> bool
         ensures { result ≡ any (spoils_part (bits self.now) self.now.run.now.x) (rules self.now) }
     {
         (self.first..self.end).any(|i| self.run.spoils_at(i))
     }
 
-    // how many of them hold,
+    // How many of the group's rules hold.
     fn held(&self) -> usize
         ensures { result ≡ count (rule_holds (bits self.now)) (rules self.now) }
     {
@@ -49,7 +46,7 @@ impl Group<'_> {
             .count()
     }
 
-    // and whether all of them fail after the flip.
+    // Whether all of the group's rules fail after the flip.
     fn all_fail(&self) -> bool
         ensures { result ≡ all (false_after (bits self.now) self.now.run.now.x) (rules self.now) }
     {

@@ -1,5 +1,6 @@
 // What a flip spoils and mends of a clause of several rules: the shares of its rules joined, each from what is kept of the rule. The places of the group tell
-// which rules name the variable.
+// which rules name the variable. The rule and the next place stay two numbers beside the group: the loop steps each by itself, and a struct of the three would
+// be made anew for each rule, to be asked for one state and one place.
 #![tactic(auto)]
 
 ghost use Rattle.std.specs.Prelude.{◌≡◌, cond, ◌+◌};
@@ -62,11 +63,9 @@ pub fn shares_along(group: &Group<'_>) -> Shares
     ensures { shares_in result ≡ capped_shares (joined_along (shares_of (bits group.now) group.now.run.now.x) start_shares (clause group.now)) }
 {
     let run = group.run;
-    let rules = rules_of(run.footing.tables, group.clause);
-    let end = rules.end;
     let mut shares = Shares::START;
     let mut i = group.first;
-    for r in rules.first..end {
+    for r in rules_of(run.footing.tables, group.clause) {
         let s = state_in(group, r, i);
         shares = shares.joined(s.shares());
         i = past(group, r, i);

@@ -125,15 +125,6 @@ module _ (p : Plan) (a : Assignment) (xs : List ℕ) (d : ℕ) (h : d < length x
 
 -- ---- one variable offered
 
-pub offered_above : (n x : ℕ) (b : Best) (s : List ℕ) → b.least < n → Offered n x b s s b
-offered_above n x b s h = record {
-  least = omega arith;
-  count = rw (lt-ltb b.least n h) refl;
-  kept = λ l i k. refl;
-  new = λ l. absurd (omega arith);
-  noted = noted_self s;
-}
-
 pub place_few : (n : ℕ) (b : Best) → place_for n b ≤ b.count
 unfolding place_for
 place_few n b = at (ltb n b.least)

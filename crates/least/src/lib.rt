@@ -1,4 +1,5 @@
-// Which variables of a clause have the least break count: each count is given up above the least so far.
+// Which variables of a clause have the least break count: each count is given up above the least so far. The marks come by themselves, as in `picks`: one part
+// of them is read while another is written, which a struct with them in it would not let be proved.
 #![tactic(auto)]
 
 ghost use Rattle.std.specs.Prelude.{◌≡◌};
@@ -6,13 +7,14 @@ ghost use Rattle.plpb.specs.Count.{capped_break};
 ghost use Rattle.plpb.specs.Choice.{least_break, with_break};
 ghost use Rattle.words.specs.Words.{word_at};
 ghost use Rattle.effects.specs.Footing.{plan_on, bits_on};
-ghost use Rattle.picks.specs.Picks.{of_clause, Picked, Pickable, Triable};
+ghost use Rattle.picks.specs.Picks.{Picked, Triable};
+ghost use Rattle.picks.specs.Choice.{plan, bits, variables, Marked};
 ghost use Rattle.least.specs.Best.{place_for, Offered};
 
 use columns::PICKS;
 use counting::count::Count;
 use effects::{Footing, Run};
-use picks::list_of;
+use picks::{Choice, list_of};
 use spoiling::break_of;
 use words::{index, narrow, write_word};
 
@@ -37,10 +39,9 @@ fn offer(footing: &Footing<'_>, marks: &mut [u8], i: usize, best: Best) -> Best
 {
     let x = index(marks, i);
     let run = Run::of(footing, marks, x);
-    let n = break_of(&run, best.least);
-    if best.least < n {
+    let Some(n) = break_of(&run, best.least) else {
         return best;
-    }
+    };
     let at = place_for(n, best);
     write_word(marks, PICKS + at, narrow(x));
     Best {
@@ -49,19 +50,19 @@ fn offer(footing: &Footing<'_>, marks: &mut [u8], i: usize, best: Best) -> Best
     }
 }
 
-// Those of the variables of clause c that may be chosen whose break count is the least, to the picks, in order; how many.
-pub fn least_of(footing: &Footing<'_>, marks: &mut [u8], c: usize) -> usize
-    requires { Pickable footing.now marks.old c }
+// Writes those of the clause's variables that may be chosen whose break count is the least to the picks, in order; answers how many.
+pub fn least_of(choice: &Choice<'_>, marks: &mut [u8]) -> usize
+    requires { Marked choice.now marks.old }
     ensures { Picked
-        (with_break (plan_on footing.now) (bits_on footing.now)
-        (least_break (plan_on footing.now) (bits_on footing.now) (of_clause footing.now c)) (of_clause footing.now c)) marks.old marks.new result }
+        (with_break (plan choice.now) (bits choice.now) (least_break (plan choice.now) (bits choice.now) (variables choice.now))
+        (variables choice.now)) marks.old marks.new result }
 {
-    let list = list_of(&footing.plan(), marks, c);
+    let footing = &choice.footing;
     let mut best = Best {
         least: Count::CAP.value as u64 + 1,
         count: 0,
     };
-    for i in list.start..list.end {
+    for i in list_of(&footing.plan(), marks, choice.clause) {
         best = offer(footing, marks, i, best);
     }
     best.count

@@ -1,5 +1,5 @@
-// What a flip mends at the places of a variable's run: a clause of one rule what the rule does, one of several nothing where one of its rules holds or where
-// none of those that name the variable mends a part.
+// What a flip mends at the places of a variable's run: of a clause of one rule what it mends of the rule; of one of several rules nothing where one of its
+// rules holds or where it mends a part of none of those that name the variable.
 #![tactic(auto)]
 
 ghost use Rattle.std.specs.Prelude.{◌≡◌, false, ◌+◌, ◌<◌, ltb};
@@ -36,13 +36,11 @@ fn reached(m: u64, w: u64, bound: Option<u64>) -> bool
     requires { m + w < 4294967296 }
     ensures { result ≡ reaches m w (bound_of bound) }
 {
-    match bound {
-        None => false,
-        Some(k) => (0 < k) & ((0 < w) & (k <= m + w)),
-    }
+    bound.is_some_and(|k| 0 < k && 0 < w && k <= m + w)
 }
 
-// Whether f is above 0, told without a binomial. One function for this and `spoiled`, over what is asked of a side, would take a closure and say no more.
+// Whether f is above 0, told without a binomial. This matches as `spoiling::spoiled` does, to ask something else of a side: a function of the side alone would
+// hand out its three numbers in an `Option`, which each of them would match again.
 fn mends(s: State) -> bool
     requires { Balanced s }
     ensures { result ≡ ltb 0 (shares_from s).f }
@@ -56,7 +54,7 @@ fn mends(s: State) -> bool
     }
 }
 
-// Whether the flip mends a part of the rule at place k,
+// Whether the flip mends a part of the rule at place k.
 fn mends_at(run: &Run<'_, '_>, k: usize) -> bool
     requires { Inside run.now k }
     ensures { result ≡ mends_part (bits_of run.now) run.now.x (rule run.now k) }
@@ -64,7 +62,7 @@ fn mends_at(run: &Run<'_, '_>, k: usize) -> bool
     mends(run.state_at(k))
 }
 
-// .. and of one of the rules of a group.
+// Whether the flip mends a part of one of the group's rules.
 fn any_mends(group: &Group<'_>) -> bool
     ensures { result ≡ any (mends_part (bits group.now) group.now.run.now.x) (rules group.now) }
 {

@@ -25,8 +25,7 @@ use Rattle.numbers.specs.Numbers.{numbers_of}
 use Rattle.numbers.specs.Taking.{taken_of}
 use Rattle.numbers.proofs.Taking.{length_numbers_of, picked_at, picked_short, pick_uses, pick_gone}
 use Rattle.numbers.proofs.Runs.{bind_ends, bind_short, run_pick_taken, run_pick_short, run_true, run_false}
-use Rattle.picking.specs.declared.Chosen.{Chosen}
-use Rattle.picking.specs.Outcome.{outcome_of, used_by, Among, Chooses}
+use Rattle.picking.specs.Outcome.{Chosen, outcome_of, used_by, Among, Chooses}
 use Rattle.picking.proofs.Picking.{later}
 use Rattle.ranking.specs.declared.Top.{Top}
 use Rattle.ranking.specs.Ranking.{Tops, Ranks}
@@ -41,16 +40,16 @@ follows s p a last xs k = cond (ltb k s.chance) (pick_from 0 xs) (ranked_choice 
 pub listed_after : (numbers : List ℕ) (used : ℕ) {k after : ℕ} → take_pick 1_000 (numbers_of numbers) used ≡ taken k after → after ≤ length numbers / 4
 listed_after numbers used e = let u = pick_uses 1_000 (numbers_of numbers) used e in omega (arith, u.1, length_numbers_of numbers)
 
-module _ (s : Settings) (p : Plan) (a : Assignment) (last : ℕ → ℕ) (xs numbers : List ℕ) (used : ℕ) (r : Result Drawn Short) (e : taken_of r ≡ take_pick 1_000 (numbers_of numbers) used) where
-  module _ {d : Drawn} (t : r ≡ Ok d) where
-    drew : (f : ℕ) (fs : List Assignment) → run (novelty_choice s p a last xs) (numbers_of numbers) (at used f fs) ≡ run (follows s p a last xs d.place) (numbers_of numbers) (at d.used f fs)
+module _ (s : Settings) (p : Plan) (a : Assignment) (last : ℕ → ℕ) (xs numbers : List ℕ) (used : ℕ) (r : Result (Drawn ℕ) Short) (e : taken_of r ≡ take_pick 1_000 (numbers_of numbers) used) where
+  module _ {d : Drawn ℕ} (t : r ≡ Ok d) where
+    drew : (f : ℕ) (fs : List Assignment) → run (novelty_choice s p a last xs) (numbers_of numbers) (at used f fs) ≡ run (follows s p a last xs d.value) (numbers_of numbers) (at d.used f fs)
     unfolding novelty_choice run
     drew f fs = bind_ends (pick 1_000 done) (follows s p a last xs) (numbers_of numbers) (at used f fs) (run_pick_taken 1_000 done (numbers_of numbers) (at used f fs) (picked_at e t))
 
     uses_one : used ≤ d.used
     uses_one = let u = pick_uses 1_000 (numbers_of numbers) used (picked_at e t) in omega (arith, u.0)
 
-    module _ {b : Bool} (l : b ≡ ltb d.place s.chance) {n : ℕ} {q : Result Chosen Short} where
+    module _ {b : Bool} (l : b ≡ ltb d.value s.chance) {n : ℕ} {q : Result Chosen Short} where
       pub by_walk : b ≡ true → Chooses (pick_from 0 xs) (numbers_of numbers) d.used n q → Chooses (novelty_choice s p a last xs) (numbers_of numbers) used n q
       by_walk g = later (λ f fs. drew f fs ∙ run_true (pick_from 0 xs) _ (numbers_of numbers) (at d.used f fs) (sym l ∙ g)) uses_one
 
@@ -81,7 +80,7 @@ second_within p x y ys v = first_within p y ys (and_right _ _ v)
 
 -- Where a variable is chosen without a number.
 chosen_now : {x n : ℕ} (w : Walk ℕ) (numbers : List ℕ) (used : ℕ) → ((f : ℕ) (fs : List Assignment) → run w (numbers_of numbers) (at used f fs) ≡ ends x (at used f fs))
-    → (1 ≤ x) × (x ≤ n) → used ≤ length numbers / 4 → Chooses w (numbers_of numbers) used n (Ok (record { variable = x; used = used }))
+    → (1 ≤ x) × (x ≤ n) → used ≤ length numbers / 4 → Chooses w (numbers_of numbers) used n (Ok (record { value = x; used = used }))
 unfolding outcome_of used_by Among
 chosen_now w numbers used o m l = record { outcome = o; among = m; uses = omega arith; within = rw (length_numbers_of numbers) l }
 
@@ -101,7 +100,7 @@ module _ (s : Settings) (p : Plan) (a : Assignment) (last : ℕ → ℕ) (xs : L
   asks_is x y ys k = rw (k.0, newest, k.1.last_flip)
 
   first_now : (ys : List ℕ) → Tops p a last ys t → 0 < length ys → T (all (is_variable p) ys) → used ≤ length numbers / 4 → asks_noise t ≡ false
-      → Chooses (ranked_choice s last xs ys) (numbers_of numbers) used p.variables (Ok (record { variable = t.first.variable; used = used }))
+      → Chooses (ranked_choice s last xs ys) (numbers_of numbers) used p.variables (Ok (record { value = t.first.variable; used = used }))
   unfolding Tops ranked_choice run
   first_now [] k h v l e = absurd (omega arith)
   first_now (x ∷ []) k h v l e =
@@ -113,7 +112,7 @@ module _ (s : Settings) (p : Plan) (a : Assignment) (last : ℕ → ℕ) (xs : L
   drawn_two : (ys : List ℕ) → Tops p a last ys t → T (all (is_variable p) ys) → asks_noise t ≡ true
       → {i after : ℕ} → take_pick 1_000 (numbers_of numbers) used ≡ taken i after
       → {z : ℕ} → z ≡ cond (ltb i s.noise) t.second.variable t.first.variable
-      → Chooses (ranked_choice s last xs ys) (numbers_of numbers) used p.variables (Ok (record { variable = z; used = after }))
+      → Chooses (ranked_choice s last xs ys) (numbers_of numbers) used p.variables (Ok (record { value = z; used = after }))
   unfolding Tops ranked_choice run outcome_of used_by Among
   drawn_two [] k v e d z = absurd (omega (arith, k, two_asked t e))
   drawn_two (x ∷ []) k v e d z = absurd (omega (arith, k.0, two_asked t e))
@@ -147,12 +146,12 @@ module _ (s : Settings) (p : Plan) (a : Assignment) (last : ℕ → ℕ) (xs : L
 
 module _ (s : Settings) {p : Plan} {a : Assignment} {last : ℕ → ℕ} {xs : List ℕ} {t : Top} (r : Ranks p a last xs t) (v : T (all (is_variable p) xs)) (numbers : List ℕ) (used : ℕ) where
   pub ranked_first : 0 < length xs → used ≤ length numbers / 4 → asks_noise t ≡ false
-      → Chooses (ranked_choice s last xs (ranked p a last xs)) (numbers_of numbers) used p.variables (Ok (record { variable = t.first.variable; used = used }))
+      → Chooses (ranked_choice s last xs (ranked p a last xs)) (numbers_of numbers) used p.variables (Ok (record { value = t.first.variable; used = used }))
   ranked_first h = first_now s p a last xs t r.newest numbers used (ranked p a last xs) r.tops (rw length_ranked h) (all_ranked p a last (is_variable p) xs v)
 
   pub ranked_drawn : asks_noise t ≡ true → {k after : ℕ} → take_pick 1_000 (numbers_of numbers) used ≡ taken k after
       → {z : ℕ} → z ≡ cond (ltb k s.noise) t.second.variable t.first.variable
-      → Chooses (ranked_choice s last xs (ranked p a last xs)) (numbers_of numbers) used p.variables (Ok (record { variable = z; used = after }))
+      → Chooses (ranked_choice s last xs (ranked p a last xs)) (numbers_of numbers) used p.variables (Ok (record { value = z; used = after }))
   ranked_drawn = drawn_two s p a last xs t r.newest numbers used (ranked p a last xs) r.tops (all_ranked p a last (is_variable p) xs v)
 
   pub ranked_gone : asks_noise t ≡ true → used ≤ length numbers / 4 → {after : ℕ} → take_pick 1_000 (numbers_of numbers) used ≡ too_few after

@@ -1,4 +1,4 @@
-// The choice of a variable by Novelty+ (T-09).
+// The choice of a variable by Novelty+ (T-09). The marks, the list of numbers and how many of it are used stay parameters of their own, as in `skc`.
 #![tactic(auto)]
 
 ghost use Rattle.std.specs.Prelude.{◌≡◌, List, ℕ, ◌/◌, ◌≤◌, ◌<◌, T, length};
@@ -10,16 +10,15 @@ ghost use Rattle.plpb.specs.Choice.{ranked_choice, novelty_choice};
 ghost use Rattle.numbers.specs.Numbers.{numbers_of};
 ghost use Rattle.settings.specs.Settings.{settings_of};
 ghost use Rattle.stamps.specs.Stamps.{stamp_in};
-ghost use Rattle.effects.specs.Footing.{plan_on, bits_on};
-ghost use Rattle.picks.specs.Picks.{of_clause};
+ghost use Rattle.picks.specs.Choice.{plan, bits, variables};
 ghost use Rattle.ranking.specs.Ranking.{Ranks};
 ghost use Rattle.picking.specs.Outcome.{Chooses};
-ghost use Rattle.skc.specs.Choosing.{ToChoose};
+ghost use Rattle.skc.specs.Choosing.{Choosable};
 ghost use Rattle.novelty.specs.Noise.{asks_noise};
 
-use effects::Footing;
-use numbers::{Short, pick};
+use numbers::{Drawn, Short, pick};
 use picking::{Chosen, is_below};
+use picks::Choice;
 use ranking::{Top, rank_clause};
 use settings::Settings;
 use skc::choose_any;
@@ -49,37 +48,36 @@ fn choose_ranked(top: Top, numbers: &[u8], used: usize, noise: u32) -> Result<Ch
     let first = top.first;
     let second = top.second;
     if !asks_noise(top) {
-        return Ok(Chosen {
-            variable: first.variable,
+        return Ok(Drawn {
+            value: first.variable,
             used,
         });
     }
     let drawn = pick(numbers, used, 1000)?;
-    let second_taken = is_below(drawn.place, noise);
+    let second_taken = is_below(drawn.value, noise);
     let taken = if second_taken { second } else { first };
-    Ok(Chosen {
-        variable: taken.variable,
+    Ok(Drawn {
+        value: taken.variable,
         used: drawn.used,
     })
 }
 
 // "One number under the walk chance, per 1,000, leads to a pick among the clause's unlocked variables. Otherwise rank them"
 pub fn choose_novelty(
-    footing: &Footing<'_>,
+    choice: &Choice<'_>,
     marks: &[u8],
-    c: usize,
     numbers: &[u8],
     used: usize,
     s: Settings,
 ) -> Result<Chosen, Short>
-    requires { ToChoose footing.now marks.now c numbers.now used }
+    requires { Choosable choice.now marks.now numbers.now used }
     ensures { Chooses
-        (novelty_choice (settings_of s) (plan_on footing.now) (bits_on footing.now) (stamp_in marks.now)
-        (of_clause footing.now c)) (numbers_of numbers.now) used (plan_on footing.now).variables result }
+        (novelty_choice (settings_of s) (plan choice.now) (bits choice.now) (stamp_in marks.now) (variables choice.now))
+        (numbers_of numbers.now) used (plan choice.now).variables result }
 {
     let drawn = pick(numbers, used, 1000)?;
-    if is_below(drawn.place, s.chance) {
-        return choose_any(footing, marks, c, numbers, drawn.used);
+    if is_below(drawn.value, s.chance) {
+        return choose_any(choice, marks, numbers, drawn.used);
     }
-    choose_ranked(rank_clause(footing, marks, c), numbers, drawn.used, s.noise)
+    choose_ranked(rank_clause(choice, marks), numbers, drawn.used, s.noise)
 }

@@ -33,7 +33,9 @@ use Rattle.columns.specs.Layout.{hint_at, pick_at, weight_at, list_at, column_si
 use Rattle.columns.specs.Columns.{words_from, terms_ahead, Weighed, Listed}
 use Rattle.columns.proofs.Marks.{Behind, weighed_behind, listed_behind}
 use Rattle.effects.specs.declared.footing.Footing.{Footing}
+use Rattle.picks.specs.declared.choice.Choice.{Choice}
 use Rattle.picks.specs.Picks.{Noted, Picks, Pickable, Triable, Tried}
+use Rattle.picks.specs.Choice.{Marked}
 use Rattle.picks.proofs.Room.{list_room, choosable_within, choosable_most, keep_fewer}
 
 -- ---- nothing else changes
@@ -200,3 +202,7 @@ module _ {q : Footing} {s : List ℕ} {c : ℕ} (k : Pickable q s c) where
 pub listed : (q : Footing) (c : ℕ) {tables terms : List ℕ} {start end : ℕ} → (tables ≡ q.tables.now) × (terms ≡ q.terms.now) → (start ≡ list_at (terms_ahead (plan_of_tables tables terms) c)) × (end ≡ start + length (choosable (plan_of_tables tables terms) (get_or (plan_of_tables tables terms).clauses c [])))
     → (start ≡ list_at (terms_ahead (plan_of_tables q.tables.now q.terms.now) c)) × (end ≡ start + length (choosable (plan_of_tables q.tables.now q.terms.now) (get_or (plan_of_tables q.tables.now q.terms.now).clauses c [])))
 listed q c e l = rw (e.0, e.1) at l
+
+-- The marks of a clause to choose of are those that its list is picked from.
+pub pickable : (q : Choice) {marks : List ℕ} → Marked q marks → Pickable q.footing marks q.clause
+pickable q m = record { weighed = m.weighed; listed = m.listed; there = q.there }

@@ -1,5 +1,8 @@
-// Which variables of a clause break nothing: they are picked out of the clause's list, in its order.
+// Which variables of a clause break nothing: they are picked out of the clause's list, in its order. The marks come by themselves: one part of them is read
+// while another is written, which a struct with them in it would not let be proved.
 #![tactic(auto)]
+
+mod choice;
 
 ghost use Rattle.std.specs.Prelude.{◌≡◌, [], ◌+◌, ◌<◌, eqb, length, get_or};
 ghost use Rattle.plpb.specs.Count.{capped_break};
@@ -9,8 +12,10 @@ ghost use Rattle.columns.specs.Layout.{list_at};
 ghost use Rattle.columns.specs.Columns.{terms_ahead, Listed};
 ghost use Rattle.recount.specs.Plans.{plan};
 ghost use Rattle.effects.specs.Footing.{plan_on, bits_on};
-ghost use Rattle.picks.specs.Picks.{of_clause, Picked, Pickable, Triable, Tried};
+ghost use Rattle.picks.specs.Picks.{Picked, Triable, Tried};
+ghost use Rattle.picks.specs.Choice.{plan as plan_of, bits, variables, Marked};
 
+pub use choice::Choice;
 use columns::{LIST_COUNTS, LISTS, PICKS};
 use effects::Footing;
 use format::{CLAUSES, RULES};
@@ -52,14 +57,14 @@ fn free_one(footing: &Footing<'_>, marks: &mut [u8], i: usize, count: usize) -> 
     count + 1
 }
 
-// Those of the variables of clause c that may be chosen whose flip breaks nothing, to the picks, in order; how many.
-pub fn free_of(footing: &Footing<'_>, marks: &mut [u8], c: usize) -> usize
-    requires { Pickable footing.now marks.old c }
-    ensures { Picked (with_break (plan_on footing.now) (bits_on footing.now) 0 (of_clause footing.now c)) marks.old marks.new result }
+// Writes those of the clause's variables that may be chosen whose flip breaks nothing to the picks, in order; answers how many.
+pub fn free_of(choice: &Choice<'_>, marks: &mut [u8]) -> usize
+    requires { Marked choice.now marks.old }
+    ensures { Picked (with_break (plan_of choice.now) (bits choice.now) 0 (variables choice.now)) marks.old marks.new result }
 {
-    let list = list_of(&footing.plan(), marks, c);
+    let footing = &choice.footing;
     let mut count: usize = 0;
-    for i in list.start..list.end {
+    for i in list_of(&footing.plan(), marks, choice.clause) {
         count = free_one(footing, marks, i, count);
     }
     count

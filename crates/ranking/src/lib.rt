@@ -7,14 +7,14 @@ ghost use Rattle.plpb.specs.Plan.{Plan, Assignment};
 ghost use Rattle.plpb.specs.Count.{cap, given};
 ghost use Rattle.counting.specs.Count.{number};
 ghost use Rattle.effects.specs.Footing.{plan_on, bits_on, HasRun};
-ghost use Rattle.picks.specs.Picks.{of_clause, Pickable};
+ghost use Rattle.picks.specs.Choice.{plan, bits, variables, Marked as ListedIn};
 ghost use Rattle.stamps.specs.Stamps.{stamp_in};
 ghost use Rattle.ranking.specs.Ranking.{comes_before, Stands, Ranks};
 
 use counting::count::{Count, Marked};
 use counts::counts_along;
 use effects::{Footing, Run};
-use picks::list_of;
+use picks::{Choice, list_of};
 use stamps::last_flip;
 use words::word;
 
@@ -26,8 +26,9 @@ pub struct Standing {
     pub variable: u32,
 }
 
-// The first two of some ranked variables, how many of the two there are, and the number of the last flip among all of them. The choice takes the first where
-// there is one always: an `Option` of it would be opened there with an answer for none.
+// The first two of some ranked variables, how many of the two there are, and the number of the last flip among all of them. Where the choice is made there is
+// always a first: an `Option` of it would be opened with an answer for none. The second is no `Option` either: the count, 0 to 2, says which of the two stand,
+// as `Tops` reads it, and `choose_ranked` would open it behind `asks_noise` with an arm that is never taken.
 #[derive(Clone, Copy)]
 pub struct Top {
     pub count: u32,
@@ -88,14 +89,13 @@ fn joined(top: Top, s: Standing) -> Top
         → Ranks p a last (x ∷ xs) result }
 {
     let first = top.first;
-    let second = top.second;
     let latest = s.last.max(top.latest);
     if top.count == 0 {
         return Top {
             count: 1,
             first: s,
-            second,
             latest,
+            ..top
         };
     }
     if !comes_before(first, s) {
@@ -114,12 +114,11 @@ fn joined(top: Top, s: Standing) -> Top
             latest,
         };
     }
-    if comes_before(second, s) {
+    if comes_before(top.second, s) {
         return Top {
             count: 2,
-            first,
-            second,
             latest,
+            ..top
         };
     }
     Top {
@@ -131,14 +130,16 @@ fn joined(top: Top, s: Standing) -> Top
 }
 
 // "rank them": the variables of a clause that may be chosen, from the last of its list to the first, so that each comes before those that are ranked already.
-pub fn rank_clause(footing: &Footing<'_>, marks: &[u8], c: usize) -> Top
-    requires { Pickable footing.now marks.now c }
-    ensures { Ranks (plan_on footing.now) (bits_on footing.now) (stamp_in marks.now) (of_clause footing.now c) result }
+// A countdown between two ends that are written out is a loop of two numbers to the check; of `list.rev()` the proof would have to be told what each `next`
+// gives.
+pub fn rank_clause(choice: &Choice<'_>, marks: &[u8]) -> Top
+    requires { ListedIn choice.now marks.now }
+    ensures { Ranks (plan choice.now) (bits choice.now) (stamp_in marks.now) (variables choice.now) result }
 {
-    let list = list_of(&footing.plan(), marks, c);
+    let list = list_of(&choice.footing.plan(), marks, choice.clause);
     let mut top = Top::NONE;
     for i in (list.start..list.end).rev() {
-        let s = standing_of(footing, marks, word(marks, i));
+        let s = standing_of(&choice.footing, marks, word(marks, i));
         top = joined(top, s);
     }
     top

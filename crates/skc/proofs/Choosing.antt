@@ -31,14 +31,13 @@ use Rattle.numbers.specs.Numbers.{numbers_of}
 use Rattle.numbers.specs.Taking.{taken_of}
 use Rattle.numbers.proofs.Taking.{length_numbers_of, picked_at, picked_short, pick_uses, pick_gone}
 use Rattle.numbers.proofs.Runs.{empty_by_length, noisy_least, noisy_any, noisy_short, skc_free, skc_noisy}
-use Rattle.effects.specs.declared.footing.Footing.{Footing}
-use Rattle.effects.specs.Footing.{plan_on}
-use Rattle.picks.specs.Picks.{of_clause, Noted, Picks, Picked}
-use Rattle.picks.proofs.Noting.{noted_weighed, noted_listed, list_few, list_ends}
-use Rattle.picking.specs.declared.Chosen.{Chosen}
-use Rattle.picking.specs.Outcome.{outcome_of, used_by, Among, Chooses, PickListed, is_one}
+use Rattle.picks.specs.declared.choice.Choice.{Choice}
+use Rattle.picks.specs.Picks.{Noted, Picks, Picked}
+use Rattle.picks.specs.Choice.{plan, variables}
+use Rattle.picks.proofs.Noting.{noted_weighed, noted_listed, list_few, list_ends, pickable}
+use Rattle.picking.specs.Outcome.{Chosen, outcome_of, used_by, Among, Chooses, PickListed, is_one}
 use Rattle.picking.proofs.Picking.{later}
-use Rattle.skc.specs.Choosing.{ToChoose}
+use Rattle.skc.specs.Choosing.{Choosable}
 
 -- ---- variables of the plan
 
@@ -79,35 +78,35 @@ picks_chosen {ns = ns} {used = used} {n = n} {q = q} h one f =
 
 -- ---- a pick among all of the list
 
-module _ {q : Footing} {marks numbers : List ℕ} {c used : ℕ} (k : ToChoose q marks c numbers used) {start n : ℕ} (e : start ≡ list_at (terms_ahead (plan_on q) c)) (f : n ≡ length (of_clause q c)) where
+module _ {q : Choice} {marks numbers : List ℕ} {used : ℕ} (k : Choosable q marks numbers used) {start n : ℕ} (e : start ≡ list_at (terms_ahead (plan q) q.clause)) (f : n ≡ length (variables q)) where
   pub list_pickable : PickListed numbers used marks start n
   list_pickable =
-      let p = k.pickable in
+      let p = pickable q k.marked in
       record { some = omega (arith, f, k.some); few = omega (arith, f, list_few p); inside = omega (arith, e, f, list_ends p); room = p.listed.room; listed = k.listed }
 
   pub list_chosen : {r : Result Chosen Short}
       → ((m : ℕ) → T (all (is_one m) (words_from (word_at marks) start n)) → Chooses (pick_from 0 (words_from (word_at marks) start n)) (numbers_of numbers) used m r)
-      → Chooses (pick_from 0 (of_clause q c)) (numbers_of numbers) used (plan_on q).variables r
+      → Chooses (pick_from 0 (variables q)) (numbers_of numbers) used (plan q).variables r
   list_chosen {r} g =
-      let words : words_from (word_at marks) start n ≡ of_clause q c = ap (λ i. words_from (word_at marks) i n) e ∙ list_words k.pickable.listed k.pickable.there f in
-      subst (λ xs. Chooses (pick_from 0 xs) (numbers_of numbers) used (plan_on q).variables r) words (g _ (rw words (list_ones (plan_on q) _)))
+      let words : words_from (word_at marks) start n ≡ variables q = ap (λ i. words_from (word_at marks) i n) e ∙ list_words k.marked.listed q.there f in
+      subst (λ xs. Chooses (pick_from 0 xs) (numbers_of numbers) used (plan q).variables r) words (g _ (rw words (list_ones (plan q) _)))
 
 -- ---- the list behind a choice that came to nothing
 
-pub still_to_choose : {q : Footing} {s t numbers : List ℕ} {c used after : ℕ} → Noted s t → after ≤ length numbers / 4 → ToChoose q s c numbers used → ToChoose q t c numbers after
+pub still_to_choose : {q : Choice} {s t numbers : List ℕ} {used after : ℕ} → Noted s t → after ≤ length numbers / 4 → Choosable q s numbers used → Choosable q t numbers after
 still_to_choose o l k = record {
-  pickable = record { weighed = noted_weighed o k.pickable.weighed; listed = noted_listed o k.pickable.listed; there = k.pickable.there };
+  marked = record { weighed = noted_weighed o k.marked.weighed; listed = noted_listed o k.marked.listed };
   some = k.some;
   listed = l;
 }
 
 -- ---- the noise
 
-pub listed_after : (numbers : List ℕ) (used : ℕ) {r : Result Drawn Short} → taken_of r ≡ take_pick 1_000 (numbers_of numbers) used → {d : Drawn} → r ≡ Ok d → d.used ≤ length numbers / 4
+pub listed_after : (numbers : List ℕ) (used : ℕ) {r : Result (Drawn ℕ) Short} → taken_of r ≡ take_pick 1_000 (numbers_of numbers) used → {d : Drawn ℕ} → r ≡ Ok d → d.used ≤ length numbers / 4
 listed_after numbers used e t = let u = pick_uses 1_000 (numbers_of numbers) used (picked_at e t) in omega (arith, u.1, length_numbers_of numbers)
 
-module _ (numbers : List ℕ) {used : ℕ} {r : Result Drawn Short} (e : taken_of r ≡ take_pick 1_000 (numbers_of numbers) used) where
-  module _ (s : Settings) (p : Plan) (a : Try) (xs : List ℕ) {n : ℕ} {d : Drawn} {b : Bool} {q : Result Chosen Short} (t : r ≡ Ok d) (l : b ≡ ltb d.place s.noise) where
+module _ (numbers : List ℕ) {used : ℕ} {r : Result (Drawn ℕ) Short} (e : taken_of r ≡ take_pick 1_000 (numbers_of numbers) used) where
+  module _ (s : Settings) (p : Plan) (a : Try) (xs : List ℕ) {n : ℕ} {d : Drawn ℕ} {b : Bool} {q : Result Chosen Short} (t : r ≡ Ok d) (l : b ≡ ltb d.value s.noise) where
     pub by_least : b ≡ true → Chooses (pick_from 0 (with_break p a.bits (least_break p a.bits xs) xs)) (numbers_of numbers) d.used n q → Chooses (noisy_choice s p a xs) (numbers_of numbers) used n q
     by_least g c =
         let u = pick_uses 1_000 (numbers_of numbers) used (picked_at e t) in

@@ -2,10 +2,14 @@
 -- Assumes nothing.
 use Prim.Native.Nat.{ℕ, zero, suc, ◌+◌, ◌-◌, ◌≤◌, ◌<◌}
 use native.Mathlib.Omega.{arith}
-use mathlib.Core.Path.{◌≡◌, sym, ap, ◌∙◌, subst}
-use mathlib.Core.Bool.{false}
+use mathlib.Core.Path.{◌≡◌, refl, sym, ap, ◌∙◌, subst}
+use mathlib.Core.Bool.{Bool, true, false}
 use mathlib.Core.List.{List, [], ◌∷◌, ◌++◌, map}
+use lib.Dec.{leb}
 use lib.ListN.{length, get_or, length-map}
+use borrow.Author.Tests.{leb-true, leb-false}
+use Rattle.std.specs.Bool.{then_some}
+use Rattle.std.specs.Prelude.{Option, Some, None}
 use Rattle.plpb.specs.Lists.{all, sum_by}
 use Rattle.plpb.specs.Plan.{Clause, Plan, Assignment, names, rising, numbers_rise}
 use Rattle.plpb.specs.Tallies.{rules_of}
@@ -128,21 +132,15 @@ module _ (a : Assignment) (x : ℕ) (c : Clause) where
 
 module _ {tables terms assignment tallies marks : List ℕ} {x : ℕ} (g : Going tables terms assignment tallies marks x) {count : Clause → ℕ} (none : (k : Clause) → names k x ≡ false → count k ≡ 0) {whole k sum : ℕ} (s : Summing (plan_of_tables tables terms) x count whole k sum) (stays : capped sum ≡ sum) where
   -- .. above the limit,
-  pub given_up : {limit r : ℕ} → r ≡ sum → limit < r → UpTo limit whole r
-  given_up {limit} {r} e h = record {
-    exact = λ l. absurd (omega arith);
-    above = λ l. sum_most g none s limit (omega (arith, e, stays));
-  }
+  pub given_up : {limit r : ℕ} → r ≡ sum → limit < r → UpTo limit whole None
+  given_up {limit} {r} e h = sum_most g none s limit (omega (arith, e, stays))
 
   most : whole ≤ suc cap
   most = subst (λ n. n ≤ suc cap) s.along.counted (capped_most _)
 
   -- or once it is cut.
-  pub given_cut : {limit r : ℕ} → r ≡ sum → cap < sum → r ≤ limit → UpTo limit whole r
-  given_cut {limit} {r} e h l = record {
-    exact = λ z. omega (arith, e, most, sum_most g none s cap (omega (arith, stays)), capped_most sum, stays);
-    above = λ z. absurd (omega arith);
-  }
+  pub given_cut : {limit r : ℕ} → r ≡ sum → cap < sum → r ≤ limit → UpTo limit whole (Some r)
+  given_cut {limit} {r} e h l = (omega (arith, e, most, sum_most g none s cap (omega (arith, stays)), capped_most sum, stays), l)
 
-pub given_whole : {limit whole r : ℕ} → r ≡ whole → UpTo limit whole r
-given_whole e = record { exact = λ l. e; above = λ l. omega (arith, e) }
+pub given_whole : {limit whole r : ℕ} → r ≡ whole → r ≤ limit → UpTo limit whole (Some r)
+given_whole e l = (e, l)

@@ -22,33 +22,23 @@ pub fn spoiled(s: State) -> Count
     requires { Balanced s }
     ensures { number result ≡ capped (shares_from s).e }
 {
-    let n = s.n as u64;
-    let p = s.p as u64;
-    let a = s.a;
-    let b = s.b;
-    let stands = s.stands;
-    match stands {
+    match s.stands {
         Stands::Out => Count::ZERO,
-        Stands::On(w) => over_difference(n, w as u64, a),
-        Stands::Off(w) => over_difference(p, w as u64, b),
+        Stands::On(w) => over_difference(s.n as u64, w as u64, s.a),
+        Stands::Off(w) => over_difference(s.p as u64, w as u64, s.b),
     }
 }
 
-// Whether e of a rule in this state is past the cap for sure, told without a binomial.
-// One function for this and `spoiled`, over what is asked of a side, has a longer contract than the two matches.
+// Whether e of a rule in this state is past the cap for sure, told without a binomial. This matches as `spoiled` and `mending::mends` do, each to ask
+// something else of a side: a function of the side alone would hand out its three numbers in an `Option`, which each of them would match again.
 fn surely_past(s: State) -> bool
     requires { Balanced s }
     ensures { result ≡ true → cap < (shares_from s).e }
 {
-    let n = s.n as u64;
-    let p = s.p as u64;
-    let a = s.a;
-    let b = s.b;
-    let stands = s.stands;
-    match stands {
+    match s.stands {
         Stands::Out => false,
-        Stands::On(w) => over_surely_past(n, w as u64, a),
-        Stands::Off(w) => over_surely_past(p, w as u64, b),
+        Stands::On(w) => over_surely_past(s.n as u64, w as u64, s.a),
+        Stands::Off(w) => over_surely_past(s.p as u64, w as u64, s.b),
     }
 }
 
@@ -68,13 +58,15 @@ fn cut_at_last(run: &Run<'_, '_>) -> bool
 
 // What a group counts, and where it ends.
 #[derive(Clone, Copy)]
-pub struct Step {
-    pub count: Count,
+pub struct Step<T> {
+    pub count: T,
     pub next: usize,
 }
 
 // A clause of one rule counts nothing where the rule is not spoiled, one of several where it does not break: no binomial is worked out there.
-fn count_at(run: &Run<'_, '_>, k: usize) -> Step
+// `freely::passed` and `counts::turn_at` go on to the next group as this does, and each asks something else of a rule and of a group: one function over two
+// closures would say of both what each of the three now says in a line.
+fn count_at(run: &Run<'_, '_>, k: usize) -> Step<Count>
     requires { Starts run.now k }
     ensures { Stepped (clause_break (bits run.now) run.now.x) run.now k result }
 {
@@ -105,26 +97,26 @@ fn count_at(run: &Run<'_, '_>, k: usize) -> Step
     }
 }
 
-// The break count of the variable where it is no more than a limit, else some number above the limit.
-pub fn break_of(run: &Run<'_, '_>, limit: u64) -> u64
+// The break count of the variable where it is no more than a limit. The place goes from group to group, as far as each is long, so that no `for` counts it.
+pub fn break_of(run: &Run<'_, '_>, limit: u64) -> Option<u64>
     ensures { UpTo limit (capped_break (plan run.now) (bits run.now) run.now.x) result }
 {
     if cut_at_last(run) {
-        return Count::CUT.rank();
+        let cut = Count::CUT.rank();
+        return (cut <= limit).then_some(cut);
     }
     let mut sum = Count::ZERO;
     let mut k = run.first;
     while k < run.end {
         let t = count_at(run, k);
-        let count = t.count;
-        sum = sum + count;
+        sum = sum + t.count;
         if limit < sum.rank() {
-            return sum.rank();
+            return None;
         }
         if sum.cut {
-            return sum.rank();
+            return Some(sum.rank());
         }
         k = t.next;
     }
-    sum.rank()
+    Some(sum.rank())
 }

@@ -10,7 +10,7 @@ use Rattle.recount.proofs.Laid.{parts}
 use Rattle.words.specs.Words.{word_at}
 use Rattle.format.specs.Layout.{holding_at}
 use Rattle.effects.proofs.Runs.{run_inside}
-use Rattle.groups.proofs.Runs.{opening, opened, group_stretch}
+use Rattle.groups.proofs.Runs.{opened, group_stretch}
 use Rattle.groups.proofs.Stretch.{holding_word}
 use Rattle.freely.proofs.Free.{single_spoils, single_group}
 use Rattle.mending.proofs.Mending.{clause_held}
@@ -18,15 +18,6 @@ use Rattle.counts.proofs.idle_at.Goals as goal
 
 none : (n : ℕ) → ltb 0 n ≡ false → n ≡ 0
 none n h = omega (arith, ltb-false 0 n h)
-
-pub has_several-requires : goal.has_several-requires
-has_several-requires c = opening c.args.run.now c.requires.begins
-
-pub spoils_at-requires : goal.spoils_at-requires
-spoils_at-requires c = opening c.args.run.now c.requires.begins
-
-pub clause_at-requires : goal.clause_at-requires
-clause_at-requires c = opening c.args.run.now c.requires.begins
 
 pub overflow_add-clause_at : goal.overflow_add-clause_at
 overflow_add-clause_at c =

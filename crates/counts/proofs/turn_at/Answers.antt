@@ -6,22 +6,10 @@ use Rattle.plpb.specs.Count.{capped}
 use Rattle.plpb.proofs.Capped.{capped_zero}
 use Rattle.effects.proofs.Runs.{run_inside}
 use Rattle.effects.proofs.Places.{place_few}
-use Rattle.groups.proofs.Runs.{opening, opened}
+use Rattle.groups.proofs.Runs.{opened}
 use Rattle.freely.proofs.Free.{single_group}
 use Rattle.spoiling.proofs.Counting.{single_count, single_mend, shares_break, shares_make}
 use Rattle.counts.proofs.turn_at.Goals as goal
-
-pub has_several-requires : goal.has_several-requires
-has_several-requires c = opening c.args.run.now c.requires.begins
-
-pub state_at-s-requires : goal.state_at-s-requires
-state_at-s-requires c = opening c.args.run.now c.requires.begins
-
-pub spoiled-requires : goal.spoiled-requires
-spoiled-requires c = c.state_at-s.ensures.balanced
-
-pub mended-requires : goal.mended-requires
-mended-requires c = c.state_at-s.ensures.balanced
 
 pub overflow_add-result : goal.overflow_add-result
 overflow_add-result c = omega (arith, place_few (opened c.args.run.now c.requires.begins))
@@ -46,9 +34,6 @@ returns-then-group_idle c =
       makes = sym (ap capped idle.mends_none ∙ capped_zero);
       ends = e.3;
     }
-
-pub shares_along-t-requires : goal.shares_along-t-requires
-shares_along-t-requires c = let e = c.at-group.ensures in record { places = rw (e.0, e.1, e.2, e.3) c.requires.places }
 
 pub returns : goal.returns
 returns c =

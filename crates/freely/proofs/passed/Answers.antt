@@ -4,15 +4,9 @@ use mathlib.Core.Path.{sym, ap, ◌∙◌}
 use Rattle.std.specs.Prelude.{Some, None}
 use Rattle.effects.proofs.Runs.{run_inside}
 use Rattle.effects.proofs.Places.{place_few}
-use Rattle.groups.proofs.Runs.{opening, opened}
+use Rattle.groups.proofs.Runs.{opened}
 use Rattle.freely.proofs.Free.{single_spoils, single_group, pick_first, pick_second}
 use Rattle.freely.proofs.passed.Goals as goal
-
-pub has_several-requires : goal.has_several-requires
-has_several-requires c = opening c.args.run.now c.requires
-
-pub spoils_at-requires : goal.spoils_at-requires
-spoils_at-requires c = opening c.args.run.now c.requires
 
 pub overflow_add-result : goal.overflow_add-result
 overflow_add-result c = omega (arith, place_few (opened c.args.run.now c.requires))
@@ -27,13 +21,3 @@ returns-then-not-has_several c =
     let one = sym c.has_several.ensures ∙ c.if-not-has_several.true in
     pick_second None (single_spoils (opened c.args.run.now g) one ∙ sym c.spoils_at.ensures ∙ c.if-spoils_at.false)
     (ap (λ j. Some j) (sym (single_group g (omega (arith, g.last, run_inside c.args.run.now.going)) one)))
-
-pub returns-then-breaks : goal.returns-then-breaks
-returns-then-breaks c =
-    let e = c.at-group.ensures in
-    pick_first None _ (rw (e.0, e.1) at (sym c.breaks.ensures ∙ c.if-breaks.true))
-
-pub returns : goal.returns
-returns c =
-    let e = c.at-group.ensures in
-    pick_second None (rw (e.0, e.1) at (sym c.breaks.ensures ∙ c.if-breaks.false)) (ap (λ j. Some j) e.3)

@@ -1,33 +1,31 @@
--- `group_end` meets its contract: the places of the clause go on, or end.
+-- `group_end` meets its contract: the first place of another clause is found, or the run ends.
 -- Assumes nothing.
 use Prim.Native.Nat.{◌+◌}
 use native.Mathlib.Omega.{arith}
-use mathlib.Core.Path.{◌≡◌, refl, sym, ap, ◌∙◌}
+use mathlib.Core.Bool.{not}
+use mathlib.Core.Path.{refl, sym, ap, ◌∙◌}
+use lib.Dec.{eqb}
+use borrow.Author.Rules.{rules}
+use borrow.Author.Tests.{tests}
+use Rattle.std.specs.Option.{unwrap_or}
+use Rattle.std.proofs.lemmas.Iterator.{YieldsList-from_range}
+use Rattle.std.proofs.lemmas.Iterator.Adapters.{option_map_id}
+use Rattle.std.proofs.lemmas.Iterator.Search.{find_from_yields_List}
 use Rattle.order.specs.Order.{order, run_end, cut}
 use Rattle.order.specs.Blocks.{same_clause}
+use Rattle.effects.specs.Kept.{place_at}
 use Rattle.effects.specs.Run.{plan}
-use Rattle.groups.proofs.Stretch.{same_more, same_stops, same_ends}
+use Rattle.groups.proofs.Stretch.{first_other}
 use Rattle.groups.proofs.group_end.Goals as goal
-
-pub loop-j-init : goal.loop-j-init
-loop-j-init c = (omega arith, omega (arith, c.requires.1), refl)
-
-pub loop-j-preserved : goal.loop-j-preserved
-loop-j-preserved c =
-    let r = c.args.run.now in
-    let i = c.loop-j.invariant in
-    (omega (arith, i.0), omega (arith, c.loop-j-test.true), same_more r.going c.loop-j.j c.clause_at-c.result (omega (arith, c.loop-j-test.true, r.ends)) (sym c.clause_at.ensures ∙ c.if-clause_at-c.false) ∙ i.2)
-
-pub returns-then-clause_at-c : goal.returns-then-clause_at-c
-returns-then-clause_at-c c =
-    let r = c.args.run.now in
-    same_stops r.going c.loop-j.j c.clause_at-c.result (omega (arith, c.loop-j-test.true, r.ends)) (λ e. c.if-clause_at-c.true (c.clause_at.ensures ∙ e))
-    ∙ c.loop-j.invariant.2 ∙ ap (λ d. c.args.k + same_clause d (cut c.args.k (run_end (plan r) r.x) (order (plan r)))) c.clause_at-c.ensures
 
 pub returns : goal.returns
 returns c =
     let r = c.args.run.now in
-    let i = c.loop-j.invariant in
-    let all : r.end ≡ c.loop-j.j = omega (arith, i.1, c.loop-j-test.false) in
-    all ∙ same_ends r.going c.loop-j.j c.clause_at-c.result (omega (arith, c.loop-j-test.false, r.ends))
-    ∙ i.2 ∙ ap (λ d. c.args.k + same_clause d (cut c.args.k (run_end (plan r) r.x) (order (plan r)))) c.clause_at-c.ensures
+    let d = c.clause_at-c.result in
+    c.unwrap_or.ensures
+    ∙ ap (λ o. unwrap_or o r.end)
+    (sym (option_map_id c.find.result)
+    ∙ find_from_yields_List (λ j. not (eqb (place_at r.footing.tables.now r.footing.terms.now j).clause d)) _ _ c.find.result c.find.ensures.ran
+    (YieldsList-from_range c.args.k r.end _ refl refl) (λ i b q e. search (rules, tests)))
+    ∙ first_other r.going d r.end r.ends _ c.args.k refl (omega (arith, c.requires))
+    ∙ ap (λ d. c.args.k + same_clause d (cut c.args.k (run_end (plan r) r.x) (order (plan r)))) c.clause_at-c.ensures

@@ -1,5 +1,5 @@
--- `shares_along` meets its contract. The invariant: the shares of the rules before r are joined, and the places from i on are those of the rules from r on.
--- The measure is what is left.
+-- `shares_along` meets its contract. The invariant: the shares of the rules before the next are joined, and the places from i on are those of the rules from
+-- it on.
 -- Assumes nothing.
 use Prim.Native.Nat.{suc}
 use mathlib.Core.Path.{◌≡◌}
@@ -12,4 +12,5 @@ use Rattle.joining.proofs.shares_along.Given as goal
 abbrev pub invariant-loop-r : goal.invariant-loop-r
 invariant-loop-r l =
     let g = l.group in
-    Joined (plan g) (bits g) g.run.now.x g.clause g.first g.end l.r l.i (shares_in l.shares) × (l.end ≡ first_rule (plan g).clauses (suc g.clause))
+    let rest = l.r-iterator in
+    Joined (plan g) (bits g) g.run.now.x g.clause g.first g.end rest.start l.i (shares_in l.shares) × (rest.end ≡ first_rule (plan g).clauses (suc g.clause))

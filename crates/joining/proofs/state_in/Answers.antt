@@ -18,8 +18,5 @@ pub returns : goal.returns
 returns c =
     told_state c.args.group.now.run.now.going.kept (merging_below c.requires) (sym (standing_out _ c.args.group.now.run.now.x _ (sym c.is_at.ensures ∙ c.if-is_at.false))) c.told.ensures
 
-pub is_at-requires : goal.is_at-requires
-is_at-requires c = c.requires
-
 pub told-requires : goal.told-requires
 told-requires c = (rule_countable c.args.group.now.run.now.going.kept (merging_below c.requires), c.args.group.now.run.now.going.kept.sized.room)

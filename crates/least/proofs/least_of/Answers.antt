@@ -2,20 +2,19 @@
 -- Assumes nothing.
 use Prim.Native.Nat.{ℕ, suc, ◌+◌, ◌-◌, ◌≤◌, ◌<◌}
 use native.Mathlib.Omega.{arith}
-use mathlib.Core.Path.{◌≡◌, refl}
+use mathlib.Core.Path.{◌≡◌, refl, sym, ◌∙◌}
 use mathlib.Core.List.{List, []}
 use lib.ListN.{length, get_or, take, length-take}
-use lib.Seq.{take_all}
 use Rattle.plpb.specs.Count.{cap, capped_break}
-use Rattle.plpb.specs.Choice.{choosable, least_break, with_break}
+use Rattle.plpb.specs.Choice.{choosable}
 use Rattle.words.specs.Words.{word_at}
 use Rattle.format.specs.Tables.{plan_of_tables}
 use Rattle.columns.specs.Layout.{list_at}
 use Rattle.columns.specs.Columns.{terms_ahead}
 use Rattle.effects.specs.Kept.{lent_bits}
 use Rattle.effects.specs.declared.footing.Footing.{Footing}
-use Rattle.picks.specs.Picks.{Picked, Pickable, Triable}
-use Rattle.picks.proofs.Noting.{listed, with_fewer, list_few, list_here, list_triable}
+use Rattle.picks.specs.Picks.{Pickable, Triable}
+use Rattle.picks.proofs.Noting.{listed, with_fewer, list_few, list_here, list_triable, pickable}
 use Rattle.least.specs.declared.Best.{Best}
 use Rattle.least.specs.Best.{Offered}
 use Rattle.least.proofs.Leading.{Leading, leading_none, leading_next}
@@ -45,36 +44,28 @@ module _ {q : Footing} {s : List ℕ} {c : ℕ} (k : Pickable q s c) {first end 
         let inside : j < length xs = omega (arith, f) in
         rw next (leading_next (plan_of_tables q.tables.now q.terms.now) (lent_bits q.tables.now q.terms.now q.assignment.now) xs j inside d (omega (arith, few, inside, list_few k)) (rw here at o))
 
-  whole : {t : List ℕ} {i : ℕ} {b : Best} → end ≤ i → Leading (plan_of_tables q.tables.now q.terms.now) (lent_bits q.tables.now q.terms.now q.assignment.now) (take (i - first) xs) s t b → Picked (with_break (plan_of_tables q.tables.now q.terms.now) (lent_bits q.tables.now q.terms.now q.assignment.now) (least_break (plan_of_tables q.tables.now q.terms.now) (lent_bits q.tables.now q.terms.now q.assignment.now) xs) xs) s t b.count
-  whole {t} {i} {b} h d =
-      let all : Leading (plan_of_tables q.tables.now q.terms.now) (lent_bits q.tables.now q.terms.now q.assignment.now) xs s t b = rw (take_all (i - first) xs (omega (arith, f))) at d in
-      rw (← all.least) all.picked
-
 -- No count is found yet: the start is above all.
 above_all : 4_294_967_296 ≡ suc cap
 unfolding cap
 above_all = refl
 
-pub list_of-list-requires : goal.list_of-list-requires
-list_of-list-requires c = let e = c.plan.ensures in rw (e.0, e.1) (c.requires.there, c.requires.listed)
-
 pub loop-i-init : goal.loop-i-init
-loop-i-init c = let l = listed c.args.footing.now c.args.c c.plan.ensures c.list_of-list.ensures in (omega arith, omega (arith, l.1), start c.requires l.0 l.1 above_all refl)
+loop-i-init c =
+    let l = listed c.args.choice.now.footing c.args.choice.now.clause c.plan.ensures (rw (sym c.into_iter-i-iterator.ensures.into_iter_gives) at c.list_of-i-items.ensures) in
+    (omega arith, omega (arith, l.1), refl, start (pickable c.args.choice.now c.requires) l.0 l.1 above_all refl)
 
 pub offer-best-requires : goal.offer-best-requires
 offer-best-requires c =
     let i = c.loop-i.invariant in
-    let l = listed c.args.footing.now c.args.c c.plan.ensures c.list_of-list.ensures in
-    ready c.requires l.0 l.1 i.0 c.loop-i-test.true i.2
+    let n = c.in-Some.ensures.steps.1 in
+    let l = listed c.args.choice.now.footing c.args.choice.now.clause c.plan.ensures (rw (sym c.into_iter-i-iterator.ensures.into_iter_gives) at c.list_of-i-items.ensures) in
+    let high : c.loop-i.i-iterator.start < c.into_iter-i-iterator.result.end = omega (arith, n.0, i.2) in
+    rw n.1 (ready (pickable c.args.choice.now c.requires) l.0 l.1 i.0 high i.3)
 
 pub loop-i-preserved : goal.loop-i-preserved
 loop-i-preserved c =
     let i = c.loop-i.invariant in
-    let l = listed c.args.footing.now c.args.c c.plan.ensures c.list_of-list.ensures in
-    (omega (arith, i.0), omega (arith, c.loop-i-test.true), again c.requires l.0 l.1 i.0 c.loop-i-test.true i.2 c.offer-best.ensures)
-
-pub shape_of-marks : goal.shape_of-marks
-shape_of-marks c = c.loop-i.invariant.2.picked.noted.size
-
-pub returns : goal.returns
-returns c = let l = listed c.args.footing.now c.args.c c.plan.ensures c.list_of-list.ensures in whole c.requires l.0 l.1 c.loop-i-test.false c.loop-i.invariant.2
+    let n = c.in-Some.ensures.steps.1 in
+    let l = listed c.args.choice.now.footing c.args.choice.now.clause c.plan.ensures (rw (sym c.into_iter-i-iterator.ensures.into_iter_gives) at c.list_of-i-items.ensures) in
+    let high : c.loop-i.i-iterator.start < c.into_iter-i-iterator.result.end = omega (arith, n.0, i.2) in
+    (omega (arith, i.0, n.2), omega (arith, c.in-Some.ensures.steps.0, n.0, n.2), c.in-Some.ensures.steps.0 ∙ i.2, rw n.2 (again (pickable c.args.choice.now c.requires) l.0 l.1 i.0 high i.3 (rw n.1 at c.offer-best.ensures)))

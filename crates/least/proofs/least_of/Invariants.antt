@@ -1,12 +1,15 @@
 -- `least_of` meets its contract. The invariant: those of the first variables listed that have their least count are picked.
 -- Assumes nothing.
 use Prim.Native.Nat.{◌-◌, ◌≤◌}
+use mathlib.Core.Path.{◌≡◌}
 use lib.ListN.{take}
-use Rattle.effects.specs.Footing.{plan_on, bits_on}
-use Rattle.picks.specs.Picks.{of_clause}
+use Rattle.picks.specs.Choice.{plan, bits, variables}
 use Rattle.least.proofs.Leading.{Leading}
 use Rattle.least.proofs.least_of.Given as goal
 
 abbrev pub invariant-loop-i : goal.invariant-loop-i
 invariant-loop-i l =
-    (l.initial.i ≤ l.i) × (l.i ≤ l.i-end) × Leading (plan_on l.footing) (bits_on l.footing) (take (l.i - l.initial.i) (of_clause l.footing l.c)) l.initial.marks l.marks l.best
+    let list = l.initial.i-iterator in
+    let rest = l.i-iterator in
+    (list.start ≤ rest.start) × (rest.start ≤ rest.end) × (rest.end ≡ list.end)
+    × Leading (plan l.choice) (bits l.choice) (take (rest.start - list.start) (variables l.choice)) l.initial.marks l.marks l.best

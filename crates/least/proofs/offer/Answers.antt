@@ -13,7 +13,7 @@ use Rattle.effects.proofs.Visits.{going_on}
 use Rattle.picks.specs.Picks.{Triable}
 use Rattle.least.specs.declared.Best.{Best}
 use Rattle.least.specs.Best.{place_for}
-use Rattle.least.proofs.Leading.{offered_above, offered_in, offered_same, place_few}
+use Rattle.least.proofs.Leading.{offered_in, offered_same, place_few}
 use Rattle.least.proofs.offer.Goals as goal
 
 -- The variable is one of the plan's,
@@ -24,38 +24,16 @@ few y e = omega (arith, e, going_few (going_on _ y.run))
 low : (n : ℕ) {at : ℕ} (b : Best) → at ≡ place_for n b → b.count < 512 → at < 512
 low n b e h = omega (arith, e, place_few n b, h)
 
-pub returns-then-best-n : goal.returns-then-best-n
-returns-then-best-n c =
-    let p = plan_on c.args.footing.now in
-    let a = bits_on c.args.footing.now in
-    let e = c.of-run.ensures in
-    let d = rw (e.0, e.2) at c.break_of-n.ensures in
-    offered_same p a c.index-x.ensures
-    (offered_above _ _ c.args.best _ (d.above c.if-best-n.true))
-
-pub shape_of-marks : goal.shape_of-marks
-shape_of-marks c =
-    (word_wrote (1_152 + c.place_for-at.result) c.narrow.result c.args.marks.now _ (omega (arith, low _ c.args.best c.place_for-at.ensures c.requires.few, c.requires.run.weighed.room)) (omega (arith, c.narrow.ensures, few c.requires c.index-x.ensures)) c.write_word.ensures).size
-
 pub returns : goal.returns
 returns c =
     let p = plan_on c.args.footing.now in
     let a = bits_on c.args.footing.now in
     let e = c.of-run.ensures in
-    let d = rw (e.0, e.2) at c.break_of-n.ensures in
-    let exact = d.exact c.if-best-n.false in
+    let d = rw (e.0, e.2) at c.in-Some.ensures in
+    let exact = d.0 in
     let wrote = word_wrote (1_152 + c.place_for-at.result) c.narrow.result c.args.marks.now _ (omega (arith, low _ c.args.best c.place_for-at.ensures c.requires.few, c.requires.run.weighed.room)) (omega (arith, c.narrow.ensures, few c.requires c.index-x.ensures)) c.write_word.ensures in
     offered_same p a c.index-x.ensures
-    (offered_in (omega (arith, exact, c.if-best-n.false)) (c.place_for-at.ensures ∙ ap (λ n. place_for n c.args.best) exact) c.requires.few c.requires.run.weighed.room wrote c.narrow.ensures exact refl)
-
-pub index-x-requires : goal.index-x-requires
-index-x-requires c = c.requires.inside
-
-pub of-run-requires : goal.of-run-requires
-of-run-requires c = rw c.index-x.ensures c.requires.run
-
-pub shape_of-marks-then-best-n : goal.shape_of-marks-then-best-n
-shape_of-marks-then-best-n c = refl
+    (offered_in (omega (arith, exact, d.1)) (c.place_for-at.ensures ∙ ap (λ n. place_for n c.args.best) exact) c.requires.few c.requires.run.weighed.room wrote c.narrow.ensures exact refl)
 
 pub overflow_add-at : goal.overflow_add-at
 overflow_add-at c = omega (arith, low _ c.args.best c.place_for-at.ensures c.requires.few)

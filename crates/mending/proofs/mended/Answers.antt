@@ -5,8 +5,5 @@ use Rattle.plpb.specs.Count.{capped}
 use Rattle.mending.proofs.Mending.{turned_spoils}
 use Rattle.mending.proofs.mended.Goals as goal
 
-pub spoiled-requires : goal.spoiled-requires
-spoiled-requires c = c.flipped.ensures.balanced
-
 pub returns : goal.returns
 returns c = c.spoiled.ensures ∙ ap capped (turned_spoils c.requires c.flipped.ensures)

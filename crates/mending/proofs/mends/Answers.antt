@@ -1,6 +1,5 @@
 -- `mends` meets its contract: equation (11) is above 0 where the size is reached.
 -- Assumes nothing.
-use native.Mathlib.Omega.{arith}
 use mathlib.Core.Path.{refl, ◌∙◌}
 use Rattle.order.proofs.Groups.{grows}
 use Rattle.plpb.specs.Equations.{shares}
@@ -12,16 +11,8 @@ use Rattle.mending.proofs.mends.Goals as goal
 pub overflow_sub-p : goal.overflow_sub-p
 overflow_sub-p c = on_in_P c.args.s c.requires _ c.in-On.is
 
-pub reached-requires : goal.reached-requires
-reached-requires c =
-    omega (arith, c.requires.small, on_in_P c.args.s c.requires _ c.in-On.is)
-
 pub overflow_sub-n : goal.overflow_sub-n
 overflow_sub-n c = off_in_N c.args.s c.requires _ c.in-Off.is
-
-pub reached-requires-in-Off : goal.reached-requires-in-Off
-reached-requires-in-Off c =
-    omega (arith, c.requires.small, off_in_N c.args.s c.requires _ c.in-Off.is)
 
 pub returns-in-Out : goal.returns-in-Out
 unfolding shares_from shares

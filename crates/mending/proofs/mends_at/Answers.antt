@@ -9,6 +9,3 @@ use Rattle.mending.proofs.mends_at.Goals as goal
 pub returns : goal.returns
 unfolding mends_part
 returns c = c.mends.ensures ∙ ap (λ t. ltb 0 t.f) (shares_rule c.state_at.ensures)
-
-pub mends-requires : goal.mends-requires
-mends-requires c = c.state_at.ensures.balanced

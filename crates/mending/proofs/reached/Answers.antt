@@ -1,14 +1,16 @@
 -- `reached` meets its contract, by cases on the bound.
 -- Assumes nothing.
-use mathlib.Core.Path.{refl}
+use borrow.Author.Rules.{rules}
+use borrow.Author.Tests.{tests}
+use mathlib.Core.Path.{◌≡◌}
 use Rattle.plpb.specs.Lists.{◌and◌}
+use Rattle.counting.specs.Bound.{bound_of}
+use Rattle.counting.proofs.Bounds.{by_bound}
 use Rattle.order.proofs.Groups.{reaches}
 use Rattle.mending.proofs.reached.Goals as goal
 
-pub returns-in-None : goal.returns-in-None
-unfolding reaches
-returns-in-None c = rw c.in-None.is refl
-
-pub returns-in-Some : goal.returns-in-Some
+pub returns : goal.returns
 unfolding reaches ◌and◌
-returns-in-Some c = rw c.in-Some.is refl
+returns c =
+    by_bound (λ b. c.is_some_and.result ≡ reaches c.args.m c.args.w (bound_of b)) c.args.bound c.is_some_and.ensures
+    (λ e. e) (λ k h. search (rules, tests))

@@ -8,15 +8,9 @@ use Rattle.skc.proofs.Choosing.{still_to_choose, listed_after}
 use Rattle.novelty.proofs.Choosing.{by_walk, by_rank, chance_gone, list_within}
 use Rattle.novelty.proofs.choose_novelty.Goals as goal
 
-pub pick-requires : goal.pick-requires
-pick-requires c = (omega arith, omega arith, c.requires.listed)
-
 pub choose_any-requires : goal.choose_any-requires
 choose_any-requires c =
     still_to_choose (noted_self _) (listed_after c.args.numbers.now c.args.used c.pick.ensures c.in_ok-drawn.was) c.requires
-
-pub rank_clause-requires : goal.rank_clause-requires
-rank_clause-requires c = c.requires.pickable
 
 pub choose_ranked-requires : goal.choose_ranked-requires
 choose_ranked-requires c =

@@ -36,28 +36,5 @@ returns c =
     (word_wrote (1_152 + c.args.count) c.narrow.result _ _ (omega (arith, c.requires.few, hint.size, c.requires.run.weighed.room)) (omega (arith, c.narrow.ensures, x.1)) c.write_word.ensures)
     c.requires.few (c.narrow.ensures ∙ c.index-x.ensures)
 
-pub shape_of-marks : goal.shape_of-marks
-shape_of-marks c =
-    let hint = c.is_free.ensures.1 in
-    (word_wrote (1_152 + c.args.count) c.narrow.result _ _ (omega (arith, c.requires.few, hint.size, c.requires.run.weighed.room)) (omega (arith, c.narrow.ensures, (few c.requires c.index-x.ensures).1)) c.write_word.ensures).size ∙ hint.size
-
-pub index-x-requires : goal.index-x-requires
-index-x-requires c = c.requires.inside
-
-pub is_free-requires : goal.is_free-requires
-is_free-requires c = rw c.index-x.ensures c.requires.run
-
-pub shape_of-marks-then-not-is_free : goal.shape_of-marks-then-not-is_free
-shape_of-marks-then-not-is_free c = c.is_free.ensures.1.size
-
-pub overflow_add-count : goal.overflow_add-count
-overflow_add-count c = omega (arith, c.requires.few)
-
 pub narrow-requires : goal.narrow-requires
 narrow-requires c = omega (arith, (few c.requires c.index-x.ensures).1)
-
-pub write_word-requires : goal.write_word-requires
-write_word-requires c = omega (arith, c.requires.few, c.is_free.ensures.1.size, c.requires.run.weighed.room)
-
-pub overflow_add-result : goal.overflow_add-result
-overflow_add-result c = omega (arith, c.requires.few)

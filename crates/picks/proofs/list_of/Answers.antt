@@ -1,14 +1,9 @@
 -- `list_of` meets its contract: the list stands behind the terms before the clause's, and its length beside it.
 -- Assumes nothing.
-use Prim.Native.Nat.{◌+◌}
 use native.Mathlib.Omega.{arith}
-use mathlib.Core.Path.{ap, ◌∙◌}
-use Rattle.columns.specs.Layout.{list_at}
+use mathlib.Core.Path.{◌∙◌}
 use Rattle.picks.proofs.Noting.{clause_low, list_inside}
 use Rattle.picks.proofs.list_of.Goals as goal
-
-pub terms_ahead-start-requires : goal.terms_ahead-start-requires
-terms_ahead-start-requires c = c.requires.0
 
 pub overflow_add-start : goal.overflow_add-start
 overflow_add-start c = omega (arith, c.terms_ahead-start.ensures, list_inside c.args.t.now.laid c.requires.0)
@@ -21,6 +16,3 @@ index-requires c = omega (arith, clause_low c.args.t.now.laid c.requires.0, c.re
 
 pub overflow_add-result : goal.overflow_add-result
 overflow_add-result c = omega (arith, c.terms_ahead-start.ensures, c.index.ensures ∙ (c.requires.1.each _ c.requires.0).counted, list_inside c.args.t.now.laid c.requires.0)
-
-pub returns : goal.returns
-returns c = (ap list_at c.terms_ahead-start.ensures, ap (λ n. list_at c.terms_ahead-start.result + n) (c.index.ensures ∙ (c.requires.1.each _ c.requires.0).counted))

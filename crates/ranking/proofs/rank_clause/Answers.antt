@@ -10,7 +10,7 @@ use Rattle.words.specs.Words.{word_at}
 use Rattle.effects.specs.declared.footing.Footing.{Footing}
 use Rattle.effects.specs.Footing.{HasRun}
 use Rattle.picks.specs.Picks.{of_clause, Pickable, Triable}
-use Rattle.picks.proofs.Noting.{listed, noted_self, list_ends, list_here, list_triable}
+use Rattle.picks.proofs.Noting.{listed, noted_self, list_ends, list_here, list_triable, pickable}
 use Rattle.ranking.proofs.Ranking.{ranks_none}
 use Rattle.ranking.proofs.rank_clause.Invariants.{list_start, from}
 use Rattle.ranking.proofs.rank_clause.Goals as goal
@@ -28,36 +28,42 @@ module _ {q : Footing} {marks : List ℕ} {c : ℕ} (k : Pickable q marks c) {i 
   run = let t : Triable q marks (i - 1) 0 = list_triable k (noted_self marks) refl refl (omega arith) (omega arith) (omega arith) in t.run
 
 pub list_of-list-requires : goal.list_of-list-requires
-list_of-list-requires c = let e = c.plan.ensures in rw (e.0, e.1) (c.requires.there, c.requires.listed)
+list_of-list-requires c = let e = c.plan.ensures in rw (e.0, e.1) (c.args.choice.now.there, c.requires.listed)
 
 pub loop-i-init : goal.loop-i-init
 loop-i-init c =
-    let q = c.args.footing.now in
-    let l = listed q c.args.c c.plan.ensures c.list_of-list.ensures in
-    let all : c.list_of-list.result.end - list_start q c.args.c ≡ length (of_clause q c.args.c) = omega (arith, l.0, l.1) in
-    (omega (arith, l.0, l.1), omega (arith, l.0, l.1), ranks_none _ _ _ (ap (λ n. drop n (of_clause q c.args.c)) all ∙ drop-length (of_clause q c.args.c)) refl refl)
+    let q = c.args.choice.now.footing in
+    let k = c.args.choice.now.clause in
+    let l = listed q k c.plan.ensures c.list_of-list.ensures in
+    let all : c.list_of-list.result.end - list_start q k ≡ length (of_clause q k) = omega (arith, l.0, l.1) in
+    (omega (arith, l.0, l.1), omega (arith, l.0, l.1), ranks_none _ _ _ (ap (λ n. drop n (of_clause q k)) all ∙ drop-length (of_clause q k)) refl refl)
 
 pub word-requires : goal.word-requires
-word-requires c = let k = c.requires in omega (arith, c.loop-i-test.true, list_ends k, k.listed.room, c.loop-i.invariant.1)
+word-requires c =
+    let k = pickable c.args.choice.now c.requires in
+    omega (arith, c.loop-i-test.true, list_ends k, k.listed.room, c.loop-i.invariant.1)
 
 pub standing_of-s-requires : goal.standing_of-s-requires
 standing_of-s-requires c =
-    let l = listed c.args.footing.now c.args.c c.plan.ensures c.list_of-list.ensures in
-    rw c.word.ensures (run c.requires (omega (arith, l.0, c.loop-i-test.true)) c.loop-i.invariant.1)
+    let q = c.args.choice.now in
+    let l = listed q.footing q.clause c.plan.ensures c.list_of-list.ensures in
+    rw c.word.ensures (run (pickable q c.requires) (omega (arith, l.0, c.loop-i-test.true)) c.loop-i.invariant.1)
 
 pub loop-i-preserved : goal.loop-i-preserved
 loop-i-preserved c =
-    let q = c.args.footing.now in
+    let q = c.args.choice.now.footing in
+    let k = c.args.choice.now.clause in
     let i = c.loop-i.invariant in
-    let l = listed q c.args.c c.plan.ensures c.list_of-list.ensures in
-    let some : list_start q c.args.c < c.loop-i.i = omega (arith, l.0, c.loop-i-test.true) in (
+    let l = listed q k c.plan.ensures c.list_of-list.ensures in
+    let some : list_start q k < c.loop-i.i = omega (arith, l.0, c.loop-i-test.true) in (
       omega (arith, some),
       omega (arith, i.1),
-      rw (← next c.requires some i.1, ← c.word.ensures) (c.joined-top.ensures _ _ _ _ _ i.2 c.standing_of-s.ensures),
+      rw (← next (pickable c.args.choice.now c.requires) some i.1, ← c.word.ensures) (c.joined-top.ensures _ _ _ _ _ i.2 c.standing_of-s.ensures),
     )
 
 pub returns : goal.returns
 returns c =
-    let l = listed c.args.footing.now c.args.c c.plan.ensures c.list_of-list.ensures in
-    let z : c.loop-i.i - list_start c.args.footing.now c.args.c ≡ 0 = omega (arith, c.loop-i-test.false, l.0) in
+    let q = c.args.choice.now.footing in
+    let l = listed q c.args.choice.now.clause c.plan.ensures c.list_of-list.ensures in
+    let z : c.loop-i.i - list_start q c.args.choice.now.clause ≡ 0 = omega (arith, c.loop-i-test.false, l.0) in
     rw z at c.loop-i.invariant.2

@@ -6,8 +6,9 @@ use lib.ListN.{length, drop}
 use Rattle.columns.specs.Layout.{list_at}
 use Rattle.columns.specs.Columns.{terms_ahead}
 use Rattle.effects.specs.declared.footing.Footing.{Footing}
-use Rattle.effects.specs.Footing.{plan_on, bits_on}
+use Rattle.effects.specs.Footing.{plan_on}
 use Rattle.picks.specs.Picks.{of_clause}
+use Rattle.picks.specs.Choice.{plan, bits, variables}
 use Rattle.stamps.specs.Stamps.{stamp_in}
 use Rattle.ranking.specs.Ranking.{Ranks}
 use Rattle.ranking.proofs.rank_clause.Given as goal
@@ -21,5 +22,5 @@ from q c i = drop (i - list_start q c) (of_clause q c)
 
 abbrev pub invariant-loop-i : goal.invariant-loop-i
 invariant-loop-i l =
-    (list_start l.footing l.c ≤ l.i) × (l.i ≤ list_start l.footing l.c + length (of_clause l.footing l.c))
-    × Ranks (plan_on l.footing) (bits_on l.footing) (stamp_in l.marks) (from l.footing l.c l.i) l.top
+    (list_start l.choice.footing l.choice.clause ≤ l.i) × (l.i ≤ list_start l.choice.footing l.choice.clause + length (variables l.choice))
+    × Ranks (plan l.choice) (bits l.choice) (stamp_in l.marks) (from l.choice.footing l.choice.clause l.i) l.top

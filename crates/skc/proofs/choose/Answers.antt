@@ -2,17 +2,8 @@
 -- Assumes nothing.
 use native.Mathlib.Omega.{arith}
 use Rattle.picks.proofs.Noting.{noted_more}
-use Rattle.skc.proofs.Choosing.{list_ones, with_ones, picks_pickable, picks_chosen, still_to_choose, free_chosen, noisy_chosen}
+use Rattle.skc.proofs.Choosing.{list_ones, with_ones, picks_chosen, still_to_choose, free_chosen, noisy_chosen}
 use Rattle.skc.proofs.choose.Goals as goal
-
-pub free_of-free-requires : goal.free_of-free-requires
-free_of-free-requires c = c.requires.pickable
-
-pub pick_listed-requires : goal.pick_listed-requires
-pick_listed-requires c =
-    let k = c.requires in
-    let d = c.free_of-free.ensures in
-    picks_pickable k.pickable.listed.room d (omega (arith, d.counted, c.if-free-gt0.true)) k.listed
 
 pub returns-then-free-gt0 : goal.returns-then-free-gt0
 returns-then-free-gt0 c =

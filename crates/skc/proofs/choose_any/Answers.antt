@@ -5,18 +5,12 @@ use Rattle.picks.proofs.Noting.{listed}
 use Rattle.skc.proofs.Choosing.{list_pickable, list_chosen}
 use Rattle.skc.proofs.choose_any.Goals as goal
 
-pub list_of-list-requires : goal.list_of-list-requires
-list_of-list-requires c = let e = c.plan.ensures in let k = c.requires.pickable in rw (e.0, e.1) (k.there, k.listed)
-
-pub overflow_sub-list : goal.overflow_sub-list
-overflow_sub-list c = omega (arith, c.list_of-list.ensures.1)
-
 pub pick_listed-requires : goal.pick_listed-requires
 pick_listed-requires c =
-    let l = listed c.args.footing.now c.args.c c.plan.ensures c.list_of-list.ensures in
+    let l = listed c.args.choice.now.footing c.args.choice.now.clause c.plan.ensures c.list_of-list.ensures in
     list_pickable c.requires l.0 (omega (arith, l.1))
 
 pub returns : goal.returns
 returns c =
-    let l = listed c.args.footing.now c.args.c c.plan.ensures c.list_of-list.ensures in
+    let l = listed c.args.choice.now.footing c.args.choice.now.clause c.plan.ensures c.list_of-list.ensures in
     list_chosen c.requires l.0 (omega (arith, l.1)) c.pick_listed.ensures

@@ -3,13 +3,10 @@
 use Rattle.skc.proofs.Choosing.{list_ones, with_ones, picks_pickable, picks_chosen, least_some}
 use Rattle.skc.proofs.choose_least.Goals as goal
 
-pub least_of-few-requires : goal.least_of-few-requires
-least_of-few-requires c = c.requires.pickable
-
 pub pick_listed-requires : goal.pick_listed-requires
 pick_listed-requires c =
     let k = c.requires in
-    picks_pickable k.pickable.listed.room c.least_of-few.ensures (least_some _ _ _ k.some) k.listed
+    picks_pickable k.marked.listed.room c.least_of-few.ensures (least_some _ _ _ k.some) k.listed
 
 pub returns : goal.returns
 returns c =

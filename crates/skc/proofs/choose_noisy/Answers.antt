@@ -1,13 +1,9 @@
 -- `choose_noisy` meets its contract, by the number drawn for the noise.
 -- Assumes nothing.
-use native.Mathlib.Omega.{arith}
 use Rattle.picks.proofs.Noting.{noted_self}
 use Rattle.numbers.proofs.Taking.{handed_on}
 use Rattle.skc.proofs.Choosing.{still_to_choose, listed_after, by_least, by_any, noisy_gone}
 use Rattle.skc.proofs.choose_noisy.Goals as goal
-
-pub pick-requires : goal.pick-requires
-pick-requires c = (omega arith, omega arith, c.requires.listed)
 
 pub choose_least-requires : goal.choose_least-requires
 choose_least-requires c =

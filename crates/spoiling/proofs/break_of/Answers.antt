@@ -26,7 +26,7 @@ module _ (r : Run) {k sum : ℕ} (s : Summing (plan r) r.x (clause_break (bits r
   starts : Starts r k
   starts = sum_starts r (no_break (bits r) r.x) s h
 
-  module _ {t : Step} (d : Stepped (clause_break (bits r) r.x) r k t) {next : ℕ} (f : next ≡ capped (sum + number t.count)) where
+  module _ {t : Step Count} (d : Stepped (clause_break (bits r) r.x) r k t) {next : ℕ} (f : next ≡ capped (sum + number t.count)) where
     goes : Summing (plan r) r.x (clause_break (bits r) r.x) (capped_break (plan r) (bits r) r.x) t.next next
     goes = sum_next r.going (no_break (bits r) r.x) s here d.ends d.counted f
 
@@ -39,13 +39,10 @@ module _ (r : Run) {k sum : ℕ} (s : Summing (plan r) r.x (clause_break (bits r
 cut_large : (c : Count) → c.cut ≡ true → cap < number c
 cut_large c e = rw e (omega arith)
 
-pub returns-then-cut_at_last : goal.returns-then-cut_at_last
-returns-then-cut_at_last c = given_whole (c.rank.ensures.0 ∙ c.cut_at_last.ensures c.if-cut_at_last.true)
-
 pub loop-k-init : goal.loop-k-init
 loop-k-init c =
     let r = c.args.run.now in
-    (rw (break_counted r.going, ← r.begins) at (sum_start r.going (clause_break (bits r) r.x)), capped_zero)
+    (rw (break_counted r.going, ← r.begins) at (sum_start r.going (clause_break (bits r) r.x)), capped_zero, omega arith)
 
 pub count_at-t-requires : goal.count_at-t-requires
 count_at-t-requires c = starts c.args.run.now c.loop-k.invariant.0 c.loop-k-test.true
@@ -56,7 +53,7 @@ returns-then-limit-rank c =
     let s = c.loop-k.invariant.0 in
     let h = c.loop-k-test.true in
     given_up r.going (no_break _ r.x) (goes r s h c.count_at-t.ensures c.add-sum.ensures) (stays r s h c.count_at-t.ensures c.add-sum.ensures)
-    c.rank-then-limit-rank.ensures.0 (omega (arith, c.rank-then-limit-rank.ensures.0, c.rank-in-loop-k.ensures.0, c.if-limit-rank.true))
+    c.rank.ensures.0 c.if-limit-rank.true
 
 pub returns-then-sum : goal.returns-then-sum
 returns-then-sum c =
@@ -64,7 +61,7 @@ returns-then-sum c =
     let s = c.loop-k.invariant.0 in
     let h = c.loop-k-test.true in
     given_cut r.going (no_break _ r.x) (goes r s h c.count_at-t.ensures c.add-sum.ensures) (stays r s h c.count_at-t.ensures c.add-sum.ensures)
-    c.rank-then-sum.ensures.0 (cut_large c.add-sum.result c.if-sum.true) (omega (arith, c.rank-then-sum.ensures.0, c.rank-in-loop-k.ensures.0, c.if-limit-rank.false))
+    c.rank-then-sum.ensures.0 (cut_large c.add-sum.result c.if-sum.true) (omega (arith, c.rank-then-sum.ensures.0, c.rank.ensures.0, c.if-limit-rank.false))
 
 pub loop-k-smaller : goal.loop-k-smaller
 loop-k-smaller c =
@@ -76,10 +73,10 @@ loop-k-preserved c =
     let r = c.args.run.now in
     let s = c.loop-k.invariant.0 in
     let h = c.loop-k-test.true in
-    (goes r s h c.count_at-t.ensures c.add-sum.ensures, stays r s h c.count_at-t.ensures c.add-sum.ensures)
+    (goes r s h c.count_at-t.ensures c.add-sum.ensures, stays r s h c.count_at-t.ensures c.add-sum.ensures, omega (arith, c.rank.ensures.0, c.if-limit-rank.false))
 
 pub returns : goal.returns
 returns c =
     let r = c.args.run.now in
     let i = c.loop-k.invariant in
-    given_whole (c.rank-2.ensures.0 ∙ sym i.1 ∙ sum_end_lem r.going (no_break _ r.x) i.0 (omega (arith, c.loop-k-test.false, r.ends)))
+    given_whole (c.rank-2.ensures.0 ∙ sym i.1 ∙ sum_end_lem r.going (no_break _ r.x) i.0 (omega (arith, c.loop-k-test.false, r.ends))) (omega (arith, c.rank-2.ensures.0, i.2))

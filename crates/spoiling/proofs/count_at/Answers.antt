@@ -8,14 +8,8 @@ use Rattle.freely.proofs.Free.{single_spoils, single_group, unbroken}
 use Rattle.spoiling.proofs.Counting.{single_count, shares_break}
 use Rattle.spoiling.proofs.count_at.Goals as goal
 
-pub has_several-requires : goal.has_several-requires
-has_several-requires c = opening c.args.run.now c.requires.begins
-
 pub overflow_add-next : goal.overflow_add-next
 overflow_add-next c = omega (arith, place_few (opened c.args.run.now c.requires.begins))
-
-pub spoils_at-requires : goal.spoils_at-requires
-spoils_at-requires c = opening c.args.run.now c.requires.begins
 
 pub returns-then-not-spoils_at : goal.returns-then-not-spoils_at
 returns-then-not-spoils_at c =
@@ -25,12 +19,6 @@ returns-then-not-spoils_at c =
       counted = unbroken _ (single_spoils (opened c.args.run.now g) one ∙ sym c.spoils_at.ensures ∙ c.if-not-spoils_at.true);
       ends = sym (single_group g (omega (arith, g.last, run_inside c.args.run.now.going)) one);
     }
-
-pub state_at-requires : goal.state_at-requires
-state_at-requires c = opening c.args.run.now c.requires.begins
-
-pub spoiled-requires : goal.spoiled-requires
-spoiled-requires c = c.state_at.ensures.balanced
 
 pub returns-then-not-has_several : goal.returns-then-not-has_several
 returns-then-not-has_several c =
@@ -45,9 +33,6 @@ pub returns-then-not-breaks : goal.returns-then-not-breaks
 returns-then-not-breaks c =
     let e = c.at-group.ensures in
     record { counted = unbroken _ (rw (e.0, e.1) at (sym c.breaks.ensures ∙ c.if-not-breaks.true)); ends = e.3 }
-
-pub shares_along-requires : goal.shares_along-requires
-shares_along-requires c = let e = c.at-group.ensures in record { places = rw (e.0, e.1, e.2, e.3) c.requires.places }
 
 pub returns : goal.returns
 returns c =

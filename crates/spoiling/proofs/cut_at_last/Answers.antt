@@ -5,9 +5,6 @@ use Rattle.effects.proofs.Visits.{visited}
 use Rattle.spoiling.proofs.Counting.{single_past}
 use Rattle.spoiling.proofs.cut_at_last.Goals as goal
 
-pub surely_past-requires : goal.surely_past-requires
-surely_past-requires c = c.state_at.ensures.balanced
-
 pub returns : goal.returns
 returns c = λ e.
     let r = c.args.run.now in

@@ -23,6 +23,3 @@ returns-in-On c = rw c.in-On.is c.over_surely_past.ensures
 pub returns-in-Off : goal.returns-in-Off
 unfolding shares_from shares
 returns-in-Off c = rw c.in-Off.is c.over_surely_past-in-Off.ensures
-
-pub returns-in-Out : goal.returns-in-Out
-returns-in-Out c = λ e. absurd (false_T (sym e) tt)

@@ -5,8 +5,5 @@ use mathlib.Core.Bool.{not}
 use Rattle.effects.proofs.After.{fails_by_state}
 use Rattle.effects.proofs.run.Run.fails_at.Goals as goal
 
-pub flipped-after-requires : goal.flipped-after-requires
-flipped-after-requires c = c.state_at.ensures.balanced
-
 pub returns : goal.returns
 returns c = ap not c.holds.ensures ∙ sym (fails_by_state c.state_at.ensures c.flipped-after.ensures)

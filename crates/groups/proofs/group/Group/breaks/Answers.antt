@@ -33,6 +33,3 @@ overflow_add-self c = let g = c.args.self.now in omega (arith, g.whole.clause_th
 
 pub index-holding-requires : goal.index-holding-requires
 index-holding-requires c = let g = c.args.self.now in omega (arith, g.whole.clause_there, (parts _ _ g.run.now.going.kept.ready.laid).clause_count, g.run.now.footing.sized.room)
-
-pub overflow_sub-self : goal.overflow_sub-self
-overflow_sub-self c = omega (arith, c.args.self.now.whole.some)
