@@ -13,11 +13,11 @@ use lib.Dec.{eqb}
 use lib.IntN.{ℤ, pos, negsuc, nat_abs, ◌+ℤ◌, +ℤ_idl, +ℤ_idr, +ℤ_assoc}
 use lib.ListN.{get_or, take, get_or-map}
 use lib.Seq.{get_or-take}
-use lib.Signed.{lt_z}
+use Rattle.std.specs.Int.{int_min}
 use mir.Facts.{to_z-of_z}
 use mir.Syntax.{w64}
 use mir.Val.{SFits, to_z, of_z}
-use borrow.Author.Tests.{ltb-true}
+use borrow.Author.Tests.{lt-ltb}
 use Rattle.plpb.specs.Lists.{keep, row}
 use Rattle.plpb.specs.Plan.{Term, value, total, negative_part}
 use Rattle.words.specs.Words.{word_at, signed}
@@ -160,16 +160,9 @@ least_small tables i h = either (eqb (word_at tables (locks_at + i)) 0) (eqb (wo
     either false true = zero-le
     either false false = h
 
--- What the test `weight < 0` tells.
-pub negative_taken : (w : ℤ) → lt_z w (pos 0) ≡ true → w ≡ negative_part w
+-- The library's lesser of a number and 0 is its negative part.
+pub negative_min : (w : ℤ) → int_min w (pos 0) ≡ negative_part w
 unfolding negative_part
-negative_taken (pos n) h = absurd (none n (ltb-true n 0 h))
-  where
-    none : (n : ℕ) → n < 0 → ⊥
-    none n l = omega arith
-negative_taken (negsuc n) h = refl
-
-pub negative_left : (w : ℤ) → lt_z w (pos 0) ≡ false → pos 0 ≡ negative_part w
-unfolding negative_part
-negative_left (pos n) h = refl
-negative_left (negsuc n) h = absurd (let z : ◌≡◌ {A = ℕ} 0 1 = cc in omega arith)
+negative_min (pos zero) = refl
+negative_min (pos (suc n)) = rw (lt-ltb 0 (suc n) (omega arith))
+negative_min (negsuc n) = refl

@@ -2,7 +2,6 @@
 #![tactic(auto)]
 
 ghost use Rattle.std.specs.Prelude.{◌≡◌, ℕ, ℤ, nat_abs, ◌+◌, ◌*◌, ◌≤◌, ◌<◌, cond, eqb, pos, length};
-ghost use Rattle.plpb.specs.Plan.{negative_part};
 ghost use Rattle.words.specs.Words.{word_at};
 ghost use Rattle.format.specs.Assignment.{bits_of};
 ghost use Rattle.format.specs.Limits.{max_variables, max_weight};
@@ -32,24 +31,19 @@ fn share(tables: &[u8], assignment: &[u8], i: usize) -> i64
     chosen(assignment[i], coefficient(tables, i))
 }
 
-// What it costs at least: its coefficient where that is negative.
-fn negative(weight: i64) -> i64
-    ensures { result ≡ negative_part weight }
-{
-    if weight < 0 { weight } else { 0 }
-}
-
-// .. or what it costs at the value that it is locked at: 0 for free, 1 for locked at 0, 2 for locked at 1, a number of the bytes that C lends.
+// What a coefficient counts in l(O) under the word of its variable's lock: 0 for free, where it counts if it is negative; 1 for locked at 0; 2 for locked at 1.
+// The word is matched here at once: an enum of the three would be made of it by the same match, only to be opened by another.
 fn least_by(lock: usize, weight: i64) -> i64
     ensures { result ≡ least_by lock weight }
 {
     match lock {
-        0 => negative(weight),
+        0 => weight.min(0),
         1 => 0,
         _ => weight,
     }
 }
 
+// What variable i + 1 costs at least.
 fn least(tables: &[u8], i: usize) -> i64
     requires { (i < max_variables) × (table_size ≤ length tables.now) }
     ensures { result ≡ least_at tables.now i }
@@ -61,6 +55,7 @@ fn least(tables: &[u8], i: usize) -> i64
 }
 
 // The sum of what each of n variables counts.
+// The library's `sum` asks beforehand that no sum on the way is too large, which is what the loop's invariant says with the rest.
 fn total<F: Fn(usize) -> i64>(n: usize, part: F) -> i64
     requires few { n ≤ max_variables }
     requires callable { (i : ℕ) → i < n → F.pre part i }
@@ -88,7 +83,7 @@ pub fn cost(tables: &[u8], assignment: &[u8]) -> i64
     )
 }
 
-// l(O)
+// What an assignment that obeys the locks costs at least: l(O).
 pub fn floor_cost(tables: &[u8]) -> i64
     requires { Summable tables.now }
     ensures { result ≡ floor_in tables.now }

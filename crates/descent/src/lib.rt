@@ -10,13 +10,15 @@ ghost use Rattle.settings.specs.Settings.{settings_of, mode_of};
 ghost use Rattle.lending.specs.Work.{work};
 ghost use Rattle.progress.specs.Bounds.{basis, Room, Tracks, UnderBound, Descent};
 
+use moves::Stop;
 use objective::added::set_bound;
 use progress::{Halt, Progress, bound_for, keep_find};
 use recount::tables::Tables;
 use settings::Settings;
-use tries::{Unreached, call};
+use tries::call;
 
-// One call with the added clause O ≤ bound, which replaces the one before.
+// One call with the added clause O ≤ bound, which replaces the one before. A `map` over a closure would carry the two reasons on; its clause would be told of
+// the closure, here it is told of the two arms.
 fn call_under(
     tables: &mut [u8],
     terms: &[u8],
@@ -44,8 +46,8 @@ fn call_under(
             finds: at.finds + 1,
             spent,
         }),
-        Err(Unreached::Failed(spent)) => Err(Halt::Failed(Progress { spent, ..at })),
-        Err(Unreached::Short(spent)) => Err(Halt::Short(Progress { spent, ..at })),
+        Err(Stop::Failed(spent)) => Err(Stop::Failed(Progress { spent, ..at })),
+        Err(Stop::Short(spent)) => Err(Stop::Short(Progress { spent, ..at })),
     }
 }
 

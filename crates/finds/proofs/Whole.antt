@@ -42,13 +42,12 @@ use Rattle.numbers.specs.Numbers.{numbers_of}
 use Rattle.numbers.proofs.Runs.{descending_none, descending_floor, search_none, search_found, search_short}
 use Rattle.std.specs.Prelude.{Result, Ok, Err}
 use Rattle.tries.specs.declared.Spent.{Spent}
-use Rattle.tries.specs.declared.Unreached.{Unreached}
-use Rattle.tries.specs.declared.Unreached.TheVariants as reason
+use Rattle.moves.specs.declared.Stop.TheVariants as reason
 use Rattle.progress.specs.declared.Progress.{Progress}
 use Rattle.progress.specs.declared.Ending.TheVariants as code
 use Rattle.progress.specs.declared.Searched.{Searched}
 use Rattle.lending.specs.Work.{Work, Beyond}
-use Rattle.tries.specs.Steps.{Startable, tried_of, spent_by, IfReached}
+use Rattle.tries.specs.Steps.{Unreached, Startable, tried_of, spent_by, IfReached}
 use Rattle.progress.specs.Bounds.{basis, Bounded, Tracks, Room, Leaves, answer_of, ending_of, Concludes}
 use Rattle.finds.specs.Whole.{with_find, CallsFirst, Copyable, Empty, FirstCall, Roomy, FirstFind, FromFind, Searchable, Unfound, Whole}
 use Rattle.progress.proofs.Bounds.{bounded_basis, front_bits, front_are_bits, front_beyond}

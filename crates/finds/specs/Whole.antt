@@ -17,10 +17,9 @@ use Rattle.progress.specs.declared.Searched.{Searched}
 use Rattle.columns.specs.Layout.{column_size, kept_size}
 use Rattle.format.specs.Assignment.{bit_bytes}
 use Rattle.tries.specs.declared.Spent.{Spent}
-use Rattle.tries.specs.declared.Unreached.{Unreached}
-use Rattle.tries.specs.declared.Unreached.TheVariants as unreached
+use Rattle.moves.specs.declared.Stop.TheVariants as stop
 use Rattle.lending.specs.Work.{Work, Beyond}
-use Rattle.tries.specs.Steps.{Finds, IfReached, Tries, flips_by, tried_of, used_by}
+use Rattle.tries.specs.Steps.{Unreached, Finds, IfReached, Tries, flips_by, tried_of, used_by}
 use Rattle.moves.specs.Moves.{bits_in}
 use Rattle.progress.specs.Bounds.{answer_of}
 
@@ -40,8 +39,8 @@ pub record Unfound (e : EndingOf) (used flips : ℕ) (r : Searched) : Type 0 whe
 -- .. by a first call: it failed, or the numbers were gone before. One that reached an assignment is never asked for it.
 unfoldable pub Empty : Result Spent Unreached → Searched → Type 0
 Empty (Ok t) r = Unfound code.None t.used t.flips r
-Empty (Err (unreached.Failed t)) r = Unfound code.None t.used t.flips r
-Empty (Err (unreached.Short t)) r = Unfound code.ShortNone t.used t.flips r
+Empty (Err (stop.Failed t)) r = Unfound code.None t.used t.flips r
+Empty (Err (stop.Short t)) r = Unfound code.ShortNone t.used t.flips r
 
 -- The walk's buffers have room for any plan.
 pub record Roomy (w : Work) : Type 0 where

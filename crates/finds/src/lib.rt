@@ -4,6 +4,7 @@
 ghost use Rattle.std.specs.Prelude.{Err};
 ghost use Rattle.finds.specs.Whole.{Empty, Unfound};
 
+use moves::Stop;
 use progress::{Ending, Progress, Searched};
 use tries::{Spent, Unreached};
 
@@ -24,12 +25,12 @@ fn without(why: Unreached) -> Searched
     ensures { Empty (Err why) result }
 {
     match why {
-        Unreached::Failed(spent) => empty(Ending::None, spent),
-        Unreached::Short(spent) => empty(Ending::ShortNone, spent),
+        Stop::Failed(spent) => empty(Ending::None, spent),
+        Stop::Short(spent) => empty(Ending::ShortNone, spent),
     }
 }
 
-// The answer of a first call that found nothing. Nobody asks what it is for one that reached an assignment.
+// The answer of a first call that found nothing. The whole result comes as the parameter: a reason alone would be a narrower type, which asks more of callers.
 pub fn nothing(t: Result<Spent, Unreached>) -> Searched
     ensures { Empty t result }
 {

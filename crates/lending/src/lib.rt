@@ -1,5 +1,6 @@
-// What a search tests of what it is lent and set, in the order of document 01: 21, 22, 11, 12, 13, 14; and how it clears what it worked in.
-// The buffers to write come one by one: one is read while another is written, which a struct of them would not let be proved.
+// What a search tests of what it is lent and set, in the order of document 01: 21 for room, 22 for tables that hold no lawful plan, then the settings' own
+// numbers, which are 11 to 14 and behind them 15 and 16 for the choice; and how it clears what it worked in.
+// The buffers to write come one by one, each with its size in the contract, as `search` has them.
 #![tactic(auto)]
 
 ghost use Rattle.std.specs.Prelude.{◌≡◌, ◌++◌, ◌≤◌, length, drop, replicate};
@@ -72,7 +73,8 @@ impl Lent<'_> {
     }
 }
 
-// Fills the first n bytes with 0. A count goes with the slice, because what stands behind them is lent too.
+// Fills the first n bytes with 0. A count goes with the slice, because what stands behind them is lent too. It is a function for its
+// clause, which `clear_work` cites five times.
 pub fn clear_first(s: &mut [u8], n: usize)
     requires { n ≤ length s.old }
     ensures { s.new ≡ replicate n 0 ++ drop n s.old }

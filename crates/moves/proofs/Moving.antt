@@ -34,17 +34,19 @@ use Rattle.words.specs.Writes.{Wrote}
 use Rattle.stamps.specs.Stamps.{stamp_in, Stamped}
 use Rattle.stamps.proofs.Stamping.{stamped_more}
 use Rattle.costs.proofs.Costs.{room_of}
-use Rattle.std.specs.Prelude.{Result, Ok, Err, IsErrAnd}
+use Rattle.std.specs.Prelude.{Option, Some, IsSome, Result, Ok, Err, IsErrAnd}
+use Rattle.std.specs.List.{slice_get}
+use Rattle.std.proofs.lemmas.Option.{slice_get-get_or, get_or_from_slice_get}
+use Rattle.numbers.proofs.Keep.{length_places}
 use Rattle.numbers.specs.declared.Drawn.{Drawn}
 use Rattle.numbers.specs.declared.Short.{Short}
 use Rattle.numbers.specs.Numbers.{numbers_of}
 use Rattle.numbers.specs.Taking.{taken_of}
 use Rattle.numbers.specs.Finding.{zero_words}
 use Rattle.numbers.proofs.Taking.{length_numbers_of, picked_at, picked_short, place_below, pick_uses, pick_gone}
-use Rattle.numbers.proofs.Finding.{clause_found, clause_within}
+use Rattle.numbers.proofs.Finding.{zero_places, clause_found, clause_within}
 use Rattle.numbers.proofs.Runs.{bind_ends, bind_short, pick_from_taken, pick_from_short, empty_by_length, turning_stuck, turning_made, turning_short}
-use Rattle.picking.specs.declared.Chosen.{Chosen}
-use Rattle.picking.specs.Outcome.{outcome_of, used_by, Among, Chooses}
+use Rattle.picking.specs.Outcome.{Chosen, outcome_of, used_by, Among, Chooses}
 use Rattle.columns.specs.Layout.{column_size, kept_size, list_count_at, hint_at, weight_at}
 use Rattle.columns.specs.Columns.{Weighed, Listed}
 use Rattle.columns.proofs.Marks.{Behind, dropped_behind, dropped_more, behind_more, wrote_behind, weighed_behind, listed_behind}
@@ -53,10 +55,9 @@ use Rattle.effects.specs.declared.footing.Footing.{Footing}
 use Rattle.effects.specs.Footing.{plan_on}
 use Rattle.skc.specs.Choosing.{ToChoose}
 use Rattle.picks.specs.Picks.{Noted}
-use Rattle.moves.specs.declared.Unmoved.{Unmoved}
-use Rattle.moves.specs.declared.Unmoved.TheVariants as unmoved
+use Rattle.moves.specs.declared.Stop.TheVariants as stop
 use Rattle.lending.specs.Work.{Work}
-use Rattle.moves.specs.Moves.{bits_in, try_in, Prepared, Walking, moved_of, used_in, IfMade, InClause, Moves}
+use Rattle.moves.specs.Moves.{Unmoved, bits_in, try_in, Prepared, Walking, moved_of, used_in, IfMade, InClause, Moves}
 use Rattle.format.specs.Layout.{clause_room, holding_at, rule_room, unsatisfied_at, stamp_at}
 
 -- The variables that may be chosen are the plan's.
@@ -95,7 +96,7 @@ noted_spared {s} {t} n = record {
 
 module _ {walk : Walk ℕ} {ns : List ℕ} {used n : ℕ} {r : Result Chosen Short} (h : Chooses walk ns used n r) where
   module _ {x : Chosen} (e : r ≡ Ok x) where
-    pub chosen_among : (1 ≤ x.variable) × (x.variable ≤ n)
+    pub chosen_among : (1 ≤ x.value) × (x.value ≤ n)
     unfolding Among
     chosen_among = subst (Among n) e h.among
 
@@ -103,7 +104,7 @@ module _ {walk : Walk ℕ} {ns : List ℕ} {used n : ℕ} {r : Result Chosen Sho
     unfolding used_by
     chosen_uses = let u : used_by r ≡ x.used = ap used_by e in (omega (arith, h.uses), omega (arith, h.within))
 
-    pub chosen_ends : (f : ℕ) (fs : List Assignment) → run walk ns (at used f fs) ≡ ends x.variable (at x.used f fs)
+    pub chosen_ends : (f : ℕ) (fs : List Assignment) → run walk ns (at used f fs) ≡ ends x.value (at x.used f fs)
     unfolding outcome_of
     chosen_ends f fs = h.outcome f fs ∙ ap (λ q. outcome_of q f fs) e
 
@@ -144,7 +145,7 @@ module _ {tables terms : List ℕ} (numbers : List ℕ) (used c : ℕ) {w : Work
   among = choosable q (get_or q.clauses c [])
 
   -- There is none.
-  pub stuck_in : (s : Settings) {turn : ℕ} → used ≤ length numbers / 4 → some ≡ 0 → InClause s tables terms numbers used turn c (Err (unmoved.Stuck used)) w w
+  pub stuck_in : (s : Settings) {turn : ℕ} → used ≤ length numbers / 4 → some ≡ 0 → InClause s tables terms numbers used turn c (Err (stop.Failed used)) w w
   unfolding moved_of used_in IfMade
   stuck_in s l n =
       record {
@@ -185,13 +186,13 @@ module _ {tables terms : List ℕ} (numbers : List ℕ) (used c : ℕ) {w : Work
     behind = record { size = o.size; same = o.behind }
 
     pub turned_in : {z : Chosen} {turn : ℕ} {v : Work} → r ≡ Ok z
-        → v.assignment ≡ turned w.assignment z.variable
-        → Kept (plan_of_tables tables terms) (bits_of (plan_of_tables tables terms).variables (turned w.assignment z.variable)) w.tallies v.tallies
-        → Wrote (stamp_at z.variable) (turn + 1) marks v.marks
+        → v.assignment ≡ turned w.assignment z.value
+        → Kept (plan_of_tables tables terms) (bits_of (plan_of_tables tables terms).variables (turned w.assignment z.value)) w.tallies v.tallies
+        → Wrote (stamp_at z.value) (turn + 1) marks v.marks
         → InClause s tables terms numbers used turn c (Ok z.used) w v
     unfolding moved_of used_in IfMade turn_over outcome_of
     turned_in {z} {turn} {v} e a y g =
-        let x = z.variable in
+        let x = z.value in
         let b = chosen_among h e in
         let u = chosen_uses h e in
         let few = (parts tables terms k.ready.laid).high in
@@ -228,7 +229,7 @@ module _ {tables terms : List ℕ} (numbers : List ℕ) (used c : ℕ) {w : Work
 
     pub gone_in : {z : Short} {turn : ℕ} {v : Work} → r ≡ Err z
         → v.assignment ≡ w.assignment → v.tallies ≡ w.tallies → v.marks ≡ marks
-        → InClause s tables terms numbers used turn c (Err (unmoved.Short z.used)) w v
+        → InClause s tables terms numbers used turn c (Err (stop.Short z.used)) w v
     unfolding moved_of used_in IfMade outcome_of
     gone_in {v = v} e a y g =
         let u = gone_uses h e in
@@ -246,7 +247,7 @@ module _ {tables terms : List ℕ} (numbers : List ℕ) (used c : ℕ) {w : Work
         }
 
 -- A `?` tells a lack of numbers on as the reason why no flip was made.
-pub told_on : (r : Result ℕ Unmoved) {z : Short} → IsErrAnd r (λ e. e ≡ unmoved.Short z.used) → r ≡ Err (unmoved.Short z.used)
+pub told_on : (r : Result ℕ Unmoved) {z : Short} → IsErrAnd r (λ e. e ≡ stop.Short z.used) → r ≡ Err (stop.Short z.used)
 told_on (Ok x) h = absurd h
 told_on (Err e) h = ap Err h
 
@@ -283,55 +284,71 @@ module _ {tables terms : List ℕ} {w : Work} (k : Walking tables terms w) where
       let p = plan_of_tables tables terms in
       omega (arith, unsatisfied_word, count_le (unsatisfied (bits_in tables terms w)) p.clauses, clauses_few tables terms k.ready.laid, clauses_word tables terms k.ready.laid)
 
-  module _ (numbers : List ℕ) (used : ℕ) {m : ℕ} (r : Result Drawn Short) (total : m ≡ word_at w.tallies unsatisfied_at) (e : taken_of r ≡ take_pick m (numbers_of numbers) used) where
+  module _ (numbers : List ℕ) (used : ℕ) {m : ℕ} (r : Result (Drawn ℕ) Short) (total : m ≡ word_at w.tallies unsatisfied_at) (e : taken_of r ≡ take_pick m (numbers_of numbers) used) where
     drawn_among : take_pick m (numbers_of numbers) used ≡ take_pick (length (keep (unsatisfied (bits_in tables terms w)) (plan_of_tables tables terms).clauses)) (numbers_of numbers) used
     unfolding count
     drawn_among = ap (λ j. take_pick j (numbers_of numbers) used) (total ∙ unsatisfied_word)
 
-    module _ (some : 0 < m) {d : Drawn} (t' : r ≡ Ok d) {n c : ℕ} (few : n ≡ word_at tables 1) (z : c ≡ get_or (zero_words w.tallies rule_room n) d.place n) where
+    module _ (some : 0 < m) {d : Drawn ℕ} (t' : r ≡ Ok d) {n : ℕ} {o : Option ℕ} (few : n ≡ word_at tables 1)
+        (y : o ≡ slice_get (zero_words w.tallies rule_room n) d.value) where
       abbrev clauses : List Clause
       clauses = (plan_of_tables tables terms).clauses
 
-      place_few : d.place < count (unsatisfied (bits_in tables terms w)) clauses
+      place_few : d.value < count (unsatisfied (bits_in tables terms w)) clauses
       place_few = let b = place_below m (numbers_of numbers) used some (picked_at e t') in omega (arith, total, unsatisfied_word)
 
-      zero_found : c ≡ get_or (zero_words w.tallies rule_room (length clauses)) d.place n
-      zero_found = z ∙ ap (λ i. get_or (zero_words w.tallies rule_room i) d.place n) (few ∙ clauses_word tables terms k.ready.laid)
-
-      pub picked_within : c < word_at tables 1
-      picked_within =
-          rw (clauses_word tables terms k.ready.laid)
-          (clause_within (plan_of_tables tables terms) (bits_in tables terms w) w.tallies rule_room holding_word d.place c n zero_found place_few)
-
-      pub picked_uses : (used + 1 ≤ d.used) × (d.used ≤ length numbers / 4)
-      picked_uses = let u = pick_uses m (numbers_of numbers) used (picked_at e t') in (u.0, omega (arith, u.1, length_numbers_of numbers))
-
-      pub picked_moves : (s : Settings) {turn : ℕ} {q : Result ℕ Unmoved} {v : Work} → InClause s tables terms numbers d.used turn c q w v → Moves s tables terms numbers used turn q w v
-      unfolding move
-      picked_moves s {turn} {q} {v} h =
+      -- The tallies have as many words that are 0.
+      pub picked_there : IsSome o
+      picked_there =
           let p = plan_of_tables tables terms in
           let a = bits_in tables terms w in
-          let found = clause_found p a w.tallies rule_room holding_word d.place c n zero_found place_few in
-          record {
-            reaches = λ flips t made.
-                let r = h.reaches flips t made in
-                let now = try_in tables terms flips w in
-                record {
-                  next = r.next;
-                  outcome = λ f fs. bind_ends (pick_from [] (keep (unsatisfied a) p.clauses)) (λ c. turning s p now (choosable p c)) (numbers_of numbers) (at used f fs)
-                      (pick_from_taken [] (keep (unsatisfied a) p.clauses) (numbers_of numbers) (at used f fs) (sym drawn_among ∙ picked_at e t'))
-                      ∙ ap (λ k. run (turning s p now (choosable p k)) (numbers_of numbers) (at d.used f fs)) found ∙ r.outcome f fs;
-                  stamped = r.stamped;
-                };
-            walking = made_more q _ _ _ picked_uses.0 h.walking;
-            prepared = h.prepared;
-            uses = omega (arith, picked_uses.0, h.uses);
-            within = h.within;
-            beyond = h.beyond;
-          }
+          let same : length (zero_words w.tallies rule_room n) ≡ count (unsatisfied a) clauses =
+          ap (λ i. length (zero_words w.tallies rule_room i)) (few ∙ clauses_word tables terms k.ready.laid)
+          ∙ ap length (zero_places p a w.tallies rule_room holding_word) ∙ length_places [] (unsatisfied a) clauses in
+          let e : o ≡ Some (get_or (zero_words w.tallies rule_room n) d.value n) = y ∙ slice_get-get_or _ d.value n (rw same place_few) in
+          subst IsSome (sym e) refl
+
+      module _ {c : ℕ} (x : o ≡ Some c) where
+        z : c ≡ get_or (zero_words w.tallies rule_room n) d.value n
+        z = sym (get_or_from_slice_get (zero_words w.tallies rule_room n) d.value c n (sym y ∙ x))
+
+        zero_found : c ≡ get_or (zero_words w.tallies rule_room (length clauses)) d.value n
+        zero_found = z ∙ ap (λ i. get_or (zero_words w.tallies rule_room i) d.value n) (few ∙ clauses_word tables terms k.ready.laid)
+
+        pub picked_within : c < word_at tables 1
+        picked_within =
+            rw (clauses_word tables terms k.ready.laid)
+            (clause_within (plan_of_tables tables terms) (bits_in tables terms w) w.tallies rule_room holding_word d.value c n zero_found place_few)
+
+        pub picked_uses : (used + 1 ≤ d.used) × (d.used ≤ length numbers / 4)
+        picked_uses = let u = pick_uses m (numbers_of numbers) used (picked_at e t') in (u.0, omega (arith, u.1, length_numbers_of numbers))
+
+        pub picked_moves : (s : Settings) {turn : ℕ} {q : Result ℕ Unmoved} {v : Work} → InClause s tables terms numbers d.used turn c q w v → Moves s tables terms numbers used turn q w v
+        unfolding move
+        picked_moves s {turn} {q} {v} h =
+            let p = plan_of_tables tables terms in
+            let a = bits_in tables terms w in
+            let found = clause_found p a w.tallies rule_room holding_word d.value c n zero_found place_few in
+            record {
+              reaches = λ flips t made.
+                  let r = h.reaches flips t made in
+                  let now = try_in tables terms flips w in
+                  record {
+                    next = r.next;
+                    outcome = λ f fs. bind_ends (pick_from [] (keep (unsatisfied a) p.clauses)) (λ c. turning s p now (choosable p c)) (numbers_of numbers) (at used f fs)
+                        (pick_from_taken [] (keep (unsatisfied a) p.clauses) (numbers_of numbers) (at used f fs) (sym drawn_among ∙ picked_at e t'))
+                        ∙ ap (λ k. run (turning s p now (choosable p k)) (numbers_of numbers) (at d.used f fs)) found ∙ r.outcome f fs;
+                    stamped = r.stamped;
+                  };
+              walking = made_more q _ _ _ picked_uses.0 h.walking;
+              prepared = h.prepared;
+              uses = omega (arith, picked_uses.0, h.uses);
+              within = h.within;
+              beyond = h.beyond;
+            }
 
     pub gone_moves : (s : Settings) {z : Short} {turn : ℕ} → used ≤ length numbers / 4 → r ≡ Err z
-        → Moves s tables terms numbers used turn (Err (unmoved.Short z.used)) w w
+        → Moves s tables terms numbers used turn (Err (stop.Short z.used)) w w
     unfolding move moved_of used_in IfMade
     gone_moves s l t =
         let p = plan_of_tables tables terms in

@@ -15,8 +15,12 @@ use Rattle.tallies.specs.Layout.{tally_size, bits_of, are_bits, tally_bytes}
 use Rattle.recount.specs.Core.{Ready}
 use Rattle.columns.specs.Columns.{Listed, Needed, Sized, Weighed}
 use Rattle.numbers.specs.Numbers.{numbers_of}
-use Rattle.moves.specs.declared.Unmoved.{Unmoved}
-use Rattle.moves.specs.declared.Unmoved.TheVariants as unmoved
+use Rattle.moves.specs.declared.Stop.{Stop}
+use Rattle.moves.specs.declared.Stop.TheVariants as stop
+
+-- Why no flip was made, with how many numbers are used then.
+abbrev pub Unmoved : Type 0
+Unmoved = Stop ℕ
 
 -- The variables of the plan that two tables hold, as an assignment gives them.
 abbrev pub bits_in : List ℕ → List ℕ → Work → Assignment
@@ -43,13 +47,13 @@ pub record Walking (tables terms : List ℕ) (w : Work) : Type 0 where
 -- A move's outcome, with the try that it reaches and the flips and finds before it.
 unfoldable pub moved_of : Result ℕ Unmoved → Try → ℕ → List Assignment → Outcome Turn
 moved_of (Ok used) t f fs = ends (turned t) (at used (f + 1) fs)
-moved_of (Err (unmoved.Stuck used)) t f fs = ends stuck (at used f fs)
-moved_of (Err (unmoved.Short used)) t f fs = short (at used f fs)
+moved_of (Err (stop.Failed used)) t f fs = ends stuck (at used f fs)
+moved_of (Err (stop.Short used)) t f fs = short (at used f fs)
 
 unfoldable pub used_in : Result ℕ Unmoved → ℕ
 used_in (Ok used) = used
-used_in (Err (unmoved.Stuck used)) = used
-used_in (Err (unmoved.Short used)) = used
+used_in (Err (stop.Failed used)) = used
+used_in (Err (stop.Short used)) = used
 
 -- Something holds if a flip was made.
 unfoldable pub IfMade : Result ℕ Unmoved → Type 0 → Type 0

@@ -9,7 +9,7 @@ ghost use Rattle.format.specs.Layout.{unsatisfied_at};
 ghost use Rattle.settings.specs.Settings.{settings_of};
 ghost use Rattle.moves.specs.Moves.{Walking, Moves, InClause};
 ghost use Rattle.lending.specs.Work.{work};
-ghost use Rattle.moves.specs.declared.Unmoved.TheVariants as unmoved;
+ghost use Rattle.moves.specs.declared.Stop.TheVariants as stop;
 
 use choosing::choose_in;
 use columns::LIST_COUNTS;
@@ -21,18 +21,21 @@ use settings::Settings;
 use stamps::stamp;
 use words::index;
 
-// Why no flip was made: the clause has no variable to choose, or too few numbers were left; and how many are used then.
+// Why a flip, a try, a call or a tightening came to nothing: it failed, or too few numbers were left; and what it had come to then.
 #[derive(Clone, Copy, Debug, PartialEq, Eq)]
-pub enum Unmoved {
-    Stuck(usize),
-    Short(usize),
+pub enum Stop<T> {
+    Failed(T),
+    Short(T),
 }
 
-impl From<Short> for Unmoved {
-    ghost from_gives = { λ s e. e ≡ unmoved.Short s.used };
+// Why no flip was made, with how many numbers are used then: it fails where the clause has no variable to choose.
+pub type Unmoved = Stop<usize>;
 
-    fn from(short: Short) -> Unmoved {
-        Unmoved::Short(short.used)
+impl From<Short> for Stop<usize> {
+    ghost from_gives = { λ s e. e ≡ stop.Short s.used };
+
+    fn from(short: Short) -> Stop<usize> {
+        Stop::Short(short.used)
     }
 }
 
@@ -57,7 +60,7 @@ fn flip_in(
 {
     let some = index(marks, LIST_COUNTS + c);
     if some == 0 {
-        return Err(Unmoved::Stuck(used));
+        return Err(Stop::Failed(used));
     }
     let footing = Footing {
         tables: t.tables,
@@ -66,7 +69,7 @@ fn flip_in(
         tallies,
     };
     let chosen = choose_in(&footing, marks, c, numbers, used, s)?;
-    let x = chosen.variable;
+    let x = chosen.value;
     flip_kept(t, marks, assignment, tallies, x);
     stamp(marks, x, turn + 1);
     Ok(chosen.used)
@@ -91,7 +94,8 @@ pub fn make_move(
 {
     let unsatisfied = index(tallies, format::UNSATISFIED);
     let drawn = pick(numbers, used, unsatisfied)?;
-    let c = nth_zero(tallies, format::HOLDING, index(t.tables, 1), drawn.place);
+    let clauses = index(t.tables, 1);
+    let c = nth_zero(tallies, format::HOLDING, clauses, drawn.value).unwrap();
     flip_in(
         t, numbers, drawn.used, s, turn, c, assignment, tallies, marks,
     )

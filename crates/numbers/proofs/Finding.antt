@@ -1,9 +1,12 @@
 -- The clause that a pick among the unsatisfied points at is found by its tally: the k-th word that is 0.
 -- Assumes nothing.
-use Prim.Native.Nat.{ℕ, ◌+◌, ◌<◌}
+use Prim.Native.Nat.{ℕ, zero, suc, ◌+◌, ◌<◌}
 use native.Mathlib.Omega.{arith}
-use mathlib.Core.Path.{◌≡◌, sym, ap, ◌∙◌}
-use mathlib.Core.List.{List, []}
+use mathlib.Core.Path.{◌≡◌, refl, sym, ap, ◌∙◌}
+use mathlib.Core.Bool.{Bool, cond}
+use mathlib.Core.List.{List, [], ◌∷◌}
+use native.Mathlib.Numerals.{add-one}
+use Rattle.std.specs.List.{filter, range_with_len}
 use lib.Dec.{T, eqb, ltb, ltb→lt}
 use lib.ListN.{length, get_or}
 use Rattle.plpb.specs.Lists.{keep, count, row}
@@ -13,6 +16,22 @@ use Rattle.plpb.proofs.Tallies.{unsatisfied_count}
 use Rattle.words.specs.Words.{word_at}
 use Rattle.numbers.specs.Finding.{zero_words}
 use Rattle.numbers.proofs.Keep.{keep_each, row_below, places, kth_place, place_within}
+
+-- ---- the words that a filter of the library lets through
+
+range_row : (i k : ℕ) → range_with_len i k ≡ row i k
+unfolding row
+range_row i zero = refl
+range_row i (suc k) = rw (add-one i) (ap (λ l. i ∷ l) (range_row (suc i) k))
+
+filter_keep : {A : Type 0} (p : A → Bool) (xs : List A) → filter p xs ≡ keep p xs
+unfolding keep
+filter_keep p [] = refl
+filter_keep p (x ∷ xs) = ap (λ ys. cond (p x) (x ∷ ys) ys) (filter_keep p xs)
+
+pub zeros_listed : (table : List ℕ) (base count : ℕ) → filter (λ i. eqb (word_at table (base + i)) 0) (range_with_len 0 count) ≡ zero_words table base count
+unfolding zero_words
+zeros_listed table base count = filter_keep _ _ ∙ ap (keep (λ i. eqb (word_at table (base + i)) 0)) (range_row 0 count)
 
 -- ---- unsatisfied clauses
 

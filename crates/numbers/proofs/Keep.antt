@@ -1,6 +1,6 @@
--- Laws of the elements that pass a test: which is the k-th, as a loop finds it and by its index. Each by induction on the list or the row.
+-- Laws of the elements that pass a test: which is the k-th, by its index. Each by induction on the list or the row.
 -- Assumes nothing.
-use Prim.Native.Nat.{ℕ, zero, suc, ◌+◌, ◌-◌, ◌≤◌, ◌<◌}
+use Prim.Native.Nat.{ℕ, zero, suc, ◌+◌, ◌≤◌, ◌<◌}
 use native.Mathlib.Nat.{not-suc-le-zero, le_of_suc-le-suc}
 use native.Mathlib.Omega.{arith}
 use mathlib.Core.Path.{◌≡◌, refl, sym, ap, ap₂, ◌∙◌}
@@ -9,37 +9,11 @@ use mathlib.Core.List.{List, [], ◌∷◌, map}
 use lib.Dec.{T, ltb, lt→ltb, ltb→lt}
 use lib.ListN.{length, get_or, length-map}
 use Rattle.plpb.specs.Lists.{◌and◌, keep, count, all, row}
-use Rattle.plpb.proofs.Lists.{true_and, false_and, and_left, and_right, and_both, all_keep, all_still, all_at, count_cons, is_true}
+use Rattle.plpb.proofs.Lists.{true_and, false_and, and_left, and_right, and_both, all_keep, all_still, all_at, is_true}
 
--- ---- one element more
-
-pub at_most_one : (b : Bool) (e : ℕ) → e ≡ cond b 1 0 → e ≤ 1
-at_most_one true e h = omega arith
-at_most_one false e h = omega arith
+-- ---- elements that pass
 
 module _ {A : Type 0} where
-  here_at : (b : Bool) (x : A) (ys : List A) (k : ℕ) (d : A) → k < cond b 1 0 → get_or (cond b (x ∷ ys) ys) k d ≡ x
-  here_at true x ys zero d h = refl
-  here_at true x ys (suc k) d h = absurd (not-suc-le-zero (le_of_suc-le-suc h))
-  here_at false x ys k d h = absurd (not-suc-le-zero h)
-
-  later_at : (b : Bool) (x : A) (ys : List A) (k : ℕ) (d : A) → cond b 1 0 ≤ k → get_or (cond b (x ∷ ys) ys) k d ≡ get_or ys (k - cond b 1 0) d
-  later_at true x ys zero d h = absurd (not-suc-le-zero h)
-  later_at true x ys (suc k) d h = let e : k ≡ suc k - 1 = omega arith in ap (λ j. get_or ys j d) e
-  later_at false x ys k d h = let e : k ≡ k - 0 = omega arith in ap (λ j. get_or ys j d) e
-
-  pub keep_here : (q : A → Bool) (x : A) (xs : List A) (k : ℕ) (d : A) → k < cond (q x) 1 0 → get_or (keep q (x ∷ xs)) k d ≡ x
-  unfolding keep
-  keep_here q x xs k d h = here_at (q x) x (keep q xs) k d h
-
-  pub keep_later : (q : A → Bool) (x : A) (xs : List A) (k : ℕ) (d : A) → cond (q x) 1 0 ≤ k → get_or (keep q (x ∷ xs)) k d ≡ get_or (keep q xs) (k - cond (q x) 1 0) d
-  unfolding keep
-  keep_later q x xs k d h = later_at (q x) x (keep q xs) k d h
-
-  pub length_keep : (q : A → Bool) (x : A) (xs : List A) → length (keep q (x ∷ xs)) ≡ cond (q x) 1 0 + length (keep q xs)
-  unfolding count
-  length_keep q x xs = count_cons q x xs
-
   -- Two tests that agree on elements that pass a third.
   pub keep_each : (t p q : A → Bool) (xs : List A) → ((x : A) → T (t x) → p x ≡ q x) → T (all t xs) → keep p xs ≡ keep q xs
   unfolding keep all
@@ -76,18 +50,6 @@ module _ {A B : Type 0} where
 
 -- ---- numbers in a row
 
--- A row of n from b, from its i-th on: one more, and none.
-pub row_more : (b n i : ℕ) → i < n → row (b + i) (n - i) ≡ (b + i) ∷ row (b + (i + 1)) (n - (i + 1))
-unfolding row
-row_more b n i h =
-    let e : n - i ≡ suc (n - (i + 1)) = omega arith in
-    let s : suc (b + i) ≡ b + (i + 1) = omega arith in
-    ap (row (b + i)) e ∙ ap (λ j. (b + i) ∷ row j (n - (i + 1))) s
-
-pub row_end : (b n i : ℕ) → n ≤ i → row b (n - i) ≡ []
-unfolding row
-row_end b n i h = let e : n - i ≡ 0 = omega arith in ap (row b) e
-
 pub row_suc : (i k : ℕ) → row (suc i) k ≡ map suc (row i k)
 unfolding row
 row_suc i zero = refl
@@ -120,35 +82,6 @@ module _ (q : ℕ → Bool) (n k d : ℕ) (few : k < length (keep q (row 1 n))) 
 
   pub kept_passes : q kth ≡ true
   kept_passes = is_true (q kth) (all_at q (keep q (row 1 n)) k d (all_keep q (row 1 n)) few)
-
--- ---- the k-th that passes, found by going through a row
-
-module _ (q : ℕ → Bool) (b n : ℕ) where
-  -- Those that pass from the i-th of the row on.
-  unfoldable pub from : ℕ → List ℕ
-  from i = keep q (row (b + i) (n - i))
-
-  pub from_start : from 0 ≡ keep q (row b n)
-  unfolding from
-  from_start = let e : b + 0 ≡ b = omega arith in let s : n - 0 ≡ n = omega arith in ap₂ (λ i k. keep q (row i k)) e s
-
-  module _ (i : ℕ) where
-    pub from_here : (k d e : ℕ) → i < n → e ≡ cond (q (b + i)) 1 0 → k < e → get_or (from i) k d ≡ b + i
-    unfolding from
-    from_here k d e l s h = rw (row_more b n i l) (keep_here q (b + i) (row (b + (i + 1)) (n - (i + 1))) k d (rw s at h))
-
-    pub from_later : (k d e : ℕ) → i < n → e ≡ cond (q (b + i)) 1 0 → e ≤ k → get_or (from i) k d ≡ get_or (from (i + 1)) (k - e) d
-    unfolding from
-    from_later k d e l s h =
-        rw (row_more b n i l, s) (keep_later q (b + i) (row (b + (i + 1)) (n - (i + 1))) k d (rw s at h))
-
-    pub from_count : (e : ℕ) → i < n → e ≡ cond (q (b + i)) 1 0 → length (from i) ≡ e + length (from (i + 1))
-    unfolding from
-    from_count e l s = rw (row_more b n i l, s) (length_keep q (b + i) (row (b + (i + 1)) (n - (i + 1))))
-
-    pub from_end : n ≤ i → from i ≡ []
-    unfolding from keep
-    from_end h = ap (keep q) (row_end (b + i) n i h)
 
 -- ---- the k-th that passes, by its index
 

@@ -26,6 +26,8 @@ use Rattle.numbers.specs.declared.Drawn.{Drawn}
 use Rattle.numbers.specs.declared.Short.{Short}
 use Rattle.numbers.specs.Numbers.{numbers_of}
 use Rattle.numbers.specs.Taking.{taken_of, started_of, start_bytes, Starts}
+use Rattle.std.specs.Int.{div_ceil}
+use Rattle.std.proofs.lemmas.Grind.{div_ceil_times}
 use Rattle.numbers.proofs.Keep.{get_d_map}
 
 -- ---- the list
@@ -65,8 +67,8 @@ module _ (s : List ℕ) (m at : ℕ) where
   pick_ends h = rw (drop_all at (numbers_of s) (rw length_numbers_of h)) refl
 
 -- What a caller learns of an answer, whatever a pick does with the numbers: the need's outcome, a place below m, and how many are used.
-module _ {r : Result Drawn Short} {t : Taken ℕ} (e : taken_of r ≡ t) where
-  pub picked_at : {d : Drawn} → r ≡ Ok d → t ≡ taken d.place d.used
+module _ {r : Result (Drawn ℕ) Short} {t : Taken ℕ} (e : taken_of r ≡ t) where
+  pub picked_at : {d : Drawn ℕ} → r ≡ Ok d → t ≡ taken d.value d.used
   unfolding taken_of
   picked_at a = sym e ∙ ap taken_of a
 
@@ -158,6 +160,11 @@ module _ (s : List ℕ) (used n : ℕ) where
   pub words_short : length s / 4 < used + start_words n → take_words (start_words n) (numbers_of s) used ≡ too_few used
   unfolding take_words
   words_short h = rw (lt-leb (used + start_words n) (length (numbers_of s)) (rw length_numbers_of h))
+
+  -- How many numbers a start takes, as the library's division answers it.
+  pub words_needed : {k : ℕ} → k ≡ div_ceil n 32 → k ≡ start_words n
+  unfolding start_words
+  words_needed e = let b = div_ceil_times n 32 (omega arith) in e ∙ omega (arith, b)
 
   -- The two answers of a start.
   module _ (entry exit : List ℕ) where

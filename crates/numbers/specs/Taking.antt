@@ -6,8 +6,8 @@ use Rattle.format.specs.Assignment.{bit_bytes}
 use Rattle.numbers.specs.declared.Drawn.{Drawn}
 use Rattle.numbers.specs.declared.Short.{Short}
 
-unfoldable pub taken_of : Result Drawn Short → Taken ℕ
-taken_of (Ok d) = taken d.place d.used
+unfoldable pub taken_of : Result (Drawn ℕ) Short → Taken ℕ
+taken_of (Ok d) = taken d.value d.used
 taken_of (Err e) = too_few e.used
 
 -- What a start answers to the numbers taken for it,

@@ -1,18 +1,19 @@
 // Numbers taken from the lent list as the walk asks for them, and the k-th of the words that are 0, which a pick points at.
+// The list and how many of it are used come as two, since a list that is lent stays the same and no function needs to say so: with one struct of both each
+// function that hands on or answers how many are used would have to promise that its list is still the same.
 #![tactic(auto)]
 
-ghost use Rattle.std.specs.Prelude.{◌≡◌, cond, ◌++◌, ◌+◌, ◌*◌, ◌/◌, ◌%◌, ◌≤◌, ◌<◌, eqb, length, get_or, take, drop};
+ghost use Rattle.std.specs.Prelude.{◌≡◌, cond, ◌++◌, ◌+◌, ◌*◌, ◌/◌, ◌%◌, ◌≤◌, ◌<◌, length, get_or, slice_get, take, drop};
 ghost use Rattle.plpb.specs.Numbers.{take_words, range, take_pick, start_words, start_of, bit};
-ghost use Rattle.words.specs.Words.{word_at};
 ghost use Rattle.format.specs.Assignment.{bit_bytes};
 ghost use Rattle.numbers.specs.Numbers.{numbers_of};
 ghost use Rattle.numbers.specs.Taking.{taken_of, Starts};
 ghost use Rattle.numbers.specs.Finding.{zero_words};
 
-// What a pick came to: a place, and how many numbers are used after it.
+// What was drawn, be it a place or the variable that stands there, and how many numbers are used after it.
 #[derive(Clone, Copy, Debug, PartialEq, Eq)]
-pub struct Drawn {
-    pub place: usize,
+pub struct Drawn<T> {
+    pub value: T,
     pub used: usize,
 }
 
@@ -27,7 +28,7 @@ const RANGE: usize = 4294967296;
 
 // A pick among m: numbers at or above the largest multiple of m up to RANGE are discarded. A number is below it exactly where the next multiple of m
 // above it is no more than RANGE, so that each number takes one division.
-pub fn pick(numbers: &[u8], used: usize, m: usize) -> Result<Drawn, Short>
+pub fn pick(numbers: &[u8], used: usize, m: usize) -> Result<Drawn<usize>, Short>
     requires { (0 < m) × (m ≤ range) × (used ≤ length numbers.now / 4) }
     ensures { taken_of result ≡ take_pick m (numbers_of numbers.now) used }
 {
@@ -37,7 +38,7 @@ pub fn pick(numbers: &[u8], used: usize, m: usize) -> Result<Drawn, Short>
         let place = r % m;
         if r - place + m <= RANGE {
             return Ok(Drawn {
-                place,
+                value: place,
                 used: at + 1,
             });
         }
@@ -74,12 +75,13 @@ fn write_start(numbers: &[u8], used: usize, assignment: &mut [u8])
 }
 
 // A try's start for n variables; how many numbers are used after it. The numbers are counted first, so that none is taken and no byte changes where too few
-// are left. n goes with the bytes, because what follows them is lent too and stays as it was.
+// are left. n goes with the bytes, because what follows them is lent too and stays as it was. With a sub-slice from the caller, it and not this clause would
+// have to say that the rest stays.
 pub fn start(numbers: &[u8], used: usize, n: usize, assignment: &mut [u8]) -> Result<usize, Short>
     requires { (used ≤ length numbers.now / 4) × (n ≤ length assignment.old) }
     ensures { Starts n (take_words (start_words n) (numbers_of numbers.now) used) assignment.old result assignment.new }
 {
-    let after = used + (n + 31) / 32;
+    let after = used + n.div_ceil(32);
     if numbers.len() / 4 < after {
         return Err(Short { used });
     }
@@ -87,27 +89,13 @@ pub fn start(numbers: &[u8], used: usize, n: usize, assignment: &mut [u8]) -> Re
     Ok(after)
 }
 
-// 1 for a word that is 0.
-fn zero(table: &[u8], i: usize) -> usize
-    requires { 4 * i + 4 ≤ length table.now }
-    ensures { result ≡ cond (eqb (word_at table.now i) 0) 1 0 }
-{
-    usize::from(words::word(table, i) == 0)
-}
-
-// The k-th, from 0, of the indices below count whose word, behind base others, is 0; or count where there are not so many. The words are told by their
-// indices, as the layout of the tables has them: a sub-slice would count bytes.
-pub fn nth_zero(table: &[u8], base: usize, count: usize, k: usize) -> usize
+// The k-th, from 0, of the indices below count whose word, behind base others, is 0, if there are so many. The words are told by their indices, as the layout
+// of the tables has them: a sub-slice would count bytes.
+pub fn nth_zero(table: &[u8], base: usize, count: usize, k: usize) -> Option<usize>
     requires { 4 * (base + count) ≤ length table.now }
-    ensures { result ≡ get_or (zero_words table.now base count) k count }
+    ensures { result ≡ slice_get (zero_words table.now base count) k }
 {
-    let mut left = k;
-    for i in 0..count {
-        let here = zero(table, base + i);
-        if left < here {
-            return i;
-        }
-        left -= here;
-    }
-    count
+    (0..count)
+        .filter(|&i| words::word(table, base + i) == 0)
+        .nth(k)
 }

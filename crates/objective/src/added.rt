@@ -1,4 +1,7 @@
 // The added last clause O ≤ m, written behind the plan's own clauses, rules and terms: the tables have room for one more.
+// The buffers to write come one by one, each with its size in the contract: one is read while another is written, which a struct of them would not let be
+// proved. What `tables::entries` writes begins where its slice does and comes from the bytes of a file; here words go to their index in tables that are in use,
+// so that the two share no more than how the library writes a word.
 ghost use Rattle.std.specs.Prelude.{◌≡◌, [], ◌∷◌, ◌++◌, ◌+◌, ◌*◌, ◌≤◌, ◌<◌, nat_abs, length, drop};
 ghost use Rattle.plpb.specs.Search.{tightened};
 ghost use Rattle.words.specs.Words.{word_at, word_bytes, unsigned};
@@ -9,6 +12,7 @@ ghost use Rattle.objective.specs.Added.{terms_above, added_entries, rebound, Bou
 ghost use Rattle.format.specs.Layout.{clause_first_at, clause_room, clauses_byte, rule_first_at, rule_room, term_room};
 
 use arrange::derive;
+use format::Mode;
 use words::{narrow, write_two, write_word};
 
 // The word of a bound.
@@ -56,7 +60,7 @@ fn add_clause(tables: &mut [u8], clauses: usize, rules: usize)
     write_two(tables, format::CLAUSES + 2 * clauses, narrow(rules), 1);
 }
 
-// A rule with an upper bound alone: mode 2, and 0 for the lower.
+// A rule with an upper bound alone, and 0 for the lower.
 fn add_rule(tables: &mut [u8], rules: usize, first: usize, count: usize, bound: u32)
     requires { (table_size ≤ length tables.old) × (rules ≤ 1024) × (first ≤ 6000) × (count ≤ 512) }
     ensures { tables.new ≡ put_words (rule_first_at rules) (first ∷ count ∷ 2 ∷ 0 ∷ bound ∷ []) tables.old }
@@ -67,10 +71,11 @@ fn add_rule(tables: &mut [u8], rules: usize, first: usize, count: usize, bound: 
         narrow(first),
         narrow(count),
     );
-    write_two(tables, format::RULE_MODE + 5 * rules, 2, 0);
+    write_two(tables, format::RULE_MODE + 5 * rules, Mode::Upper as u32, 0);
     write_word(tables, format::RULE_UPPER + 5 * rules, bound);
 }
 
+// The counts of clauses, rules and terms.
 fn write_counts(tables: &mut [u8], clauses: usize, rules: usize, terms: usize)
     requires { (table_size ≤ length tables.old) × (clauses ≤ clause_room) × (rules ≤ rule_room) × (terms ≤ term_room) }
     ensures { tables.new ≡ put_words 1 (clauses ∷ rules ∷ terms ∷ []) tables.old }

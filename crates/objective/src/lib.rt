@@ -1,4 +1,4 @@
-// What the tightening needs of the objective in the tables: what an assignment costs, l(O), and the added last clause O ≤ m.
+// What the tightening writes of the objective into the tables: the added last clause O ≤ m.
 #![tactic(auto)]
 
 pub mod added;

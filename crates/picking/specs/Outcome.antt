@@ -6,11 +6,15 @@ use Rattle.plpb.specs.Plan.{Assignment}
 use Rattle.plpb.specs.Walk.{Walk, at, Outcome, ends, short, run}
 use Rattle.columns.specs.Layout.{column_size, column_word_count}
 use Rattle.numbers.specs.declared.Short.{Short}
-use Rattle.picking.specs.declared.Chosen.{Chosen}
+use Rattle.numbers.specs.declared.Drawn.{Drawn}
+
+-- A variable that is chosen, and how many numbers are used after the choice.
+abbrev pub Chosen : Type 0
+Chosen = Drawn ℕ
 
 -- The outcome that an answer of the code says, with the flips and finds before it.
 unfoldable pub outcome_of : Result Chosen Short → ℕ → List Assignment → Outcome ℕ
-outcome_of (Ok c) f fs = ends c.variable (at c.used f fs)
+outcome_of (Ok c) f fs = ends c.value (at c.used f fs)
 outcome_of (Err e) f fs = short (at e.used f fs)
 
 unfoldable pub used_by : Result Chosen Short → ℕ
@@ -19,7 +23,7 @@ used_by (Err e) = e.used
 
 -- A variable that is chosen is one of n.
 unfoldable pub Among : ℕ → Result Chosen Short → Type 0
-Among n (Ok c) = (1 ≤ c.variable) × (c.variable ≤ n)
+Among n (Ok c) = (1 ≤ c.value) × (c.value ≤ n)
 Among n (Err e) = Unit {0}
 
 -- A walk comes to this answer, whatever flips and finds were made before it.

@@ -21,7 +21,7 @@ use Rattle.plpb.specs.Search.{reached, call, tightened}
 use Rattle.plpb.specs.Walk.{at}
 use Rattle.words.specs.Words.{word_bytes, word_at}
 use Rattle.words.proofs.Words.{length_word_bytes}
-use Rattle.format.specs.Limits.{lawful, roomy}
+use Rattle.format.specs.Limits.{roomy}
 use Rattle.format.specs.Tables.{plan_of_tables, table_words, table_size}
 use Rattle.format.proofs.Lawful.{lawful_roomy, roomy_parts}
 use Rattle.format.proofs.ReadBack.{read_back}
@@ -38,12 +38,10 @@ use Rattle.recount.proofs.Callers.{held_laid}
 use Rattle.numbers.specs.Numbers.{numbers_of}
 use Rattle.std.specs.Prelude.{Result, Ok, Err}
 use Rattle.tries.specs.declared.Spent.{Spent}
-use Rattle.tries.specs.declared.Unreached.{Unreached}
-use Rattle.tries.specs.declared.Unreached.TheVariants as unreached
+use Rattle.moves.specs.declared.Stop.TheVariants as stop
 use Rattle.progress.specs.declared.Progress.{Progress}
-use Rattle.progress.specs.declared.Halt.TheVariants as halt
 use Rattle.lending.specs.Work.{Work, Beyond}
-use Rattle.tries.specs.Steps.{Startable, tried_of, spent_by, used_by, flips_by, IfReached, Finds, Tries}
+use Rattle.tries.specs.Steps.{Unreached, Startable, tried_of, spent_by, used_by, flips_by, IfReached, Finds, Tries}
 use Rattle.progress.specs.Bounds.{untightened, basis, Bounded, Tracks, Room, Leaves, called_of, progress_in, FindOr, CallsUnder}
 use Rattle.format.specs.Layout.{rule_room}
 
@@ -265,8 +263,8 @@ module _ {p : Plan} {tables terms assignment : List ℕ} {w : Work} (room : Room
                 within = omega (arith, t.within);
               }
 
-          pub called_failed : r ≡ Err (unreached.Failed d) →
-              CallsUnder s p m numbers from (Err (halt.Failed (record { cost = to_z w64 (of_z w64 from.cost); finds = from.finds; spent = d }))) assignment assignment
+          pub called_failed : r ≡ Err (stop.Failed d) →
+              CallsUnder s p m numbers from (Err (stop.Failed (record { cost = to_z w64 (of_z w64 from.cost); finds = from.finds; spent = d }))) assignment assignment
               × Leaves p tables terms after assignment assignment w v
           unfolding tried_of called_of progress_in FindOr spent_by
           called_failed k = (
@@ -278,8 +276,8 @@ module _ {p : Plan} {tables terms assignment : List ℕ} {w : Work} (room : Room
             still_leaves t,
           )
 
-          pub called_short : r ≡ Err (unreached.Short d) →
-              CallsUnder s p m numbers from (Err (halt.Short (record { cost = to_z w64 (of_z w64 from.cost); finds = from.finds; spent = d }))) assignment assignment
+          pub called_short : r ≡ Err (stop.Short d) →
+              CallsUnder s p m numbers from (Err (stop.Short (record { cost = to_z w64 (of_z w64 from.cost); finds = from.finds; spent = d }))) assignment assignment
               × Leaves p tables terms after assignment assignment w v
           unfolding tried_of called_of progress_in FindOr spent_by
           called_short k = (

@@ -29,14 +29,14 @@ use Rattle.numbers.specs.Numbers.{numbers_of}
 use Rattle.numbers.proofs.Runs.{descending_none, descending_floor, descending_failed, descending_found, descending_short}
 use Rattle.progress.specs.declared.Progress.{Progress}
 use Rattle.std.specs.Prelude.{Result, Ok, Err, IsErrAnd}
-use Rattle.progress.specs.declared.Halt.{Halt}
-use Rattle.progress.specs.declared.Halt.TheVariants as halt
+use Rattle.moves.specs.declared.Stop.TheVariants as stop
 use Rattle.progress.specs.declared.Ending.{Ending as EndingOf}
 use Rattle.progress.specs.declared.Ending.TheVariants as code
 use Rattle.progress.specs.declared.Searched.{Searched}
-use Rattle.settings.specs.Settings.{mode_of}
+use Rattle.settings.specs.Settings.{mode_in}
+use Rattle.settings.specs.declared.Tightening.TheVariants as tightening
 use Rattle.lending.specs.Work.{Work}
-use Rattle.progress.specs.Bounds.{basis, Bounded, Tracks, Room, Leaves, called_of, progress_in, FindOr, CallsUnder, UnderBound, answer_of, ending_of, Concludes, Descends, Descent, StoppedAt}
+use Rattle.progress.specs.Bounds.{Halt, basis, Bounded, Tracks, Room, Leaves, called_of, progress_in, FindOr, CallsUnder, UnderBound, answer_of, ending_of, Concludes, Descends, Descent, StoppedAt}
 use Rattle.progress.proofs.Bounds.{bounded_basis, cost_small, cost_fits}
 
 -- ---- the loop's test
@@ -110,16 +110,14 @@ module _ {p : Plan} {tables terms : List ℕ} (b : Bounded p tables terms) {numb
           bound_within linear = unfold bound_in in linear_within p (lawful_roomy p b.lawful) (held p assignment)
           bound_within lbs = unfold bound_in in lbs_within p (lawful_roomy p b.lawful) (held p assignment)
 
--- The bound of each mode, by its number.
-pub bound_linear : (k : ℕ) (l v : ℤ) → k ≡ 0 → linear_bound v ≡ bound_in (mode_of k) l v
-unfolding bound_in mode_of
-bound_linear zero l v e = refl
-bound_linear (suc k) l v e = absurd (omega arith)
+-- The bound of each mode.
+pub bound_linear : (l v : ℤ) → linear_bound v ≡ bound_in (mode_in tightening.Linear) l v
+unfolding bound_in mode_in
+bound_linear l v = refl
 
-pub bound_lbs : (k : ℕ) (l v : ℤ) → (k ≡ 0 → ⊥) → lbs_bound l v ≡ bound_in (mode_of k) l v
-unfolding bound_in mode_of
-bound_lbs zero l v e = absurd (e refl)
-bound_lbs (suc k) l v e = refl
+pub bound_lbs : (l v : ℤ) → lbs_bound l v ≡ bound_in (mode_in tightening.Lbs) l v
+unfolding bound_in mode_in
+bound_lbs l v = refl
 
 -- ---- the answer
 
@@ -176,7 +174,7 @@ module _ (s : Settings) (mode : Mode) (o : Plan → ℕ → Assignment → Walk 
         ∙ f left (a ∷ fs) (omega arith) (omega (arith, c.find.0))
 
     -- What follows the first failure.
-    on_a_failure : CallsUnder s p m numbers t (Err (halt.Failed u)) entry exit → (r : Answer) → Concludes o p numbers u (held p exit) r → Concludes walk p numbers t (held p entry) r
+    on_a_failure : CallsUnder s p m numbers t (Err (stop.Failed u)) entry exit → (r : Answer) → Concludes o p numbers u (held p exit) r → Concludes walk p numbers t (held p entry) r
     unfolding called_of FindOr
     on_a_failure c r f zero fs g n = absurd (omega (arith, some_gap p a w h))
     on_a_failure c r f (suc left) fs g n =
@@ -185,7 +183,7 @@ module _ (s : Settings) (mode : Mode) (o : Plan → ℕ → Assignment → Walk 
         ap (conclude p) (descending_failed s p mode (o p) ns a (at t.spent.used t.spent.flips (a ∷ fs)) left h (called_under c e (a ∷ fs)))
         ∙ l (suc left) fs g (n ∙ sym c.find.0)
 
-    where_short : CallsUnder s p m numbers t (Err (halt.Short u)) entry exit → Concludes walk p numbers t (held p entry) (answer_of code.ShortFound u (reached (held p exit)))
+    where_short : CallsUnder s p m numbers t (Err (stop.Short u)) entry exit → Concludes walk p numbers t (held p entry) (answer_of code.ShortFound u (reached (held p exit)))
     unfolding called_of FindOr progress_in
     where_short c zero fs g n = absurd (omega (arith, some_gap p a w h))
     where_short c (suc left) fs g n =
@@ -302,8 +300,8 @@ module _ {s : Settings} {mode : Mode} {p : Plan} {terms numbers tables₀ assign
         descent_stop : (why : Halt) → CallsUnder s p m numbers t (Err why) assignment assignment'
             → Descends s mode p numbers from (bits_of p.variables assignment₀) (bits_of p.variables assignment') (Err why)
         unfolding Descends
-        descent_stop (halt.Failed u) d = λ o q g. i.comes o q (on_a_failure s mode o p numbers t assignment i.tracks.obeyed h e d q g)
-        descent_stop (halt.Short u) d = λ o. i.comes o _ (where_short s mode o p numbers t assignment i.tracks.obeyed h e d)
+        descent_stop (stop.Failed u) d = λ o q g. i.comes o q (on_a_failure s mode o p numbers t assignment i.tracks.obeyed h e d q g)
+        descent_stop (stop.Short u) d = λ o. i.comes o _ (where_short s mode o p numbers t assignment i.tracks.obeyed h e d)
 
         pub descent_stops : {why : Halt} → r ≡ Err why
             → Descends s mode p numbers from (bits_of p.variables assignment₀) (bits_of p.variables assignment') (Err why)
@@ -322,19 +320,19 @@ handed_on (Err e) h = ap Err h
 pub stopped_tracks : {p : Plan} {numbers assignment : List ℕ} (r : Result Progress Halt) (q : Searched) → StoppedAt r q → Tracks p numbers assignment (progress_in r) → Tracks p numbers assignment q.progress
 unfolding StoppedAt progress_in
 stopped_tracks (Ok t) q k st = rw k.1 st
-stopped_tracks (Err (halt.Failed t)) q k st = rw k.1 st
-stopped_tracks (Err (halt.Short t)) q k st = rw k.1 st
+stopped_tracks (Err (stop.Failed t)) q k st = rw k.1 st
+stopped_tracks (Err (stop.Short t)) q k st = rw k.1 st
 
 unfoldable pub Unfailed : Result Progress Halt → Type 0
 Unfailed (Ok t) = Unit {0}
-Unfailed (Err (halt.Failed t)) = ⊥
-Unfailed (Err (halt.Short t)) = Unit {0}
+Unfailed (Err (stop.Failed t)) = ⊥
+Unfailed (Err (stop.Short t)) = Unit {0}
 
 pub unfailed_floor : {r : Result Progress Halt} {t : Progress} → r ≡ Ok t → Unfailed r
 unfolding Unfailed
 unfailed_floor e = rw e tt
 
-pub unfailed_short : {r : Result Progress Halt} {t : Progress} → r ≡ Err (halt.Short t) → Unfailed r
+pub unfailed_short : {r : Result Progress Halt} {t : Progress} → r ≡ Err (stop.Short t) → Unfailed r
 unfolding Unfailed
 unfailed_short e = rw e tt
 
@@ -355,8 +353,8 @@ module _ (s : Settings) (p : Plan) (numbers : List ℕ) (from : Progress) (a : A
       either : (r : Result Progress Halt) → Unfailed r → StoppedAt r q → Descends s mode p numbers from a b r
           → (o : Plan → ℕ → Assignment → Walk Ending) → Concludes (λ q. descending s q mode (o q)) p numbers from a (answer_of q.ending q.progress (reached b))
       either (Ok t) z k d = unfold Descends StoppedAt in λ o. rw (k.0, k.1) (d o)
-      either (Err (halt.Failed t)) z k d = absurd (unfold Unfailed in z)
-      either (Err (halt.Short t)) z k d = unfold Descends StoppedAt in λ o. rw (k.0, k.1) (d o)
+      either (Err (stop.Failed t)) z k d = absurd (unfold Unfailed in z)
+      either (Err (stop.Short t)) z k d = unfold Descends StoppedAt in λ o. rw (k.0, k.1) (d o)
 
       in_mode : (mode : Mode) {x : Answer} → ((o : Plan → ℕ → Assignment → Walk Ending) → Concludes (λ q. descending s q mode (o q)) p numbers from a x) → Concludes (tighten mode s) p numbers from a x
       in_mode linear f = unfold tighten linear_search in f (λ q left a. done ended)
@@ -370,36 +368,34 @@ module _ (s : Settings) (p : Plan) (numbers : List ℕ) (from : Progress) (a : A
       either : (r : Result Progress Halt) → StoppedAt r q → Tracks p numbers exit (progress_in r) → Descends s linear p numbers from a b r
           → Concludes (linear_search s) p numbers from a (answer_of q.ending q.progress (reached b))
       either (Ok t) k st d = unfold Descends StoppedAt linear_search in rw (k.0, k.1) (d (λ q left a. done ended))
-      either (Err (halt.Failed t)) k st d =
+      either (Err (stop.Failed t)) k st d =
           unfold Descends StoppedAt linear_search progress_in in rw (k.0, k.1) (d (λ q left a. done ended) _ (ends_there p numbers t b st.costs))
-      either (Err (halt.Short t)) k st d = unfold Descends StoppedAt linear_search in rw (k.0, k.1) (d (λ q left a. done ended))
+      either (Err (stop.Short t)) k st d = unfold Descends StoppedAt linear_search in rw (k.0, k.1) (d (λ q left a. done ended))
 
-  pub tightens_linearly : (m : ℕ) → m ≡ 0 → Tracks p numbers exit (progress_in r) → Descends s (mode_of m) p numbers from a (bits_of p.variables exit) r
-      → Concludes (tighten (mode_of m) s) p numbers from a (answer_of q.ending q.progress (reached (bits_of p.variables exit)))
-  unfolding mode_of tighten
-  tightens_linearly zero e st d = linearly st d
-  tightens_linearly (suc m) e st d = absurd (omega arith)
+  pub tightens_linearly : (m : Mode) → m ≡ linear → Tracks p numbers exit (progress_in r) → Descends s m p numbers from a (bits_of p.variables exit) r
+      → Concludes (tighten m s) p numbers from a (answer_of q.ending q.progress (reached (bits_of p.variables exit)))
+  unfolding tighten
+  tightens_linearly m e st d = rw e (linearly st (rw e at d))
 
 -- LBS has failed at the progress t, and linear tightening has gone on from there.
-module _ {p : Plan} {terms numbers tables tables' assignment assignment' : List ℕ} {t : Progress} {w v : Work} {r : Result Progress Halt} (k : r ≡ Err (halt.Failed t))
+module _ {p : Plan} {terms numbers tables tables' assignment assignment' : List ℕ} {t : Progress} {w v : Work} {r : Result Progress Halt} (k : r ≡ Err (stop.Failed t))
     (l : Leaves p tables terms tables' assignment assignment' w v)
   where
     pub failed_tracks : Tracks p numbers assignment' (progress_in r) → Tracks (basis tables' terms) numbers assignment' t
     unfolding progress_in
     failed_tracks st = tracks_here l.bounded (subst (λ q. Tracks p numbers assignment' (progress_in q)) k st)
 
-    pub lbs_then_linear : (s : Settings) (from : Progress) (mode : ℕ) → (mode ≡ 0 → ⊥)
-        → Descends s (mode_of mode) p numbers from (bits_of p.variables assignment) (bits_of p.variables assignment') r
+    pub lbs_then_linear : (s : Settings) (from : Progress) (mode : Mode) → mode ≡ lbs
+        → Descends s mode p numbers from (bits_of p.variables assignment) (bits_of p.variables assignment') r
         → {tables'' exit : List ℕ} {u : Work} (d : Result Progress Halt) (q : Searched) → StoppedAt d q
-        → Descent s (mode_of 0) tables' terms numbers t d tables'' assignment' exit v u
-        → Concludes (tighten (mode_of mode) s) p numbers from (bits_of p.variables assignment) (answer_of q.ending q.progress (reached (bits_of p.variables exit)))
+        → Descent s linear tables' terms numbers t d tables'' assignment' exit v u
+        → Concludes (tighten mode s) p numbers from (bits_of p.variables assignment) (answer_of q.ending q.progress (reached (bits_of p.variables exit)))
         × Tracks p numbers exit q.progress × Leaves p tables terms tables'' assignment exit w u
-    unfolding mode_of Descends tighten lbs_search
-    lbs_then_linear s from zero m f d q z g = absurd (m refl)
-    lbs_then_linear s from (suc mode) m f {tables''} {exit} {u} d q z g =
+    unfolding Descends tighten lbs_search
+    lbs_then_linear s from mode m f {tables''} {exit} {u} d q z g =
         let g' : Descends s linear p numbers t (bits_of p.variables assignment') (bits_of p.variables exit) d
         × Tracks p numbers exit (progress_in d) × Leaves p tables' terms tables'' assignment' exit v u =
         subst (λ o. Descends s linear o numbers t (bits_of o.variables assignment') (bits_of o.variables exit) d × Tracks o numbers exit (progress_in d) × Leaves o tables' terms tables'' assignment' exit v u) (bounded_basis l.bounded) g in
-        let f' : Descends s lbs p numbers from (bits_of p.variables assignment) (bits_of p.variables assignment') (Err (halt.Failed t)) =
-        subst (λ o. Descends s lbs p numbers from (bits_of p.variables assignment) (bits_of p.variables assignment') o) k f in
-        (f' (linear_search s) _ (linearly s p numbers t _ exit d q z g'.1 g'.0), stopped_tracks d q z g'.1, leaves_then l g'.2)
+        let f' : Descends s lbs p numbers from (bits_of p.variables assignment) (bits_of p.variables assignment') (Err (stop.Failed t)) =
+        subst (λ o. Descends s lbs p numbers from (bits_of p.variables assignment) (bits_of p.variables assignment') o) k (rw m at f) in
+        rw m (f' (linear_search s) _ (linearly s p numbers t _ exit d q z g'.1 g'.0), stopped_tracks d q z g'.1, leaves_then l g'.2)

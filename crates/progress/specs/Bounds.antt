@@ -11,13 +11,17 @@ use Rattle.format.specs.Tables.{Holds, plan_of_tables, table_size}
 use Rattle.tallies.specs.Layout.{bits_of, are_bits}
 use Rattle.numbers.specs.Numbers.{numbers_of}
 use Rattle.progress.specs.declared.Progress.{Progress}
-use Rattle.progress.specs.declared.Halt.{Halt}
-use Rattle.progress.specs.declared.Halt.TheVariants as halt
+use Rattle.moves.specs.declared.Stop.{Stop}
+use Rattle.moves.specs.declared.Stop.TheVariants as stop
 use Rattle.progress.specs.declared.Ending.{Ending as EndingOf}
 use Rattle.progress.specs.declared.Ending.TheVariants as code
 use Rattle.progress.specs.declared.Searched.{Searched}
 use Rattle.lending.specs.Work.{Work, Beyond}
 use Rattle.columns.specs.Layout.{column_size, kept_size}
+
+-- Why a tightening has no further find, with how far the search has come.
+abbrev pub Halt : Type 0
+Halt = Stop Progress
 
 -- A plan without the added last clause.
 unfoldable pub untightened : Plan → Plan
@@ -63,19 +67,19 @@ pub record Leaves (p : Plan) (tables terms tables' assignment assignment' : List
 -- What one call with the added clause comes to.
 unfoldable pub called_of : Result Progress Halt → Assignment → List Assignment → Outcome Reached
 called_of (Ok t) b fs = ends (reached b) (at t.spent.used t.spent.flips fs)
-called_of (Err (halt.Failed t)) b fs = ends failed (at t.spent.used t.spent.flips fs)
-called_of (Err (halt.Short t)) b fs = short (at t.spent.used t.spent.flips fs)
+called_of (Err (stop.Failed t)) b fs = ends failed (at t.spent.used t.spent.flips fs)
+called_of (Err (stop.Short t)) b fs = short (at t.spent.used t.spent.flips fs)
 
 unfoldable pub progress_in : Result Progress Halt → Progress
 progress_in (Ok t) = t
-progress_in (Err (halt.Failed t)) = t
-progress_in (Err (halt.Short t)) = t
+progress_in (Err (stop.Failed t)) = t
+progress_in (Err (stop.Short t)) = t
 
 -- A find meets the bound and is one more; else the assignment and its count are as they were.
 unfoldable pub FindOr : Plan → ℕ → List ℕ → List ℕ → Result Progress Halt → Type 0
 FindOr q finds entry exit (Ok t) = (t.finds ≡ finds + 1) × T (satisfies (bits_of q.variables exit) q)
-FindOr q finds entry exit (Err (halt.Failed t)) = (t.finds ≡ finds) × (exit ≡ entry)
-FindOr q finds entry exit (Err (halt.Short t)) = (t.finds ≡ finds) × (exit ≡ entry)
+FindOr q finds entry exit (Err (stop.Failed t)) = (t.finds ≡ finds) × (exit ≡ entry)
+FindOr q finds entry exit (Err (stop.Short t)) = (t.finds ≡ finds) × (exit ≡ entry)
 
 pub record CallsUnder (s : Settings) (p : Plan) (m : ℤ) (numbers : List ℕ) (from : Progress) (r : Result Progress Halt) (entry exit : List ℕ) : Type 0 where
   pub outcome :
@@ -108,16 +112,16 @@ Concludes w p numbers t a r =
 unfoldable pub Descends : Settings → Mode → Plan → List ℕ → Progress → Assignment → Assignment → Result Progress Halt → Type 0
 Descends s mode p numbers from a b (Ok t) =
     (o : Plan → ℕ → Assignment → Walk Ending) → Concludes (λ q. descending s q mode (o q)) p numbers from a (answer_of code.Floor t (reached b))
-Descends s mode p numbers from a b (Err (halt.Short t)) =
+Descends s mode p numbers from a b (Err (stop.Short t)) =
     (o : Plan → ℕ → Assignment → Walk Ending) → Concludes (λ q. descending s q mode (o q)) p numbers from a (answer_of code.ShortFound t (reached b))
-Descends s mode p numbers from a b (Err (halt.Failed t)) =
+Descends s mode p numbers from a b (Err (stop.Failed t)) =
     (o : Plan → ℕ → Assignment → Walk Ending) (r : Answer) → Concludes o p numbers t b r → Concludes (λ q. descending s q mode (o q)) p numbers from a r
 
 -- How a tightening ends where nothing follows its failure.
 unfoldable pub StoppedAt : Result Progress Halt → Searched → Type 0
 StoppedAt (Ok t) r = (r.ending ≡ code.Floor) × (r.progress ≡ t)
-StoppedAt (Err (halt.Failed t)) r = (r.ending ≡ code.Ended) × (r.progress ≡ t)
-StoppedAt (Err (halt.Short t)) r = (r.ending ≡ code.ShortFound) × (r.progress ≡ t)
+StoppedAt (Err (stop.Failed t)) r = (r.ending ≡ code.Ended) × (r.progress ≡ t)
+StoppedAt (Err (stop.Short t)) r = (r.ending ≡ code.ShortFound) × (r.progress ≡ t)
 
 -- What the code does with the tables that hold the plan with an added clause: p is the plan without it.
 abbrev pub UnderBound : Settings → ℤ → (tables terms numbers : List ℕ) → Progress → Result Progress Halt → (tables' assignment assignment' : List ℕ) → (w w' : Work) → Type 0

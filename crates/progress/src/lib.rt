@@ -11,10 +11,13 @@ ghost use Rattle.progress.specs.Bounds.{StoppedAt};
 
 use costs::cost;
 use counting::tightening::{lbs_bound, linear_bound};
+use moves::Stop;
+use settings::Tightening;
 use tries::Spent;
 use words::{copy, index};
 
-// How far a search has come after a find: what it costs, how many finds were made, and what is spent.
+// How far a search has come after a find: what it costs, how many finds were made, and what is spent. That it tracks the numbers and the assignment stands in
+// the contracts, since both are the caller's, as with `Spent`.
 #[derive(Clone, Copy, Debug, PartialEq, Eq)]
 pub struct Progress {
     pub cost: i64,
@@ -22,12 +25,8 @@ pub struct Progress {
     pub spent: Spent,
 }
 
-// Why a tightening has no further find: a call with the added clause failed, or too few numbers were left; and how far the search has come.
-#[derive(Clone, Copy, Debug, PartialEq, Eq)]
-pub enum Halt {
-    Failed(Progress),
-    Short(Progress),
-}
+// Why a tightening has no further find, with how far the search has come: it fails where a call with the added clause does.
+pub type Halt = Stop<Progress>;
 
 // How a search ends, by the number that the answer gives it.
 #[derive(Clone, Copy, Debug, PartialEq, Eq)]
@@ -39,6 +38,7 @@ pub enum Ending {
     ShortNone = 5,
 }
 
+// What a search answers. Without a find cost and finds are 0, as the answer to C has them; the ending says which.
 #[derive(Clone, Copy, Debug, PartialEq, Eq)]
 pub struct Searched {
     pub ending: Ending,
@@ -66,24 +66,24 @@ pub fn stopped(end: Result<Progress, Halt>) -> Searched
             ending: Ending::Floor,
             progress,
         },
-        Err(Halt::Failed(progress)) => Searched {
+        Err(Stop::Failed(progress)) => Searched {
             ending: Ending::Ended,
             progress,
         },
-        Err(Halt::Short(progress)) => Searched {
+        Err(Stop::Short(progress)) => Searched {
             ending: Ending::ShortFound,
             progress,
         },
     }
 }
 
-// The bound that a find of this cost gives the next call. The mode stays the number that the C interface takes, since each caller only hands it on.
+// The bound that a find of this cost gives the next call. The mode comes as the number that the C interface takes: callers hand it on, and it is a kind here.
 pub fn bound_for(mode: u32, least: i64, cost: i64) -> i64
     requires { (nat_abs least < 4294967296) × (nat_abs cost < 4294967296) }
     ensures { result ≡ bound_in (mode_of mode) least cost }
 {
-    if mode == 0 {
-        return linear_bound(cost);
+    match Tightening::from(mode) {
+        Tightening::Linear => linear_bound(cost),
+        Tightening::Lbs => lbs_bound(least, cost),
     }
-    lbs_bound(least, cost)
 }

@@ -5,6 +5,8 @@ use Rattle.plpb.specs.Lists.{◌and◌}
 use Rattle.plpb.specs.Settings.{Mode, linear, lbs, Heuristic, skc, novelty, Settings}
 use Rattle.format.specs.File.{refuse}
 use Rattle.settings.specs.declared.Settings.{Settings as Asked}
+use Rattle.settings.specs.declared.Tightening.{Tightening}
+use Rattle.settings.specs.declared.Tightening.TheVariants as tightening
 
 -- "Turned away: 15 for another heuristic, 16 for a chance above 1,000, after 14."
 unfoldable pub choice_refusal : Asked → ℕ
@@ -20,6 +22,11 @@ settings_refusal k =
 unfoldable pub mode_of : ℕ → Mode
 mode_of zero = linear
 mode_of (suc m) = lbs
+
+-- The mode that a tightening of the code is.
+unfoldable pub mode_in : Tightening → Mode
+mode_in tightening.Linear = linear
+mode_in tightening.Lbs = lbs
 
 -- "a heuristic byte (0 SKC, 1 this)"
 unfoldable pub heuristic_of : ℕ → Heuristic

@@ -1,8 +1,8 @@
-// What the planner sets, and the test of it.
+// What the planner sets, the test of it, and what its mode means.
 #![tactic(auto)]
 
 ghost use Rattle.std.specs.Prelude.{◌≡◌};
-ghost use Rattle.settings.specs.Settings.{choice_refusal, settings_refusal};
+ghost use Rattle.settings.specs.Settings.{choice_refusal, settings_refusal, mode_of, mode_in};
 
 // Noise in thousandths, the tries of a call, the flips of a try, 0 for linear or 1 for LBS, 0 for SKC or 1 for Novelty+, and its walk chance in thousandths.
 // The C interface takes any number for mode and heuristic and refuses one out of range, so that both are numbers here.
@@ -14,6 +14,26 @@ pub struct Settings {
     pub mode: u32,
     pub heuristic: u32,
     pub chance: u32,
+}
+
+// How a search tightens: by the bound next below a find's cost, or by one a third of the way from there down to l(O) until a call fails.
+#[derive(Clone, Copy, Debug, PartialEq, Eq)]
+pub enum Tightening {
+    Linear,
+    Lbs,
+}
+
+// Any number means one of the two, because a number out of range is refused before a search asks what it means.
+impl From<u32> for Tightening {
+    ghost from_gives = { λ n t. mode_in t ≡ mode_of n };
+
+    #[tactic(auto, unfolding(crate::specs::Settings::mode_in, crate::specs::Settings::mode_of))]
+    fn from(mode: u32) -> Tightening {
+        match mode {
+            0 => Tightening::Linear,
+            _ => Tightening::Lbs,
+        }
+    }
 }
 
 // The chance is judged under either choice. Its number is one of those that the C interface gives out.
@@ -36,16 +56,10 @@ pub fn settings_refusal(s: Settings) -> u32
     if 1000 < s.noise {
         return 11;
     }
-    if s.tries < 1 {
+    if !(1..=1000).contains(&s.tries) {
         return 12;
     }
-    if 1000 < s.tries {
-        return 12;
-    }
-    if s.flips < 1 {
-        return 13;
-    }
-    if 1000000 < s.flips {
+    if !(1..=1000000).contains(&s.flips) {
         return 13;
     }
     if 1 < s.mode {

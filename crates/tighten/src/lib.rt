@@ -10,10 +10,12 @@ ghost use Rattle.lending.specs.Work.{work};
 ghost use Rattle.progress.specs.Bounds.{basis, Room, Tracks, Tightens};
 
 use descent::descend;
-use progress::{Halt, Progress, Searched, stopped};
-use settings::Settings;
+use moves::Stop;
+use progress::{Progress, Searched, stopped};
+use settings::{Settings, Tightening};
 
-// From a first find on: linear ends at its first failure, LBS "at the first failure goes over to linear".
+// From a first find on: linear ends at its first failure, LBS "at the first failure goes over to linear". The second call takes the 0 that the C interface has
+// for linear, as `descend` takes the mode.
 pub fn tighten(
     tables: &mut [u8],
     terms: &[u8],
@@ -36,13 +38,14 @@ pub fn tighten(
     let first = descend(
         tables, terms, numbers, s, s.mode, floor, from, assignment, tried, tallies, marks,
     );
-    if s.mode == 0 {
+    if Tightening::from(s.mode) == Tightening::Linear {
         return stopped(first);
     }
+    // A `let .. else` would make one case of the two other ends, while the proof asks which of the two it is.
     let at = match first {
         Ok(_) => return stopped(first),
-        Err(Halt::Short(_)) => return stopped(first),
-        Err(Halt::Failed(at)) => at,
+        Err(Stop::Short(_)) => return stopped(first),
+        Err(Stop::Failed(at)) => at,
     };
     let second = descend(
         tables, terms, numbers, s, 0, floor, at, assignment, tried, tallies, marks,

@@ -30,14 +30,11 @@ use Rattle.numbers.specs.Taking.{Starts}
 use Rattle.numbers.proofs.Taking.{length_numbers_of, length_start, started_taken, started_short, words_use}
 use Rattle.plpb.proofs.Tallies.{look_by_count}
 use Rattle.numbers.proofs.Runs.{flipping_none, flipping_found, flipping_moved, flipping_stuck, flipping_short, try_started, try_short, trying_none, trying_next, trying_found, trying_short, run_call}
-use Rattle.moves.specs.declared.Unmoved.{Unmoved}
-use Rattle.moves.specs.declared.Unmoved.TheVariants as unmoved
+use Rattle.moves.specs.declared.Stop.TheVariants as stop
 use Rattle.tries.specs.declared.Spent.{Spent}
-use Rattle.tries.specs.declared.Unreached.{Unreached}
-use Rattle.tries.specs.declared.Unreached.TheVariants as unreached
 use Rattle.lending.specs.Work.{Work, Beyond}
-use Rattle.moves.specs.Moves.{bits_in, try_in, Prepared, Walking, moved_of, used_in, IfMade, Moves}
-use Rattle.tries.specs.Steps.{Startable, tried_of, stopped_at, spent_by, IfReached, Tries}
+use Rattle.moves.specs.Moves.{Unmoved, bits_in, try_in, Prepared, Walking, moved_of, used_in, IfMade, Moves}
+use Rattle.tries.specs.Steps.{Unreached, Startable, tried_of, stopped_at, spent_by, IfReached, Tries}
 use Rattle.moves.proofs.Moving.{unsatisfied_word}
 use Rattle.format.specs.Layout.{table_size, unsatisfied_at, mark_size}
 use Rattle.stamps.specs.Stamps.{Stamped, unstamped}
@@ -150,7 +147,7 @@ module _ {s : Settings} {tables terms numbers : List ℕ} {begun : Spent} {w : W
     pub flips_stopped : {r : Result ℕ Unmoved} (why : Unmoved) {u : Work} → r ≡ Err why → Moves s tables terms numbers spent.used turn r v u
         → Tries (flipping s p s.flips (try_in tables terms [] w)) tables terms numbers begun.used begun.flips begun.used (Err (stopped_at why spent.flips)) w u
     unfolding stopped_at moved_of used_in IfMade tried_of spent_by IfReached
-    flips_stopped {r} (unmoved.Stuck after) {u} e' n =
+    flips_stopped {r} (stop.Failed after) {u} e' n =
         let m = subst (λ q. Moves s tables terms numbers spent.used turn q v u) e' n in
         let on-from = m.reaches i.flips i.stamped i.counted in
         record {
@@ -162,7 +159,7 @@ module _ {s : Settings} {tables terms numbers : List ℕ} {begun : Spent} {w : W
           prepared = m.prepared;
           beyond = beyond_on i.beyond m.beyond;
         }
-    flips_stopped {r} (unmoved.Short after) {u} e' n =
+    flips_stopped {r} (stop.Short after) {u} e' n =
         let m = subst (λ q. Moves s tables terms numbers spent.used turn q v u) e' n in
         let on-from = m.reaches i.flips i.stamped i.counted in
         record {
@@ -175,7 +172,7 @@ module _ {s : Settings} {tables terms numbers : List ℕ} {begun : Spent} {w : W
           beyond = beyond_on i.beyond m.beyond;
         }
 
-  pub flips_end : s.flips ≤ turn → Tries (flipping s p s.flips (try_in tables terms [] w)) tables terms numbers begun.used begun.flips begun.used (Err (unreached.Failed spent)) w v
+  pub flips_end : s.flips ≤ turn → Tries (flipping s p s.flips (try_in tables terms [] w)) tables terms numbers begun.used begun.flips begun.used (Err (stop.Failed spent)) w v
   unfolding tried_of spent_by IfReached
   flips_end h =
       let e : s.flips - turn ≡ 0 = omega arith in
@@ -303,7 +300,7 @@ module _ {tables terms : List ℕ} (numbers : List ℕ) {used made : ℕ} {w : W
 
   pub no_start : (s : Settings) {gone : Short} {v : Work} → used ≤ length numbers / 4 → r ≡ Err gone
       → v.assignment ≡ bytes → v.tallies ≡ w.tallies → v.marks ≡ w.marks
-      → Tries (try s q) tables terms numbers used made (used + 1) (Err (unreached.Short (record { used = used; flips = made }))) w v
+      → Tries (try s q) tables terms numbers used made (used + 1) (Err (stop.Short (record { used = used; flips = made }))) w v
   unfolding tried_of spent_by IfReached
   no_start s {gone} {v} l e a y m =
       let d = started_short (take_words (start_words n) (numbers_of numbers) used) h e in
@@ -367,7 +364,7 @@ module _ {s : Settings} {tables terms numbers : List ℕ} {begun : Spent} {w : W
       abbrev told : {q : Result Spent Unreached} → t ≡ q → Tries (try s o) tables terms numbers spent.used spent.flips (spent.used + 1) q v u
       told e = subst (λ q. Tries (try s o) tables terms numbers spent.used spent.flips (spent.used + 1) q v u) e n
 
-      pub calls_more : {after : Spent} → t ≡ Err (unreached.Failed after) → Sized v u → Calling s tables terms numbers begun w after (turn + 1) u
+      pub calls_more : {after : Spent} → t ≡ Err (stop.Failed after) → Sized v u → Calling s tables terms numbers begun w after (turn + 1) u
       unfolding tried_of spent_by
       calls_more e z =
           let g = told e in
@@ -395,8 +392,8 @@ module _ {s : Settings} {tables terms numbers : List ℕ} {begun : Spent} {w : W
             beyond = beyond_on i.beyond g.beyond;
           }
 
-      pub calls_gone : {gone : Spent} → t ≡ Err (unreached.Short gone)
-          → Tries (call s o) tables terms numbers begun.used begun.flips (begun.used + 1) (Err (unreached.Short gone)) w u
+      pub calls_gone : {gone : Spent} → t ≡ Err (stop.Short gone)
+          → Tries (call s o) tables terms numbers begun.used begun.flips (begun.used + 1) (Err (stop.Short gone)) w u
       unfolding tried_of spent_by IfReached
       calls_gone e =
           let g = told e in
@@ -410,7 +407,7 @@ module _ {s : Settings} {tables terms numbers : List ℕ} {begun : Spent} {w : W
             beyond = beyond_on i.beyond g.beyond;
           }
 
-  pub calls_end : s.tries ≤ turn → Tries (call s o) tables terms numbers begun.used begun.flips (begun.used + 1) (Err (unreached.Failed spent)) w v
+  pub calls_end : s.tries ≤ turn → Tries (call s o) tables terms numbers begun.used begun.flips (begun.used + 1) (Err (stop.Failed spent)) w v
   unfolding tried_of spent_by IfReached
   calls_end h =
       let e : s.tries - turn ≡ 0 = omega arith in

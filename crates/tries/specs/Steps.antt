@@ -10,12 +10,14 @@ use Rattle.tallies.specs.Layout.{are_bits}
 use Rattle.columns.specs.Layout.{column_size, kept_size}
 use Rattle.recount.specs.Core.{Ready}
 use Rattle.numbers.specs.Numbers.{numbers_of}
-use Rattle.moves.specs.declared.Unmoved.{Unmoved}
-use Rattle.moves.specs.declared.Unmoved.TheVariants as unmoved
+use Rattle.moves.specs.declared.Stop.{Stop}
+use Rattle.moves.specs.declared.Stop.TheVariants as stop
 use Rattle.tries.specs.declared.Spent.{Spent}
-use Rattle.tries.specs.declared.Unreached.{Unreached}
-use Rattle.tries.specs.declared.Unreached.TheVariants as unreached
-use Rattle.moves.specs.Moves.{bits_in, Prepared}
+use Rattle.moves.specs.Moves.{Unmoved, bits_in, Prepared}
+
+-- Why a try or a call reached no assignment, with what is spent then.
+abbrev pub Unreached : Type 0
+Unreached = Stop Spent
 
 -- There is room for an assignment, its tallies and the marks, with all that is kept behind them.
 pub record Startable (tables terms : List ℕ) (w : Work) : Type 0 where
@@ -26,18 +28,18 @@ pub record Startable (tables terms : List ℕ) (w : Work) : Type 0 where
 -- What a try or a call comes to, with the finds before it and the assignment that it leaves.
 unfoldable pub tried_of : Result Spent Unreached → Assignment → List Assignment → Outcome Reached
 tried_of (Ok t) b fs = ends (reached b) (at t.used t.flips fs)
-tried_of (Err (unreached.Failed t)) b fs = ends failed (at t.used t.flips fs)
-tried_of (Err (unreached.Short t)) b fs = short (at t.used t.flips fs)
+tried_of (Err (stop.Failed t)) b fs = ends failed (at t.used t.flips fs)
+tried_of (Err (stop.Short t)) b fs = short (at t.used t.flips fs)
 
 -- How a try ends where no flip was made.
 unfoldable pub stopped_at : Unmoved → ℕ → Unreached
-stopped_at (unmoved.Stuck used) flips = unreached.Failed (record { used = used; flips = flips })
-stopped_at (unmoved.Short used) flips = unreached.Short (record { used = used; flips = flips })
+stopped_at (stop.Failed used) flips = stop.Failed (record { used = used; flips = flips })
+stopped_at (stop.Short used) flips = stop.Short (record { used = used; flips = flips })
 
 unfoldable pub spent_by : Result Spent Unreached → Spent
 spent_by (Ok t) = t
-spent_by (Err (unreached.Failed t)) = t
-spent_by (Err (unreached.Short t)) = t
+spent_by (Err (stop.Failed t)) = t
+spent_by (Err (stop.Short t)) = t
 
 abbrev pub used_by : Result Spent Unreached → ℕ
 used_by r = (spent_by r).used

@@ -14,7 +14,7 @@ ghost use Rattle.lending.specs.Work.{work};
 
 use keeping::open_kept;
 use locks::hold_locks;
-use moves::{Unmoved, make_move};
+use moves::{Stop, Unmoved, make_move};
 use numbers::start;
 use preparing::prepare;
 use recount::tables::Tables;
@@ -22,27 +22,25 @@ use settings::Settings;
 use stamps::clear_stamps;
 use words::{index, word};
 
-// How many numbers are used and flips made.
+// How many numbers are used and flips made. The flips are no more than the numbers, and these no more than the list has. The list is the caller's, so that the
+// second stands in the contracts; a Spent that kept the first alone would ask for its proof wherever one is made, also where `stopped` makes it of any two.
 #[derive(Clone, Copy, Debug, PartialEq, Eq)]
 pub struct Spent {
     pub used: usize,
     pub flips: usize,
 }
 
-// Why a try or a call reached no assignment: it failed, or too few numbers were left; and what is spent then.
-#[derive(Clone, Copy, Debug, PartialEq, Eq)]
-pub enum Unreached {
-    Failed(Spent),
-    Short(Spent),
-}
+// Why a try or a call reached no assignment, with what is spent then.
+pub type Unreached = Stop<Spent>;
 
-// How a try ends where no flip was made: stuck, it fails; else too few numbers were left.
+// How a try ends where no flip was made: stuck, it fails; else too few numbers were left. A `map` over a closure would carry the two reasons on; its clause
+// would be told of the closure, here it is told of the two arms.
 fn stopped(why: Unmoved, flips: usize) -> Unreached
     ensures { result ≡ stopped_at why flips }
 {
     match why {
-        Unmoved::Stuck(used) => Unreached::Failed(Spent { used, flips }),
-        Unmoved::Short(used) => Unreached::Short(Spent { used, flips }),
+        Stop::Failed(used) => Stop::Failed(Spent { used, flips }),
+        Stop::Short(used) => Stop::Short(Spent { used, flips }),
     }
 }
 
@@ -70,6 +68,7 @@ fn make_flips(
         if word(tallies, format::UNSATISFIED) == 0 {
             return Ok(spent);
         }
+        // A `?` would need the reason turned by a closure before it, which says no more than the second arm.
         match make_move(t, numbers, spent.used, s, turn, assignment, tallies, marks) {
             Ok(used) => {
                 spent = Spent {
@@ -80,7 +79,7 @@ fn make_flips(
             Err(why) => return Err(stopped(why, spent.flips)),
         }
     }
-    Err(Unreached::Failed(spent))
+    Err(Stop::Failed(spent))
 }
 
 // One try: its start, in which locked variables take their value, the tallies of that, no flip of any variable yet, its flips.
@@ -101,7 +100,7 @@ fn try_once(
 {
     let n = index(t.tables, 0);
     let Ok(used) = start(numbers, begun.used, n, assignment) else {
-        return Err(Unreached::Short(begun));
+        return Err(Stop::Short(begun));
     };
     hold_locks(t.tables, n, assignment);
     open_kept(t, assignment, tallies);
@@ -118,7 +117,7 @@ fn try_once(
     )
 }
 
-// Tries until one reaches an assignment that satisfies the plan.
+// Tries until one reaches an assignment that satisfies the plan. Of the three ways that a try ends only a failure goes on.
 fn make_tries(
     t: &Tables<'_>,
     numbers: &[u8],
@@ -138,11 +137,11 @@ fn make_tries(
     for _try in 0..s.tries {
         match try_once(t, numbers, spent, s, assignment, tallies, marks) {
             Ok(found) => return Ok(found),
-            Err(Unreached::Short(gone)) => return Err(Unreached::Short(gone)),
-            Err(Unreached::Failed(after)) => spent = after,
+            Err(Stop::Short(gone)) => return Err(Stop::Short(gone)),
+            Err(Stop::Failed(after)) => spent = after,
         }
     }
-    Err(Unreached::Failed(spent))
+    Err(Stop::Failed(spent))
 }
 
 // One call. What is kept of the plan is worked out at its beginning, because the tables may have another last clause than at the call before.

@@ -1,5 +1,6 @@
 // The search of tables that are known to fit: the first call with the plan alone, then the tightening.
 // The buffers to write come one by one: one is read while another is written, which a struct of them would not let be proved.
+// What is only read comes one by one as well, as C hands it over (see `search`).
 // The numbers and the settings stay two: a struct of them would be made at the top only to be taken apart at the bottom.
 #![tactic(auto)]
 
@@ -16,7 +17,8 @@ use progress::Searched;
 use settings::Settings;
 use tries::{Spent, Unreached};
 
-// From the first call on: it found nothing, or the search goes on from its find.
+// From the first call on: it found nothing, or the search goes on from its find. `nothing` takes the whole result, since a reason alone would be a narrower
+// type, which asks more of callers.
 fn from_call(
     t: Result<Spent, Unreached>,
     numbers: &[u8],

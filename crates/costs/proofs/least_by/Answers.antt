@@ -7,13 +7,14 @@ use mathlib.Core.Path.{◌≡◌, ◌∙◌, ap, refl}
 use mir.Facts.{to_z-of_z}
 use Rattle.plpb.specs.Plan.{negative_part}
 use Rattle.costs.specs.Sums.{least_by}
+use Rattle.costs.proofs.Coefficients.{negative_min}
 use Rattle.costs.proofs.least_by.Goals as goal
 
 pub returns-in-0 : goal.returns-in-0
 unfolding least_by
 returns-in-0 c =
     rw (eq-eqb _ _ c.in-0.is)
-    (to_z-of_z {w = w64} (record { sfits = c.negative.type_inv }) ∙ c.negative.ensures ∙ ap negative_part (to_z-of_z c.ranges.weight))
+    (to_z-of_z {w = w64} (record { sfits = c.min.type_inv }) ∙ c.min.ensures.value ∙ negative_min _ ∙ ap negative_part (to_z-of_z c.ranges.weight))
 
 pub returns-in-1 : goal.returns-in-1
 unfolding least_by

@@ -1,10 +1,9 @@
 -- The goals that the search leaves.
-use native.Mathlib.Omega.{arith}
-use mathlib.Core.Path.{◌≡◌, ap, ◌∙◌}
+use mathlib.Core.Path.{ap, ◌∙◌}
 use lib.IntN.{ℤ, ◌+ℤ◌}
 use mir.Syntax.{w64}
 use mir.Val.{SFits, to_z}
-use Rattle.costs.proofs.Coefficients.{summed_none, summed_more, summed_all, step_is, step_small, Summed}
+use Rattle.costs.proofs.Coefficients.{summed_more, summed_all, step_is, step_small}
 use Rattle.costs.proofs.total.Goals as goal
 
 pub loop-i-preserved : goal.loop-i-preserved

@@ -1,9 +1,8 @@
 -- `hold_locks` meets its contract. The invariant: the first i bytes are held, the rest as they were.
 -- Assumes nothing.
-use Prim.Native.Nat.{◌≤◌}
 use mathlib.Core.List.{◌++◌}
 use mathlib.Core.Path.{◌≡◌}
-use lib.ListN.{length, take, drop}
+use lib.ListN.{take, drop}
 use Rattle.locks.specs.Held.{held_first}
 use Rattle.locks.proofs.hold_locks.Given as goal
 

@@ -1,17 +1,31 @@
 -- `tighten` meets its contract: the mode's own tightening, and where LBS failed, linear from there.
 -- Assumes nothing.
-use mathlib.Core.Path.{◌∙◌, sym, ap}
+use denote.Enum.Bare.{same_true, same_false}
+use mathlib.Core.Path.{◌≡◌, refl, ◌∙◌, sym, ap}
 use mir.Facts.{to_z-of_z}
 use Rattle.std.specs.Prelude.{Err}
 use Rattle.plpb.specs.Plan.{floor_cost}
+use Rattle.plpb.specs.Settings.{lbs}
+use Rattle.settings.specs.declared.Tightening.{Tightening}
+use Rattle.settings.specs.declared.Tightening.TheVariants as tightening
+use Rattle.settings.specs.contracts.Tightening.{the_type}
+use Rattle.settings.specs.Settings.{mode_in, mode_of}
 use Rattle.progress.proofs.Bounds.{bounded_basis}
 use Rattle.progress.proofs.Concluding.{room_here, room_after, unfailed, unfailed_floor, unfailed_short, tightens_linearly, stopped_tracks, failed_tracks, lbs_then_linear}
 use Rattle.tighten.proofs.tighten.Goals as goal
 
-pub returns-then-s-eq0 : goal.returns-then-s-eq0
-returns-then-s-eq0 c =
-    let e = c.descend-first.ensures in (
-      tightens_linearly _ _ _ c.args.from _ _ _ _ c.stopped.ensures _ c.if-s-eq0.true e.1 e.0,
+-- A mode that is not linear is the other.
+not_linear : (m : Tightening) → (m ≡ tightening.Linear → ⊥) → mode_in m ≡ lbs
+unfolding mode_in
+not_linear tightening.Linear h = absurd (h refl)
+not_linear tightening.Lbs h = refl
+
+pub returns-then-eq : goal.returns-then-eq
+unfolding mode_in
+returns-then-eq c =
+    let e = c.descend-first.ensures in
+    let m = c.from.ensures in (
+      tightens_linearly _ _ _ c.args.from _ _ _ _ c.stopped.ensures _ (sym m ∙ ap mode_in {y = tightening.Linear} (same_true the_type tt _ _ (sym c.eq.ensures ∙ c.if-eq.true))) e.1 e.0,
       stopped_tracks _ _ c.stopped.ensures e.1,
       e.2,
     )
@@ -38,6 +52,8 @@ descend-second-requires c =
     )
 
 pub returns : goal.returns
+unfolding mode_in mode_of
 returns c =
     let e = c.descend-first.ensures in
-    lbs_then_linear (c.in-Err-Failed.is ∙ ap Err (rw c.in-Err-Failed.is at c.in-Err-Failed.field-0-is)) e.2 _ c.args.from _ c.if-s-eq0.false e.0 _ _ c.stopped-2.ensures c.descend-second.ensures
+    let m = c.from.ensures in
+    lbs_then_linear (c.in-Err-Failed.is ∙ ap Err (rw c.in-Err-Failed.is at c.in-Err-Failed.field-0-is)) e.2 _ c.args.from _ (sym m ∙ not_linear _ (same_false the_type _ _ (sym c.eq.ensures ∙ c.if-eq.false))) e.0 _ _ c.stopped-2.ensures c.descend-second.ensures

@@ -4,9 +4,9 @@ use mathlib.Core.Path.{refl}
 use Rattle.tries.specs.Steps.{stopped_at}
 use Rattle.tries.proofs.stopped.Goals as goal
 
-pub returns-in-Stuck : goal.returns-in-Stuck
+pub returns-in-Failed : goal.returns-in-Failed
 unfolding stopped_at
-returns-in-Stuck c = rw c.in-Stuck.is refl
+returns-in-Failed c = rw c.in-Failed.is refl
 
 pub returns-in-Short : goal.returns-in-Short
 unfolding stopped_at

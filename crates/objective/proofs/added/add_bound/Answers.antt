@@ -1,6 +1,5 @@
 -- `add_bound` meets its contract: the objective's terms go behind the plan's own, and the entries and counts say so.
 -- Assumes nothing.
-use borrow.Author.Rules.{rules}
 use Prim.Native.Nat.{◌-◌}
 use native.Mathlib.Omega.{arith}
 use mathlib.Core.Path.{◌≡◌, ◌∙◌, ap}

@@ -1,6 +1,5 @@
 -- `add_rule` meets its contract: two words, two and one, each behind the ones before.
 -- Assumes nothing.
-use borrow.Author.Rules.{rules}
 use native.Mathlib.Omega.{arith}
 use Rattle.objective.proofs.WordWrites.{rule_written}
 use Rattle.objective.proofs.added.add_rule.Goals as goal

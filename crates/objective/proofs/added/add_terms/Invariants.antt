@@ -1,6 +1,5 @@
 -- `add_terms` meets its contract. The invariant: the terms to come, written where the next goes, leave what all of them leave.
 -- Assumes nothing.
-use Prim.Native.Nat.{◌-◌}
 use Rattle.objective.proofs.AddedTerms.{Adding}
 use Rattle.objective.proofs.added.add_terms.Given as goal
 
