@@ -14,7 +14,8 @@ pub const SETTINGS: usize = 24;
 
 pub const ANSWER: usize = 40;
 
-// The settings of race i, from 0.
+// The settings of race i, from 0. They are six words, each told by its index in the whole buffer, as `word` takes it: a part of the slice would be cut at two
+// places in bytes first.
 pub fn settings_at(settings: &[u8], i: usize) -> Settings
     requires { settings_size * i + settings_size ≤ length settings.now }
     ensures { result ≡ settings_at settings.now i }
@@ -29,7 +30,7 @@ pub fn settings_at(settings: &[u8], i: usize) -> Settings
     }
 }
 
-// The number whose 64 bits stand for a signed one.
+// The number whose 64 bits stand for a signed one: the library's method, under the word of the clause that the answer's bytes cite.
 fn bits(v: i64) -> u64
     ensures { result ≡ bits_of64 v }
 {

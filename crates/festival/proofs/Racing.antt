@@ -29,7 +29,7 @@ use Rattle.division.specs.Split.{refusal_after, parts_after}
 use Rattle.division.specs.declared.Refusal.{Refusal}
 use Rattle.division.specs.declared.Refusal.TheVariants.{NoRoom}
 use Rattle.division.specs.Eight.{kept, refusal_in, parts_in, divided}
-use Rattle.std.specs.Prelude.{Result, Ok, Err}
+use Rattle.std.specs.Prelude.{Result, Ok, Err, IsErrAnd}
 use Rattle.division.proofs.Plain.{AllWithin, divided_within, Told, room_told, divided_told}
 use Rattle.races.specs.Races.{stakes_in, parts_put}
 use Rattle.exchange.specs.Exchange.{settings_size, answer_size, settings_at, answer_bytes}
@@ -202,6 +202,11 @@ pub told_room : (m room : ℕ) → room ≡ 21
 told_room m room small ss =
     let t = room_told ss m in
     (t.refusal ∙ ap (λ (k : ℕ). refusal_after k ss) (sym small), t.parts ∙ ap (λ (k : ℕ). parts_after k m ss) (sym small))
+
+-- A `?` hands the refusal on as it is.
+pub handed_on : (r : Result Parts Refusal) {why : Refusal} → IsErrAnd r (λ e. e ≡ why) → r ≡ Err why
+handed_on (Ok p) h = absurd h
+handed_on (Err e) h = ap Err h
 
 -- Nothing is made for a refusal.
 pub none_made : (g : Given) (b : Buffers) (r : Refusal) → b ≡ raced g (parts_in (Err r)) b

@@ -1,6 +1,7 @@
 // Up to 8 races searched one after another, each with its part of one list of numbers. Each answer and assignment goes to its race's place in a buffer
 // that has one for each race; the work tables serve every race.
-// The buffers to write come one by one: one is read while another is written, which a struct of them would not let be proved.
+// The buffers to write come one by one: one is read while another is written, which a struct of them would not let be proved. Each may have any length, as C
+// lends it: the call answers 21 for one that is too short, so that no type can have its length.
 #![tactic(auto)]
 
 ghost use Rattle.std.specs.Prelude.{◌≡◌, cond, List, [], ◌∷◌, ℕ, ◌+◌, ◌*◌, ◌/◌, ◌≤◌, ◌<◌, length, get_or, map};
@@ -12,7 +13,7 @@ ghost use Rattle.races.specs.Races.{stakes_in, parts_put};
 ghost use Rattle.festival.specs.Own.{works};
 ghost use Rattle.festival.specs.Festival.{given, given_in, buffers, place, race_once, race_next, raced, room_refusal, Fits};
 
-use division::{Part, Parts, Refusal, Stakes, divide, number_of};
+use division::{Part, Parts, Refusal, Stakes, divide};
 use exchange::{put_answer, settings_at};
 use races::{put_in, stakes_in};
 use search::search;
@@ -27,7 +28,8 @@ const ALL_ASSIGNMENTS: usize = RACES * format::ASSIGNMENT;
 
 const ALL_ANSWERS: usize = RACES * exchange::ANSWER;
 
-// What is read: the list of numbers, the settings, and the plans' tables and terms in the races' order.
+// What is read: the list of numbers, the settings, and the plans' tables and terms in the races' order. Tables and terms stand in two arrays, as `given`
+// names two lists of what they hold: an array of pairs would be taken apart into these two in each clause.
 #[derive(Clone, Copy)]
 pub struct Given<'a> {
     pub numbers: &'a [u8],
@@ -40,19 +42,11 @@ pub struct Given<'a> {
 fn has_room(settings: usize, assignments: usize, answers: usize) -> bool
     ensures { room_refusal settings assignments answers ≡ cond result 0 21 }
 {
-    if settings < ALL_SETTINGS {
-        return false;
-    }
-    if assignments < ALL_ASSIGNMENTS {
-        return false;
-    }
-    if answers < ALL_ANSWERS {
-        return false;
-    }
-    true
+    ALL_SETTINGS <= settings && ALL_ASSIGNMENTS <= assignments && ALL_ANSWERS <= answers
 }
 
-// One race's slice of all, by its place from 0.
+// One race's slice of all, by its place from 0. It is the library's index, and stands here for its clause: callers cite the place in the list of what the
+// slices hold, where the index speaks of the slices.
 fn one_of<'a>(i: usize, slices: [&'a [u8]; RACES]) -> &'a [u8]
     requires { i < 8 }
     ensures { result.now ≡ get_or (map (λ s. s.now) slices.entry) i [] }
@@ -152,7 +146,7 @@ fn race_at(
     );
 }
 
-// All races that have a part.
+// All races that have a part. A race goes by its number: plans, settings and places are told by it, so that the loop is over the numbers.
 fn race_all(
     p: Parts,
     g: &Given<'_>,
@@ -192,7 +186,7 @@ fn race_all(
     }
 }
 
-// A festival of the races with these stakes: 21, 61 or 62 and nothing written, or each race's part, answer and assignment.
+// A festival of the races with these stakes: a refusal and nothing written, or each race's part, answer and assignment.
 pub fn plan_all(
     stakes: Stakes,
     g: &Given<'_>,
@@ -219,23 +213,19 @@ pub fn plan_all(
     if !has_room(g.settings.len(), assignments.len(), answers.len()) {
         return Err(Refusal::NoRoom);
     }
-    match divide(stakes, g.numbers.len() / 4) {
-        Err(refusal) => Err(refusal),
-        Ok(p) => {
-            race_all(
-                p,
-                g,
-                assignments,
-                answers,
-                work_tables,
-                work_terms,
-                work_assignment,
-                work_tallies,
-                work_marks,
-            );
-            Ok(p)
-        }
-    }
+    let p = divide(stakes, g.numbers.len() / 4)?;
+    race_all(
+        p,
+        g,
+        assignments,
+        answers,
+        work_tables,
+        work_terms,
+        work_assignment,
+        work_tallies,
+        work_marks,
+    );
+    Ok(p)
 }
 
 // The call: the races stand in the list as records of three numbers, stake, first place and length.
@@ -309,6 +299,6 @@ pub fn plan_races<'a>(
             put_in(races, p);
             0
         }
-        Err(refusal) => number_of(refusal),
+        Err(refusal) => u32::from(refusal),
     }
 }

@@ -1,5 +1,7 @@
 // Figures over many runs: what is lent and asked is tested once, the runs are made, and every buffer lent for writing is cleared.
-// The buffers to write come one by one: one is read while another is written, which a struct of them would not let be proved.
+// The buffers to write come one by one: one is read while another is written, which a struct of them would not let be proved. Each may have any length, as C
+// lends it: the report is the refusal 21 where one is too short, so that no type can have its length.
+// What is only read comes one by one as well, as C hands it over and the runs take it: a struct of it would be made for one call and taken apart in the next.
 #![tactic(auto)]
 
 ghost use Rattle.std.specs.Prelude.{◌≡◌};

@@ -1,5 +1,7 @@
 // Runs of the search in a row, each over the next numbers of the generator. One run's numbers are written over those of the run before it.
-// The buffers to write come one by one: one is read while another is written, which a struct of them would not let be proved.
+// The buffers to write come one by one: one is read while another is written, which a struct of them would not let be proved. Each may be longer than the
+// search needs, as C lends it, so that no type can have its length.
+// What is only read comes one by one as well, as C hands it over and the walk takes it: a struct of it would be made for one call and taken apart in the next.
 #![tactic(auto)]
 
 ghost use Rattle.std.specs.Prelude.{◌≤◌};
@@ -63,7 +65,8 @@ fn run_once(
     Ran { state, sums }
 }
 
-// So many runs from a state.
+// So many runs from a state. What is asked comes one by one: a `Trial` has 32 bits for the runs and for the numbers of each, as C hands them over untested,
+// where runs and numbers are counted in words of the machine here.
 pub fn repeat_runs(
     tables: &[u8],
     terms: &[u8],

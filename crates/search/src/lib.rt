@@ -1,5 +1,7 @@
 // The search with its tests: what is lent and set is tested, the plan is searched, the work tables are cleared.
-// The buffers to write come one by one: one is read while another is written, which a struct of them would not let be proved.
+// The buffers to write come one by one: one is read while another is written, which a struct of them would not let be proved. Each may have any length, as C
+// lends it: the search answers 21 for one that is too short, so that no type can have its length.
+// What is only read comes one by one as well, as C hands it over and the walk takes it: a struct of it would be made for one call and taken apart in the next.
 #![tactic(auto)]
 
 ghost use Rattle.std.specs.Prelude.{◌≡◌};
@@ -13,7 +15,8 @@ use progress::Ending;
 use settings::Settings;
 use walk::search_core;
 
-// The number that C sees of an ending.
+// The number that C sees of an ending, a word of the answer. A `From` would have to stand beside the enum in `progress`, which lies below the definition of
+// these numbers that its clause needs.
 fn number_of(ending: Ending) -> u32
     ensures { result ≡ ending_number (ending_of ending) }
 {
@@ -77,6 +80,7 @@ fn searched(
     }
 }
 
+// The answer is what C sees: a refusal is a number in it, and then the rest of it is 0. `lending` gives that number, which goes out as it is.
 pub fn search(
     tables: &[u8],
     terms: &[u8],

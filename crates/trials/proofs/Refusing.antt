@@ -1,14 +1,17 @@
 -- The tests one after another: the first that fails decides.
 -- Assumes nothing.
 use Prim.Native.Nat.{ℕ, ◌≤◌, ◌<◌}
-use mathlib.Core.Path.{◌≡◌, refl, sym, ◌∙◌}
+use mathlib.Core.Path.{◌≡◌, refl, sym, ap, ◌∙◌}
 use mathlib.Core.Bool.{Bool, true, false, not, ◌&&◌}
-use mathlib.Core.Logic.{⊎_elim}
-use lib.Dec.{T, eqb, leb, ltb}
+use lib.Dec.{T, eqb, leb}
 use lib.ListN.{length}
 use mir.Facts.{leb_yes}
-use borrow.Author.Tests.{lt-ltb, le-ltb, lt-leb, le-leb, not-false}
-use Rattle.std.proofs.lemmas.Bool.Decides.{leb_tells}
+use borrow.Author.Rules.{rules}
+use borrow.Author.Tests.{lt-ltb, le-ltb, not-false, tests}
+use Rattle.std.specs.Prelude.{Some}
+use Rattle.std.specs.Ordering.{is_le, nat_cmp}
+use Rattle.std.specs.declared.ops.RangeInclusive.{RangeInclusive}
+use Rattle.std.specs.Range.{range_inclusive_start, range_inclusive_end, range_inclusive_exhausted, range_inclusive_contains}
 use Rattle.plpb.specs.Lists.{◌and◌}
 use Rattle.plpb.proofs.Lists.{and_left, and_right, T_true}
 use Rattle.format.specs.File.{refuse}
@@ -33,18 +36,16 @@ pub words_zero : (g : Xorwow) → eqb g.x 0 && (eqb g.y 0 && (eqb g.z 0 && (eqb 
 unfolding all_zero
 words_zero g = joined _ _ _ _ _
 
-not_le : (a b : ℕ) → ltb a b ≡ not (leb b a)
-not_le a b = ⊎_elim (λ h. rw (h.0, le-ltb a b h.1) refl) (λ h. rw (h.0, lt-ltb a b h.1) refl) (leb_tells b a)
+-- What a range's `contains` tells of a number is what the two tests of the definition say.
+le_test : (a b : ℕ) → is_le (nat_cmp a b) ≡ leb a b
+le_test a b = search (rules, tests)
+
+pub outside_told : {a : Bool} {n : ℕ} (x : ℕ) {r : RangeInclusive ℕ} → range_inclusive_start r ≡ 1 → range_inclusive_end r ≡ n → range_inclusive_exhausted r ≡ false
+    → a ≡ range_inclusive_contains (λ i j. Some (nat_cmp i j)) r x → not a ≡ outside n x
+unfolding outside ◌and◌
+outside_told {n = n} x e f g h = rw (← le_test 1 x, ← le_test x n) (ap not (h ∙ rw (e, f, g)))
 
 module _ (most n : ℕ) where
-  pub too_few : n < 1 → ltb n 1 ≡ outside most n
-  unfolding outside ◌and◌
-  too_few h = rw (lt-ltb n 1 h, lt-leb 1 n h)
-
-  pub at_most : 1 ≤ n → ltb most n ≡ outside most n
-  unfolding outside ◌and◌
-  at_most h = rw (le-leb 1 n h) (not_le most n)
-
   pub inside : outside most n ≡ false → (1 ≤ n) × (n ≤ most)
   unfolding outside
   inside e =

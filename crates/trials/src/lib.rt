@@ -3,7 +3,7 @@
 
 ghost use Rattle.std.specs.Prelude.{◌≡◌};
 ghost use Rattle.lending.specs.Lent.{lent_in};
-ghost use Rattle.trials.specs.Trials.{all_zero, outside, runs_refusal};
+ghost use Rattle.trials.specs.Trials.{all_zero, runs_refusal};
 
 use lending::Lent;
 use settings::Settings;
@@ -28,24 +28,18 @@ fn all_zero(g: Xorwow) -> bool
     [g.x, g.y, g.z, g.w, g.v] == [0; 5]
 }
 
-// Whether a number is not from 1 to the most.
-fn is_outside(most: u32, n: u32) -> bool
-    ensures { result ≡ outside most n }
-{
-    n < 1 || most < n
-}
-
-// The first refusal, 0 for none: the number that C sees of it.
+// The C interface gives a refusal out as its number, and so `lending` gives the search's own, which comes last: an enum would be made of that number to be a
+// number again in the caller. This is the first refusal, 0 for none.
 pub fn runs_refusal(lent: &Lent<'_>, t: Trial) -> u32
     ensures { result ≡ runs_refusal (lent_in lent.now) t }
 {
     if all_zero(t.state) {
         return 41;
     }
-    if is_outside(1000, t.runs) {
+    if !(1..=1000).contains(&t.runs) {
         return 42;
     }
-    if is_outside(16384, t.count) {
+    if !(1..=16384).contains(&t.count) {
         return 43;
     }
     if lent.numbers.len() < NUMBERS {

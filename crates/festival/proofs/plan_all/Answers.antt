@@ -5,7 +5,7 @@ use Prim.Native.Nat.{◌/◌}
 use mathlib.Core.Path.{◌≡◌, sym, ◌∙◌}
 use lib.ListN.{length}
 use Rattle.division.specs.Eight.{parts_in}
-use Rattle.festival.proofs.Racing.{room_enough, room_small, all_fit, told_all, told_room, none_made}
+use Rattle.festival.proofs.Racing.{room_enough, room_small, all_fit, told_all, told_room, none_made, handed_on}
 use Rattle.festival.proofs.plan_all.Goals as goal
 
 pub returns-then-not-has_room : goal.returns-then-not-has_room
@@ -15,28 +15,29 @@ returns-then-not-has_room c =
       work_marks_after = none_made _ _ _;
     }
 
-pub returns-in-Err : goal.returns-in-Err
-returns-in-Err c =
+pub returns-in_err-p : goal.returns-in_err-p
+returns-in_err-p c =
     let a = c.args in
-    record {
+    rw (handed_on c.from_residual.result c.from_residual.ensures.1)
+    (record {
       by_index =
-          told_all a.stakes (length a.g.now.numbers.now / 4) _ (room_enough c.has_room.ensures c.if-not-has_room.false) (sym c.divide.ensures ∙ c.in-Err.is);
+          told_all a.stakes (length a.g.now.numbers.now / 4) _ (room_enough c.has_room.ensures c.if-not-has_room.false) (sym c.divide.ensures ∙ c.in_err-p.was);
       work_marks_after = none_made _ _ _;
-    }
+    })
 
 pub race_all-requires : goal.race_all-requires
 race_all-requires c =
     let a = c.args in
     let long : length a.stakes.stakes ≡ 8 = search rules in
     all_fit a.stakes (length a.g.now.numbers.now) (length a.g.now.settings.now) (length a.assignments.now) (length a.answers.now) long
-    (room_enough c.has_room.ensures c.if-not-has_room.false) (sym c.divide.ensures ∙ c.in-Ok.is)
+    (room_enough c.has_room.ensures c.if-not-has_room.false) (sym c.divide.ensures ∙ c.in_ok-p.was)
 
-pub returns-in-Ok : goal.returns-in-Ok
+pub returns : goal.returns
 unfolding parts_in
-returns-in-Ok c =
+returns c =
     let a = c.args in
     record {
       by_index =
-          told_all a.stakes (length a.g.now.numbers.now / 4) _ (room_enough c.has_room.ensures c.if-not-has_room.false) (sym c.divide.ensures ∙ c.in-Ok.is);
+          told_all a.stakes (length a.g.now.numbers.now / 4) _ (room_enough c.has_room.ensures c.if-not-has_room.false) (sym c.divide.ensures ∙ c.in_ok-p.was);
       work_marks_after = c.race_all.ensures;
     }

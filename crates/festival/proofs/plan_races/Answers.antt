@@ -42,4 +42,4 @@ returns-in-Err c =
     (works a.work_tables.now a.work_terms.now a.work_assignment.now a.work_tallies.now a.work_marks.now))
     (room_refusal (length a.settings.now) (length a.assignments.now) (length a.answers.now)) (length a.numbers.now / 4) c.plan_all-planned.result
     c.stakes_in-stakes.ensures c.plan_all-planned.ensures.by_index c.plan_all-planned.ensures.work_marks_after done in
-    record { value = c.number_of.ensures ∙ sym (ap refusal_in c.in-Err.is) ∙ r.0; races_after = r.1; work_marks_after = r.2 }
+    record { value = c.from.ensures ∙ sym (ap refusal_in c.in-Err.is) ∙ r.0; races_after = r.1; work_marks_after = r.2 }
