@@ -27,6 +27,6 @@ pub const LISTS: usize = LIST_COUNTS + (format::MAX_CLAUSES + 1);
 
 pub const COLUMNS: usize = 4 * (LISTS + (format::MAX_TERMS + format::MAX_VARIABLES));
 
-// The word of what is not there: above every size and every weight. In the code what may not be there is an Option; the columns are bytes that the caller
-// lends, and have one word for it.
+// The word of what is not there: above every size and every weight. Where the code asks whether something is there, it is an Option (`sizing`, `effects`). What
+// is compared again and again stays a word (`needs`, which asks once, where a need is made), since NEVER is above all that it is compared with.
 pub const NEVER: u32 = u32::MAX;

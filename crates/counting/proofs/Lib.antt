@@ -3,5 +3,4 @@ pub mod Difference
 pub mod Joining
 pub mod Marks
 pub mod Signed
-pub mod Tens
 pub mod Words

@@ -1,5 +1,4 @@
 -- What the contracts of this crate say.
 pub mod Bound
 pub mod Count
-pub mod Pascal
 pub mod Shares

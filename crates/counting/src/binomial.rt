@@ -31,7 +31,7 @@ fn lower_half(m: u64, k: u64) -> Report
     let mut entry = m;
     for i in 1..k {
         entry = entry * (m - i) / (i + 1);
-        if (Count::CAP.value as u64) < entry {
+        if u64::from(Count::CAP.value) < entry {
             return Report {
                 count: Count::CUT,
                 factors: (i + 1) as u32,
@@ -78,21 +78,16 @@ pub fn binomial(m: u64, k: u64) -> Count
     by_factors(m, k).count
 }
 
-// m over k, and its factors. It has the first two cases of `binomial` again, for speed: most callers want the count alone, and a report goes through memory.
+// m over k, and its factors: none where k exceeds m or the entry stands in the triangle. Request T-03 has a binomial report them, and only the probe asks:
+// every other count is asked of `binomial`, since a report goes through memory.
 pub fn reported(m: u64, k: u64) -> Report
     requires { m < 4294967296 }
     ensures count_value { number result.count ≡ capped (binom m k) }
     ensures factors_value { result.factors ≡ factors m k }
 {
-    if m < k {
+    if m < k || m < ROWS {
         return Report {
-            count: Count::ZERO,
-            factors: 0,
-        };
-    }
-    if m < ROWS {
-        return Report {
-            count: Count::from(tabled(m, k)),
+            count: binomial(m, k),
             factors: 0,
         };
     }
@@ -142,7 +137,7 @@ pub fn difference(m: u64, w: u64, k: u64) -> Count
     if gain.cut {
         return Count::CUT;
     }
-    exact_difference(gain.value as u64, m, w, k)
+    exact_difference(u64::from(gain.value), m, w, k)
 }
 
 // Whether that difference is past the cap for sure, told without a binomial: what it is at least stands 17 or more from both ends of its row.

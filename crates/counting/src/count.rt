@@ -53,9 +53,9 @@ impl Count {
         ensures { (result ≡ number self) × (result < 4294967297) }
     {
         if self.cut {
-            return Count::CAP.value as u64 + 1;
+            return u64::from(Count::CAP.value) + 1;
         }
-        self.value as u64
+        u64::from(self.value)
     }
 
     // A cut one times this one. Zero times a cut one is zero and uncut.
@@ -84,7 +84,7 @@ impl From<u64> for Count {
     ghost from_gives = { λ n c. number c ≡ capped n };
 
     fn from(n: u64) -> Count {
-        if n <= Count::CAP.value as u64 {
+        if n <= u64::from(Count::CAP.value) {
             return Count::from(n as u32);
         }
         Count::CUT
@@ -128,6 +128,6 @@ impl Mul for Count {
         if self.cut {
             return other.times_cut();
         }
-        Count::from(self.value as u64 * other.rank())
+        Count::from(u64::from(self.value) * other.rank())
     }
 }

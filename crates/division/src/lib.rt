@@ -105,7 +105,8 @@ fn topped(r: usize, b: [usize; 8]) -> [usize; 8]
     l
 }
 
-// The first place goes on from part to part, so that they are written one after another.
+// The first place goes on from part to part, so that they are written one after another. Over a `zip` of them with the lengths, what the array ends as did not
+// follow.
 fn placed(l: [usize; 8]) -> [Part; 8]
     requires { sum l < 2 ^ 64 }
     ensures { result ≡ parts 0 l }

@@ -28,67 +28,70 @@ pub struct Figures {
     pub cost: SignedFraction,
 }
 
-// The sums with one run more. It is no method: what it requires is said of the sums beside the other numbers, as `plus` has them. Finds and cost come side by
-// side, as a run gives them: an Option of the cost would be made here, only to be opened at once.
-pub fn add(s: Sums, finds: u64, flips: u64, cost: i64) -> Sums
-    requires { AtMost 1_000 s × (flips ≤ 16_384) × (nat_abs cost ≤ 512_000_000) }
-    ensures { result ≡ plus s finds flips cost }
-{
-    let sums = Sums {
-        flips: s.flips + flips,
-        ..s
-    };
-    if finds == 0 {
-        return sums;
-    }
-    Sums {
-        found: s.found + 1,
-        cost: s.cost + cost,
-        ..sums
-    }
-}
-
 // What is given out of a mean cost that is absent: 0 over 0.
 const ABSENT: SignedFraction = SignedFraction { top: 0, bottom: 0 };
 
-// The mean cost, where some run has a find.
-fn mean_cost(s: Sums) -> Option<SignedFraction>
-    requires { AtMost 1_000 s }
-    ensures { bound_of result ≡ mean_cost s }
-{
-    if s.found == 0 {
-        return None;
+impl Sums {
+    // The sums with one run more. Finds and cost come side by side, as a run gives them: an Option of the cost would be made here, only to be opened at once.
+    pub fn with(self, finds: u64, flips: u64, cost: i64) -> Sums
+        requires { AtMost 1_000 self × (flips ≤ 16_384) × (nat_abs cost ≤ 512_000_000) }
+        ensures { result ≡ plus self finds flips cost }
+    {
+        let sums = Sums {
+            flips: self.flips + flips,
+            ..self
+        };
+        if finds == 0 {
+            return sums;
+        }
+        Sums {
+            found: self.found + 1,
+            cost: self.cost + cost,
+            ..sums
+        }
     }
-    Some(reduce_signed(s.cost, s.found))
+
+    // The mean cost, where some run has a find.
+    fn mean_cost(self) -> Option<SignedFraction>
+        requires { AtMost 1_000 self }
+        ensures { bound_of result ≡ mean_cost self }
+    {
+        if self.found == 0 {
+            return None;
+        }
+        Some(reduce_signed(self.cost, self.found))
+    }
+
+    // The figures of so many runs.
+    pub fn figures(self, runs: u64) -> Figures
+        requires { (0 < runs) × AtMost 1_000 self }
+        ensures { result ≡ figures_by runs self }
+    {
+        let share = reduce(self.found, runs);
+        let flips = reduce(self.flips, runs);
+        let cost = self.mean_cost();
+        Figures {
+            refusal: 0,
+            found: u32::from(cost.is_some()),
+            share,
+            flips,
+            cost: cost.unwrap_or(ABSENT),
+        }
+    }
 }
 
-// The figures of so many runs.
-pub fn figures_of(runs: u64, s: Sums) -> Figures
-    requires { (0 < runs) × AtMost 1_000 s }
-    ensures { result ≡ figures_by runs s }
-{
-    let share = reduce(s.found, runs);
-    let flips = reduce(s.flips, runs);
-    let cost = mean_cost(s);
-    Figures {
-        refusal: 0,
-        found: u32::from(cost.is_some()),
-        share,
-        flips,
-        cost: cost.unwrap_or(ABSENT),
-    }
-}
-
-// The answer of a call that is refused, by the number that C sees.
-pub fn refused(n: u32) -> Figures
-    ensures { result ≡ refused_with n }
-{
-    let nothing = Fraction { top: 0, bottom: 0 };
-    Figures {
-        refusal: n,
-        found: 0,
-        share: nothing,
-        flips: nothing,
-        cost: ABSENT,
+impl Figures {
+    // The answer of a call that is refused, by the number that C sees.
+    pub fn refused(n: u32) -> Figures
+        ensures { result ≡ refused_with n }
+    {
+        let nothing = Fraction { top: 0, bottom: 0 };
+        Figures {
+            refusal: n,
+            found: 0,
+            share: nothing,
+            flips: nothing,
+            cost: ABSENT,
+        }
     }
 }

@@ -11,7 +11,7 @@ pub struct Fraction {
     pub bottom: u64,
 }
 
-// C sees the two kinds of fractions by their names, so they are no one struct over the type of the top.
+// A struct with a type parameter does not cross to C, and both kinds stand in `Figures`, which does: so they are no one struct over the type of the top.
 #[repr(C)]
 #[derive(Clone, Copy)]
 pub struct SignedFraction {

@@ -61,8 +61,8 @@ pub extern "C" fn probe_factors(m: u64, k: u64) -> u32
 pub extern "C" fn probe_difference(m: u32, w: u32, k: u64) -> Marked
     ensures { marked_words result ≡ count_words (given (difference_answer m w k)) }
 {
-    let low = m as u64;
-    let more = w as u64;
+    let low = u64::from(m);
+    let more = u64::from(w);
     if u64::from(u32::MAX) < low + more {
         return Marked::ZERO;
     }

@@ -8,7 +8,10 @@ use native.Mathlib.Numerals.{add-one}
 use native.Mathlib.Omega.{arith}
 use lib.ListN.{length, get_or, set, take, length-append, replicate}
 use lib.Seq.{take-nil, set-get_or, length-take-le}
+use Rattle.std.specs.Prelude.{None, Some}
+use Rattle.std.specs.List.{slice_get}
 use Rattle.std.specs.Simd.{first_chunks}
+use Rattle.std.proofs.lemmas.Option.{none-some, same_Some}
 use Rattle.division.proofs.Stepwise.{mixed as filled, mixed_next, mixed_last}
 use Rattle.division.specs.declared.Part.{Part}
 use Rattle.division.specs.Eight.{kept}
@@ -120,26 +123,36 @@ mix_end ps i rs h = mixed ps i rs h
 
 -- ---- one race's part out of the array
 
-pub no_part : (c : ℕ) (ps : List Part) (i : ℕ) (r : Race) → c ≤ i → placed_at (take c ps) i r ≡ r
-unfolding placed_at
-no_part zero ps i r h = refl
-no_part (suc c) ps zero r h = absurd (not-suc-le-zero h)
-no_part (suc c) [] (suc i) r h = refl
-no_part (suc c) (p ∷ ps) (suc i) r h = no_part c ps i r (le_of_suc-le-suc h)
+pub no_part : (c : ℕ) (ps : List Part) (i : ℕ) → c ≤ i → slice_get (take c ps) i ≡ None
+no_part zero ps i h = refl
+no_part (suc c) ps zero h = absurd (not-suc-le-zero h)
+no_part (suc c) [] (suc i) h = refl
+no_part (suc c) (p ∷ ps) (suc i) h = no_part c ps i (le_of_suc-le-suc h)
 
-pub no_place : (c : ℕ) (ps : List Part) (i : ℕ) (r : Race) → length ps ≤ i → placed_at (take c ps) i r ≡ r
-unfolding placed_at
-no_place zero ps i r h = refl
-no_place (suc c) [] i r h = refl
-no_place (suc c) (p ∷ ps) zero r h = absurd (not-suc-le-zero h)
-no_place (suc c) (p ∷ ps) (suc i) r h = no_place c ps i r (le_of_suc-le-suc h)
+pub no_place : (c : ℕ) (ps : List Part) (i : ℕ) → length ps ≤ i → slice_get (take c ps) i ≡ None
+no_place zero ps i h = refl
+no_place (suc c) [] i h = refl
+no_place (suc c) (p ∷ ps) zero h = absurd (not-suc-le-zero h)
+no_place (suc c) (p ∷ ps) (suc i) h = no_place c ps i (le_of_suc-le-suc h)
 
-pub one_part : (c : ℕ) (ps : List Part) (i : ℕ) (r : Race) (none : Part) → i < c → i < length ps → placed_at (take c ps) i r ≡ with_part (get_or ps i none) r
+pub one_part : (c : ℕ) (ps : List Part) (i : ℕ) (none : Part) → i < c → i < length ps → slice_get (take c ps) i ≡ Some (get_or ps i none)
+one_part zero ps i none h k = absurd (not-suc-le-zero h)
+one_part (suc c) [] i none h k = absurd (not-suc-le-zero k)
+one_part (suc c) (p ∷ ps) zero none h k = refl
+one_part (suc c) (p ∷ ps) (suc i) none h k = one_part c ps i none (le_of_suc-le-suc h) (le_of_suc-le-suc k)
+
+-- A race with the part that is there, and as it was where there is none.
+pub placed_none : (ps : List Part) (i : ℕ) (r : Race) → None ≡ slice_get ps i → placed_at ps i r ≡ r
 unfolding placed_at
-one_part zero ps i r none h k = absurd (not-suc-le-zero h)
-one_part (suc c) [] i r none h k = absurd (not-suc-le-zero k)
-one_part (suc c) (p ∷ ps) zero r none h k = refl
-one_part (suc c) (p ∷ ps) (suc i) r none h k = one_part c ps i r none (le_of_suc-le-suc h) (le_of_suc-le-suc k)
+placed_none [] i r e = refl
+placed_none (p ∷ ps) zero r e = absurd (none-some _ e)
+placed_none (p ∷ ps) (suc i) r e = placed_none ps i r e
+
+pub placed_some : (ps : List Part) (i : ℕ) (p : Part) (r : Race) → Some p ≡ slice_get ps i → placed_at ps i r ≡ with_part p r
+unfolding placed_at
+placed_some [] i p r e = absurd (none-some _ (sym e))
+placed_some (q ∷ ps) zero p r e = ap (λ (x : Part). with_part x r) (sym (same_Some _ _ e))
+placed_some (q ∷ ps) (suc i) p r e = placed_some ps i p r e
 
 -- ---- the same records as plain numbers
 

@@ -2,12 +2,12 @@
 // it back, and leave the rest to functions on values.
 #![tactic(auto)]
 
-ghost use Rattle.std.specs.Prelude.{◌≡◌, ℕ, List, [], ◌+◌, ◌*◌, ◌≤◌, ◌<◌, length, get_or};
+ghost use Rattle.std.specs.Prelude.{◌≡◌, ℕ, List, [], ◌+◌, ◌*◌, ◌≤◌, ◌<◌, length, get_or, slice_get};
 ghost use Rattle.division.specs.Split.{refusal_after, parts_after};
 ghost use Rattle.division.specs.Eight.{kept, laid};
-ghost use Rattle.races.specs.Races.{stakes_of, placed_at, placed, stakes_in, put_at, parts_put};
+ghost use Rattle.races.specs.Races.{stakes_of, placed, stakes_in, put_at, parts_put};
 
-use division::{Parts, Stakes, divide};
+use division::{Part, Parts, Stakes, divide};
 
 // A race's stake, which the caller sets, and its part of the list, which is written: the first place, from 0, and the length.
 #[repr(C)]
@@ -30,20 +30,14 @@ fn stakes_by<F: Fn(usize) -> usize>(count: usize, stake: F) -> Stakes
     Stakes { count, stakes }
 }
 
-// Race i with its part, or as it was where there is none for it.
-// Both bounds are asked at once: `get` would ask one of them and leave the other.
-fn with_part(p: Parts, i: usize, r: Race) -> Race
-    ensures { result ≡ placed_at (laid p) i r }
+// The part of race i, if there is one for it. Both bounds are asked at once: `get` would ask one of them and leave the other.
+fn part_of(p: Parts, i: usize) -> Option<Part>
+    ensures { result ≡ slice_get (laid p) i }
 {
     if p.count <= i || 8 <= i {
-        return r;
+        return None;
     }
-    let part = p.parts[i];
-    Race {
-        first: part.first,
-        length: part.length,
-        ..r
-    }
+    Some(p.parts[i])
 }
 
 // The place is tested here: that the stake of a record which `get` finds is the one in the list of all stakes did not follow, as it does in `stakes_in`.
@@ -63,7 +57,10 @@ fn put_parts(races: &mut [Race], p: Parts)
     ensures { races.new ≡ placed (laid p) races.old }
 {
     for (i, r) in races.iter_mut().enumerate() {
-        *r = with_part(p, i, *r);
+        if let Some(part) = part_of(p, i) {
+            r.first = part.first;
+            r.length = part.length;
+        }
     }
 }
 
@@ -100,14 +97,10 @@ fn put_part(races: &mut [usize], i: usize, p: Parts)
     requires { 3 * i + 3 ≤ length races.old }
     ensures { races.new ≡ put_at (laid p) i races.old }
 {
-    let race = Race {
-        stake: 0,
-        first: races[3 * i + 1],
-        length: races[3 * i + 2],
-    };
-    let r = with_part(p, i, race);
-    races[3 * i + 1] = r.first;
-    races[3 * i + 2] = r.length;
+    if let Some(part) = part_of(p, i) {
+        races[3 * i + 1] = part.first;
+        races[3 * i + 2] = part.length;
+    }
 }
 
 // The records are told by their places: the library says nothing of what a slice ends as that it lent as arrays (`as_chunks_mut`), and after a loop over

@@ -31,7 +31,7 @@ pub struct State {
 fn below(n: u32, size: Option<u64>) -> bool
     ensures { result ≡ below_size n (bound_of size) }
 {
-    size.is_none_or(|k| (n as u64) < k)
+    size.is_none_or(|k| u64::from(n) < k)
 }
 
 impl State {
@@ -63,7 +63,8 @@ impl State {
         below(self.n, self.a) && below(self.p, self.b)
     }
 
-    // e, f and g by the paper's three cases: (10), (11) and (12).
+    // e, f and g by the paper's three cases: (10), (11) and (12). The widenings are `as`: with `u64::from`, tried, the proof would have to
+    // cite its clause at each of them.
     pub fn shares(self) -> Shares
         requires { Balanced self }
         ensures { shares_in result ≡ capped_shares (shares_from self) }

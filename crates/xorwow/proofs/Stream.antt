@@ -1,6 +1,6 @@
 -- Numbers that follow a state, one more at the end; and what each of them is below.
 -- Assumes nothing.
-use Rattle.std.proofs.Common.{◌≡◌, ℕ, zero, suc, ◌+◌, ◌%◌, ◌^◌, ◌<◌, List, [], ◌∷◌, ◌++◌, length, sym, refl, ap, ◌∙◌, mod-lt, add-one, arith}
+use Rattle.std.proofs.Common.{◌≡◌, ℕ, zero, suc, ◌+◌, List, [], ◌∷◌, ◌++◌, length, sym, refl, ap, ◌∙◌, mod-lt, add-one, arith}
 use Rattle.words.specs.Words.{word_bytes}
 use Rattle.words.specs.Writes.{front}
 use Rattle.words.proofs.Words.{Below, below_nil, below_cons}

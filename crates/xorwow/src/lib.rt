@@ -1,10 +1,10 @@
 // Marsaglia's xorwow: the numbers that follow a state, written to a buffer.
 #![tactic(auto)]
 
-ghost use Rattle.std.specs.Prelude.{◌≡◌, ◌+◌, ◌*◌, ◌%◌, ◌^◌, ◌≤◌, length};
+ghost use Rattle.std.specs.Prelude.{◌≡◌, ◌*◌, ◌≤◌, length};
 ghost use Rattle.words.specs.Words.{word_bytes};
 ghost use Rattle.words.specs.Writes.{front};
-ghost use Rattle.xorwow.specs.Xorwow.{mixed, newest, step, stream, after};
+ghost use Rattle.xorwow.specs.Xorwow.{mixed, newest, step, output, stream, after};
 
 // The five words of the register, the oldest first, and the counter.
 #[derive(Clone, Copy)]
@@ -29,25 +29,27 @@ fn join(v: u32, t: u32) -> u32
     (v ^ (v << 4)) ^ (t ^ (t << 1))
 }
 
-// The state after one step.
-fn next(g: Xorwow) -> Xorwow
-    ensures { result ≡ step g }
-{
-    Xorwow {
-        x: g.y,
-        y: g.z,
-        z: g.w,
-        w: g.v,
-        v: join(g.v, mix(g.x)),
-        counter: g.counter.wrapping_add(362437),
+impl Xorwow {
+    // The state after one step.
+    fn next(self) -> Xorwow
+        ensures { result ≡ step self }
+    {
+        Xorwow {
+            x: self.y,
+            y: self.z,
+            z: self.w,
+            w: self.v,
+            v: join(self.v, mix(self.x)),
+            counter: self.counter.wrapping_add(362437),
+        }
     }
-}
 
-// The number that a step gives, of the counter and the newest word that it leaves.
-fn number(counter: u32, v: u32) -> u32
-    ensures { result ≡ (counter + v) % 2 ^ 32 }
-{
-    counter.wrapping_add(v)
+    // The number that a step gives, of the counter and the newest word that it leaves.
+    fn output(self) -> u32
+        ensures { result ≡ output self }
+    {
+        self.counter.wrapping_add(self.v)
+    }
 }
 
 // Writes the next k numbers and answers the state after them. The count goes beside the buffer: it is of numbers, where a slice's length is of bytes, and each
@@ -58,9 +60,8 @@ pub fn fill(g: Xorwow, numbers: &mut [u8], k: usize) -> Xorwow
 {
     let mut at = g;
     for i in 0..k {
-        let stepped = next(at);
-        words::write_word(numbers, i, number(stepped.counter, stepped.v));
-        at = stepped;
+        at = at.next();
+        words::write_word(numbers, i, at.output());
     }
     at
 }

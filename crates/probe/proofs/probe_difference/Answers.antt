@@ -16,4 +16,5 @@ pub returns : goal.returns
 unfolding difference_answer
 returns c =
     let at = c.args in
-    rw (is_word_lem (at.m + at.w) (omega (arith, c.if-from-low.false, c.from.ensures))) (c.from-2.ensures ∙ given_by _ c.difference.ensures)
+    let exact = rw (c.from-low.ensures, c.from-more.ensures) at c.difference.ensures in
+    rw (is_word_lem (at.m + at.w) (omega (arith, c.if-from-low.false, c.from.ensures))) (c.from-2.ensures ∙ given_by _ exact)

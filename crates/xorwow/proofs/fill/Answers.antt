@@ -16,8 +16,8 @@ loop-i-preserved c =
     let l = c.loop-i in
     let g = c.args.g in
     let s = c.args.numbers.now in
-    let stepped = c.next-stepped.ensures ∙ ap step l.invariant.0 in
-    let number : c.number.result ≡ output (step (after l.i g)) = c.number.ensures ∙ ap output stepped in (
+    let stepped = c.next-at.ensures ∙ ap step l.invariant.0 in
+    let number : c.output.result ≡ output (step (after l.i g)) = c.output.ensures ∙ ap output stepped in (
       stepped ∙ sym (after_next l.i g),
       words_behind s (stream l.i g) (output (step (after l.i g)) ∷ []) l.i l.invariant.1 (sym (length_stream l.i g))
           (c.write_word.ensures ∙ ap (λ v. put_words l.i (v ∷ []) l.numbers) number)

@@ -32,5 +32,5 @@ exact_difference-requires c = (
   search rules,
   search rules,
   search rules,
-  gain_exact _ _ (sym (number_uncut _ c.if-gain.false) ∙ c.binomial-gain.ensures) (search rules),
+  gain_exact _ _ (c.from-2.ensures ∙ sym (number_uncut c.binomial-gain.result c.if-gain.false) ∙ c.binomial-gain.ensures) (search rules),
 )

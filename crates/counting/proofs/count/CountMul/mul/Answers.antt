@@ -12,5 +12,5 @@ returns-then-self c = c.times_cut.ensures ∙ sym (ap (λ a. capped (a * number 
 
 pub returns : goal.returns
 returns c =
-    c.from.ensures
-    ∙ ap₂ (λ a b. capped (a * b)) (sym (number_uncut c.args.self c.if-self.false)) c.rank.ensures.0
+    c.from-2.ensures
+    ∙ ap₂ (λ a b. capped (a * b)) (c.from.ensures ∙ sym (number_uncut c.args.self c.if-self.false)) c.rank.ensures.0

@@ -6,13 +6,13 @@ use mir.Facts.{to_z-of_z}
 use Rattle.counting.proofs.Signed.{small_fits}
 use Rattle.fractions.specs.Fractions.{reduced_z}
 use Rattle.figures.proofs.Means.{mean_absent, mean_there}
-use Rattle.figures.proofs.mean_cost.Goals as goal
+use Rattle.figures.proofs.Sums.mean_cost.Goals as goal
 
-pub returns-then-s-eq0 : goal.returns-then-s-eq0
-returns-then-s-eq0 c = mean_absent c.args.s c.if-s-eq0.true
+pub returns-then-self-eq0 : goal.returns-then-self-eq0
+returns-then-self-eq0 c = mean_absent c.args.self c.if-self-eq0.true
 
 pub returns : goal.returns
 returns c =
-    let s = c.args.s in
+    let s = c.args.self in
     let small = small_fits s.cost (omega (arith, c.requires.cost)) in
-    mean_there s c.if-s-eq0.false (c.reduce_signed.ensures ∙ ap (λ z. reduced_z z s.found) (to_z-of_z small))
+    mean_there s c.if-self-eq0.false (c.reduce_signed.ensures ∙ ap (λ z. reduced_z z s.found) (to_z-of_z small))

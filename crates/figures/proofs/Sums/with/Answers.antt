@@ -1,4 +1,4 @@
--- `add` meets its contract: a run without a find adds its flips alone, and no sum grows too large.
+-- `with` meets its contract: a run without a find adds its flips alone, and no sum grows too large.
 -- Assumes nothing.
 use Prim.Native.Nat.{◌≤◌}
 use native.Mathlib.Omega.{arith}
@@ -9,7 +9,7 @@ use mir.Syntax.{w64}
 use mir.Val.{SFits, to_z, of_z}
 use Rattle.counting.proofs.Signed.{small_fits, size_sum}
 use Rattle.figures.proofs.Adding.{plus_none, plus_find}
-use Rattle.figures.proofs.add.Goals as goal
+use Rattle.figures.proofs.Sums.with.Goals as goal
 
 -- The sum of two costs, as the machine holds them.
 held : (x : ℤ) → nat_abs x ≤ 512_000_000_000 → to_z w64 (of_z w64 x) ≡ x
@@ -26,7 +26,7 @@ module _ (x y : ℤ) (f : nat_abs x ≤ 512_000_000_000) (g : nat_abs y ≤ 512_
   sum_is = rw is (to_z-of_z fits)
 
 pub returns-then-finds-eq0 : goal.returns-then-finds-eq0
-returns-then-finds-eq0 c = plus_none c.args.s _ _ c.args.cost c.if-finds-eq0.true (held c.args.s.cost c.requires.0.cost)
+returns-then-finds-eq0 c = plus_none c.args.self _ _ c.args.cost c.if-finds-eq0.true (held c.args.self.cost c.requires.0.cost)
 
 pub returns : goal.returns
-returns c = plus_find c.args.s _ _ c.args.cost (omega arith) (sum_is c.args.s.cost c.args.cost c.requires.0.cost c.requires.2)
+returns c = plus_find c.args.self _ _ c.args.cost (omega arith) (sum_is c.args.self.cost c.args.cost c.requires.0.cost c.requires.2)

@@ -1,10 +1,10 @@
--- `figures_of` meets its contract: each figure is reduced from its sums.
+-- `figures` meets its contract: each figure is reduced from its sums.
 -- Assumes nothing.
 use mathlib.Core.Path.{ap, ◌∙◌}
 use mir.Val.{bool_byte}
 use Rattle.figures.specs.Figures.{share, mean_flips, figures_by}
 use Rattle.figures.proofs.Means.{marked, handed}
-use Rattle.figures.proofs.figures_of.Goals as goal
+use Rattle.figures.proofs.Sums.figures.Goals as goal
 
 pub returns : goal.returns
 unfolding figures_by share mean_flips
