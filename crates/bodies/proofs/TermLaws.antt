@@ -8,7 +8,8 @@ use mathlib.Core.List.{List}
 use lib.Dec.{leb, ltb, eqb}
 use lib.IntN.{ℤ, pos, nat_abs}
 use native.Mathlib.Decide.{dec_lt}
-use borrow.Author.Tests.{le-leb, lt-leb, le-ltb, lt-ltb}
+use borrow.Author.Rules.{rules}
+use borrow.Author.Tests.{le-leb, lt-leb, tests}
 use Rattle.std.specs.Prelude.{None}
 use Rattle.format.specs.declared.Mode.TheVariants.{Lower, Upper, Both}
 use Rattle.format.specs.Modes.{Moded}
@@ -76,6 +77,10 @@ pub term_size_lem : (n v : ℕ) (x : ℕ) (w : ℤ) → term_lawful n v (record 
 unfolding term_lawful weight_lawful
 term_size_lem n v x w = refl
 
+-- The two tests that a size is 1 at least.
+some_test : (k : ℕ) → leb 1 k ≡ ltb 0 k
+some_test k = search (rules, tests)
+
 -- A term's number is judged first, then its weight.
 module _ (n v x k : ℕ) where
   pub unfit : (ltb v x and leb x n) ≡ false → false ≡ term_lawful n v (record { variable = x; weight = pos k })
@@ -87,13 +92,9 @@ module _ (n v x k : ℕ) where
     unfolding term_lawful ◌and◌
     fit = sym (and_assoc (ltb v x) (leb x n) _ ∙ rw e)
 
-    pub fit_some : 0 < k → leb k 1_000_000 ≡ term_lawful n v (record { variable = x; weight = pos k })
-    unfolding weight_lawful ◌and◌
-    fit_some h = rw (lt-ltb 0 k h) at fit
-
-    pub fit_none : k ≤ 0 → false ≡ term_lawful n v (record { variable = x; weight = pos k })
-    unfolding weight_lawful ◌and◌
-    fit_none h = rw (le-ltb 0 k h) at fit
+    pub fit_sized : {b : Bool} → b ≡ (leb 1 k and leb k 1_000_000) → b ≡ term_lawful n v (record { variable = x; weight = pos k })
+    unfolding weight_lawful
+    fit_sized h = h ∙ rw (some_test k) fit
 
 pub lawful_start : (n : ℕ) (ts : List Term) → lawful_above n 0 ts ≡ terms_lawful n ts
 unfolding lawful_above terms_lawful rising

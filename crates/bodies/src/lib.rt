@@ -21,7 +21,8 @@ pub enum Fault {
     WrongLock,
 }
 
-// The number under which docs/REFUSALS.md has the fault. The goals of a cast of the fault do not tell the variant, so that the numbers are not the enum's own.
+// The number under which docs/REFUSALS.md has the fault. The numbers are not the enum's own: of a cast a law would have to tell each variant's number, as that
+// of `progress::Ending` does, and the check finds those of a match alone.
 impl From<Fault> for u32 {
     ghost from_gives = { λ fault n. n ≡ number fault };
 

@@ -9,7 +9,7 @@ use format::Mode;
 use words::{magnitude, read_i32, read_u16};
 
 // "6: mode outside 1 to 3, a bound outside ±1,000,000,000, an absent bound not 0."
-// Mode and bounds come as three: `loaded` has them as words and a file as a byte and two signed numbers, and no struct of them would be kept behind the test.
+// Mode and bounds come as three: the one caller reads them of a file, and no struct of them would be kept behind the test.
 pub fn bounds_lawful(mode: u8, lower: i32, upper: i32) -> bool
     ensures { result ≡ bounds_lawful mode lower upper }
 {
@@ -40,7 +40,7 @@ pub fn term_fits(variable: u32, size: u32, before: u32, variables: u32) -> bool
     if !numbers.takes(variable) {
         return false;
     }
-    0 < size && size <= 1000000
+    (1..=1000000).contains(&size)
 }
 
 fn term_lawful(file: &[u8], at: usize, numbers: Rising) -> bool

@@ -7,16 +7,17 @@ use mathlib.Core.Path.{◌≡◌, refl, sym, ap, ap₂, ◌∙◌}
 use mathlib.Core.Bool.{true, false}
 use mathlib.Core.List.{List, [], ◌∷◌}
 use lib.ListN.{length}
-use lib.IntN.{ℤ, pos, negsuc, nat_abs, ◌+ℤ◌, +ℤ_idl, +ℤ_idr, +ℤ_assoc}
+use lib.IntN.{ℤ, pos, nat_abs, ◌+ℤ◌, +ℤ_idl, +ℤ_idr, +ℤ_assoc}
 use borrow.Author.Tests.{ne_eqb, leb-true}
 use Rattle.plpb.specs.Lists.{all}
-use Rattle.plpb.specs.Plan.{Term, negative_part, least_total}
+use Rattle.plpb.specs.Plan.{Term, least_total}
 use Rattle.words.specs.Words.{num_at, signed}
 use Rattle.format.specs.File.{term_at, terms_at}
 use Rattle.format.proofs.Bools.{and_left, and_right}
 use Rattle.format.proofs.Lawful.{weight_small}
 use Rattle.counting.proofs.Signed.{size_sum}
-use Rattle.squeezed.specs.Squeezed.{Becomes, locked, renumbered, given, given_total, stays, terms_left, positive_part, greatest_total}
+use Rattle.squeezed.specs.Squeezed.{Becomes, locked, renumbered, given, given_total, stays, terms_left, greatest_total}
+use Rattle.squeezed.proofs.Lawful.{negative_size, positive_size}
 use Rattle.fates.specs.Codes.{decode, decoded}
 use Rattle.fates.specs.Sums.{Part, Given, Least, Greatest, part_of, part_total, small_terms}
 
@@ -37,16 +38,6 @@ decode_on w e = rw e
 -- ---- sums
 
 -- A part is no larger than the weight.
-negative_size : (w : ℤ) → nat_abs (negative_part w) ≤ nat_abs w
-unfolding negative_part
-negative_size (pos n) = zero-le
-negative_size (negsuc n) = le_refl (suc n)
-
-positive_size : (w : ℤ) → nat_abs (positive_part w) ≤ nat_abs w
-unfolding positive_part
-positive_size (pos n) = le_refl n
-positive_size (negsuc n) = zero-le
-
 part_size : (part : Part) (m : Becomes) (w : ℤ) → nat_abs (part_of part m w) ≤ nat_abs w
 unfolding part_of given
 part_size Given (locked true) w = le_refl (nat_abs w)

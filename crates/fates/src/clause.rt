@@ -1,4 +1,5 @@
-// What becomes of a clause. Each walk over rules or clauses is a loop of its own, for the reason that the head of `tables::fields` gives.
+// What becomes of a clause. Each walk over rules or clauses is a loop of its own, and a byte is compared with a tag's own number, for the reasons that the head
+// of `tables::fields` gives.
 ghost use Rattle.std.specs.Prelude.{◌≡◌, List, [], ℕ, Some};
 ghost use Rattle.plpb.specs.Lists.{any, is_empty};
 ghost use Rattle.plpb.specs.Plan.{Clause};
@@ -57,7 +58,8 @@ pub fn run_rules(file: &[u8], from: usize, map: Map<'_>) -> Run
     }
 }
 
-// Whether one of the clauses from a place on lost all rules: none of its rules is met by all values, and none can be met.
+// Whether one of the clauses from a place on lost all rules: none of its rules is met by all values, and none can be met. Both
+// are known already, so that `||` would skip nothing.
 pub fn lost(file: &[u8], from: usize, map: Map<'_>) -> bool
     requires { Begins file.now from }
     ensures { (n : ℕ) (cs : List Clause) → Rest n file.now from [] cs

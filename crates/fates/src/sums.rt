@@ -35,8 +35,8 @@ impl Terms<'_> {
                 ensures { result ≡ part_of Given (becomes code) weight }
             {
                 match code {
-                    Code::Locked(value) => { if value { weight } else { 0 } }
-                    Code::New(_) => 0,
+                    Code::Locked(true) => weight,
+                    Code::Locked(false) | Code::New(_) => 0,
                 }
             },
         )

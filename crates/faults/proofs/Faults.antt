@@ -1,8 +1,7 @@
 -- Laws of the tests of a field's body: by its tag, and in their order.
 -- Assumes nothing.
-use Prim.Native.Nat.{ℕ, ◌+◌, ◌-◌, ◌/◌, ◌≤◌, ◌<◌}
+use Prim.Native.Nat.{ℕ, ◌+◌, ◌-◌, ◌/◌, ◌≤◌}
 use native.Mathlib.Omega.{arith}
-use native.Mathlib.Decide.{dec_lt}
 use mathlib.Core.Path.{◌≡◌, refl, sym, ap, ◌∙◌}
 use mathlib.Core.Bool.{Bool, true, false, not}
 use mathlib.Core.List.{List}
@@ -10,12 +9,7 @@ use lib.Dec.{ltb, leb}
 use lib.IntN.{ℤ}
 use lib.ListN.{length, get_or, take, drop, length-drop}
 use Rattle.std.proofs.lemmas.List.{length-take-le}
-use borrow.Author.Tests.{ne_eqb, lt-ltb, le-ltb, eqb-true, leb-true, tests}
-use borrow.Author.Rules.{rules}
-use Rattle.std.specs.Prelude.{Some}
-use Rattle.std.specs.Ordering.{is_le, nat_cmp}
-use Rattle.std.specs.declared.ops.RangeInclusive.{RangeInclusive}
-use Rattle.std.specs.Range.{range_inclusive_start, range_inclusive_end, range_inclusive_exhausted, range_inclusive_contains}
+use borrow.Author.Tests.{ne_eqb, eqb-true, leb-true}
 use Rattle.plpb.specs.Lists.{◌and◌, ◌or◌, all}
 use Rattle.plpb.specs.Plan.{rising, rising_above}
 use Rattle.words.specs.Words.{num_at, signed}
@@ -29,27 +23,6 @@ use Rattle.format.specs.Tags.{tag_number}
 use Rattle.faults.specs.Faults.{body_fault, Headed}
 use Rattle.bodies.proofs.Tags.{tag_byte}
 use Rattle.bodies.proofs.Parts.{terms_part, entries_part}
-
-not_lt : {a b : ℕ} → (a < b → ⊥) → b ≤ a
-not_lt n = omega arith
-
--- Two tests of numbers that say the same.
-pub ltb_same : (a b c d : ℕ) → (a < b → c < d) → (c < d → a < b) → ltb a b ≡ ltb c d
-ltb_same a b c d f g = by (dec_lt c d)
-  where
-    by : Dec (c < d) → ltb a b ≡ ltb c d
-    by (yes h) = lt-ltb a b (g h) ∙ sym (lt-ltb c d h)
-    by (no n) = le-ltb a b (not_lt (λ h. n (f h))) ∙ sym (le-ltb c d (not_lt n))
-
--- A number's comparison says at most just where the test of the definitions does.
-le_test : (a b : ℕ) → is_le (nat_cmp a b) ≡ leb a b
-le_test a b = search (rules, tests)
-
--- What a range's `contains` tells of a number is what the two tests of the definition say.
-pub between : {b : Bool} {m n : ℕ} (x : ℕ) {r : RangeInclusive ℕ} → range_inclusive_start r ≡ m → range_inclusive_end r ≡ n → range_inclusive_exhausted r ≡ false
-    → b ≡ range_inclusive_contains (λ i j. Some (nat_cmp i j)) r x → b ≡ (leb m x and leb x n)
-unfolding ◌and◌
-between {m = m} {n = n} x e f g h = rw (← le_test m x, ← le_test x n) (h ∙ rw (e, f, g))
 
 -- Which tag it is says which number the file has there.
 pub told : {t u : Tag} {n : ℕ} → tag_number t ≡ n → t ≡ u → n ≡ tag_number u

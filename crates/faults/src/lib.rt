@@ -44,18 +44,11 @@ fn count_wrong(variables: u32) -> bool
     !(1..=512).contains(&variables)
 }
 
-// One rule more than the most that there may be, or its terms above 6,000. The terms go by what is left of the 6,000, since any two numbers may be told and
-// their sum may be too large.
+// One rule more than the most that there may be, or its terms above 6,000. Any two numbers may be told, so that their sum stops at the largest that there is.
 pub fn rules_full<const MOST: usize>(rules: usize, terms: usize, more: usize) -> bool
     ensures { result ≡ (leb MOST rules or ltb 6_000 (terms + more)) }
 {
-    if MOST <= rules {
-        return true;
-    }
-    if 6000 < terms {
-        return true;
-    }
-    6000 - terms < more
+    MOST <= rules || 6000 < terms.saturating_add(more)
 }
 
 // A field whose head has nothing wrong, its tag, and where reading is before it.
@@ -131,7 +124,8 @@ impl<'a> Field<'a> {
     }
 }
 
-// ".., 4, 6, then 5 from left to right." Where the byte is no tag, nothing is asked of the body: the head is refused.
+// ".., 4, 6, then 5 from left to right." Where the byte is no tag, nothing is asked of the body: the head is refused. The tag is read off the byte here though
+// the head's test has read it, so that this clause holds of any byte: a tag handed on would be one more fact that a caller owes.
 pub fn body_fault(file: &[u8], st: State) -> Result<(), Fault>
     requires { Headed file.now st.at }
     ensures { found result ≡ body_fault file.now (state_of st) }

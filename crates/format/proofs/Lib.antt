@@ -32,6 +32,7 @@ pub mod Entries
 pub mod ReadBack
 pub mod Placed
 pub mod LockWords
+pub mod LockTold
 -- The test of tables: what it says, and that it means 22.
 pub mod Chains
 pub mod Sound

@@ -4,6 +4,7 @@ pub mod File
 pub mod Tags
 pub mod Modes
 pub mod Writer
+pub mod Locks
 pub mod Layout
 pub mod Tables
 pub mod Good

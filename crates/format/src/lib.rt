@@ -1,9 +1,11 @@
-// The plan file, the tables and the plan that both stand for: definitions in specs/, theorems in proofs/. The code is the tags, the modes and the
-// layout's numbers; specs/Layout.antt has the numbers for contracts, and each crate that uses both ties the two.
+// The plan file, the tables and the plan that both stand for: definitions in specs/, theorems in proofs/. The code is the tags, the modes, the words
+// of locks and the layout's numbers; specs/Layout.antt has the numbers for contracts, and each crate that uses both ties the two.
 #![tactic(auto)]
 
+ghost use Rattle.std.specs.Prelude.{◌≡◌};
 ghost use Rattle.format.specs.Tags.{Tagged};
 ghost use Rattle.format.specs.Modes.{Moded};
+ghost use Rattle.format.specs.Locks.{lock_of};
 
 // What a field of a plan file is: its first byte (docs/FORMAT.md). `of` answers an option and is no `TryFrom`, whose error would be a type that says nothing
 // more than `None` does; the same holds of a mode.
@@ -53,6 +55,19 @@ impl Mode {
             3 => Some(Mode::Both),
             _ => None,
         }
+    }
+}
+
+// The lock that a word of the tables tells: 0 for unlocked, 1 for locked at 0, any other for locked at 1, where tables of a plan have 2. It is a function, as
+// `Tag::of` and `Mode::of` are, since neither a word nor an `Option` is a type of this crate.
+#[tactic(auto, unfolding(crate::specs::Locks::lock_of))]
+pub fn lock_of(word: u32) -> Option<bool>
+    ensures { result ≡ lock_of word }
+{
+    match word {
+        0 => None,
+        1 => Some(false),
+        _ => Some(true),
     }
 }
 

@@ -18,6 +18,7 @@ use Rattle.format.specs.declared.Tag.{Tag}
 use Rattle.format.specs.declared.Tag.TheVariants.{Variables, Objective, Clause, Rule, End, Locks}
 use Rattle.format.specs.Tags.{tag_number}
 use Rattle.format.specs.File.{at_count, at_objective, at_locks, at_clause, at_rule, after_rule, may_stand, tag_at, length_at, length_lawful, refuse, fault}
+use Rattle.format.proofs.Fields.{unrefused}
 use Rattle.faults.specs.Faults.{body_fault, Headed}
 use Rattle.judge.specs.Fields.{head_fault}
 use Rattle.bodies.proofs.Tags.{tag_byte}
@@ -99,11 +100,6 @@ module _ (s : List ℕ) (at : ℕ) (stage : File.Stage) where
   whole_head h t l b = simp (le-ltb _ _ h, t, l, le-ltb _ _ b)
 
 -- A head with nothing wrong, and what the length of each tag says.
-unrefused : (b : Bool) (k rest : ℕ) → refuse b (suc k) rest ≡ 0 → (b ≡ false) × (rest ≡ 0)
-unfolding refuse
-unrefused true k rest e = absurd (omega arith)
-unrefused false k rest e = (refl, e)
-
 pub headed : (s : List ℕ) (at : ℕ) (stage : File.Stage) → head_fault s at stage ≡ 0 → Headed s at
 unfolding head_fault
 headed s at stage e =

@@ -92,7 +92,8 @@ struct Counted<'a> {
 }
 
 impl<'a> Counted<'a> {
-    // A section that has a word for each variable, that of variable x at `before + x`: each word passes a test, and beyond the last they are 0.
+    // A section that has a word for each variable, that of variable x at `before + x`: each word passes a test, and beyond the last they are 0. The range of
+    // the loop leaves out its end: with an inclusive one, which keeps beside the number whether the last has come, it would no longer take 16 bytes at a time.
     fn section_good<F: Fn(u32) -> bool>(self, before: usize, test: F) -> bool
         requires inside { 4 * (before + 513) ≤ length self.tables.now }
         requires callable { F.IsAlwaysCallable test }

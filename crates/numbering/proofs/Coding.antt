@@ -5,9 +5,9 @@ use native.Mathlib.Nat.{eq-or-lt_of_le, le_refl}
 use native.Mathlib.Omega.{arith}
 use mathlib.Core.Path.{◌≡◌, refl, sym, ap, ap₂, ◌∙◌, subst}
 use mathlib.Core.Bool.{Bool, true, false, not, cond}
-use borrow.Author.Tests.{ne_eqb}
-use Rattle.std.specs.Prelude.{None, Some}
-use Rattle.std.specs.Option.{is_none}
+use mir.Val.{bool_byte}
+use Rattle.std.specs.Prelude.{Option, None, Some}
+use Rattle.std.specs.Option.{is_some, is_none}
 use mathlib.Core.Logic.{⊎_elim}
 use mathlib.Core.List.{List, [], ◌∷◌}
 use lib.Dec.{eqb}
@@ -19,8 +19,9 @@ use Rattle.words.specs.Writes.{put_words}
 use Rattle.words.proofs.Writes.{one_word, read_put, read_before, read_behind, length_put_words}
 use Rattle.words.proofs.Words.{length_bytes_of}
 use Rattle.squeezed.proofs.Numbers.{up_suc}
+use Rattle.format.specs.Locks.{lock_of}
 use Rattle.fates.specs.Codes.{off_code, on_code}
-use Rattle.numbering.specs.Numbered.{code_by, lock_of, code_in, free_to, Numbered}
+use Rattle.numbering.specs.Numbered.{code_by, code_in, free_to, Numbered}
 
 -- ---- words of a table, one of them written
 
@@ -41,29 +42,16 @@ module _ (s : List ℕ) (i v : ℕ) (room : 4 * i + 4 ≤ length s) where
 
 -- ---- numbering
 
--- The lock of a word, by the word.
-pub lock_0 : (w : ℕ) → w ≡ 0 → None ≡ lock_of w
+-- Counting and coding by the lock of a word are those by the word.
+none_by : (w : ℕ) → bool_byte (is_none (lock_of w)) ≡ cond (eqb w 0) 1 0
 unfolding lock_of
-lock_0 w e = rw e
-
-pub lock_1 : (w : ℕ) → w ≡ 1 → Some false ≡ lock_of w
-unfolding lock_of
-lock_1 w e = rw e
-
-pub lock_2 : (w : ℕ) → (w ≡ 0 → ⊥) → (w ≡ 1 → ⊥) → Some true ≡ lock_of w
-unfolding lock_of
-lock_2 w a b = rw (ne_eqb w 0 a, ne_eqb w 1 b)
-
--- Counting and coding by it are those by the word.
-pub none_by : (w before : ℕ) → before + cond (is_none (lock_of w)) 1 0 ≡ before + cond (eqb w 0) 1 0
-unfolding lock_of
-none_by w before = by (eqb w 0)
+none_by w = by (eqb w 0)
   where
-    by : (t : Bool) → before + cond (is_none (cond t None (Some (not (eqb w 1))))) 1 0 ≡ before + cond t 1 0
+    by : (t : Bool) → bool_byte (is_none (cond t None (Some (not (eqb w 1))))) ≡ cond t 1 0
     by true = refl
     by false = refl
 
-pub coded_by : (w k : ℕ) → code_in (lock_of w) k ≡ code_by w k
+coded_by : (w k : ℕ) → code_in (lock_of w) k ≡ code_by w k
 unfolding lock_of code_by
 coded_by w k = by (eqb w 0) (eqb w 1)
   where
@@ -71,6 +59,20 @@ coded_by w k = by (eqb w 0) (eqb w 1)
     by true t = refl
     by false true = refl
     by false false = refl
+
+pub counted_one : {lock : Option Bool} {f : ℕ} (none : Bool) (w before : ℕ) → lock ≡ lock_of w → is_some lock ≡ not none → f ≡ bool_byte none → before + f ≡ before + cond (eqb w 0) 1 0
+counted_one none w before e g h = ap (λ k. before + k) (h ∙ ap bool_byte (twice none ∙ ap not (sym g) ∙ ap is_none e) ∙ none_by w)
+  where
+    twice : (b : Bool) → b ≡ not (not b)
+    twice true = refl
+    twice false = refl
+
+pub coded_one : {lock : Option Bool} {v : ℕ} (w k : ℕ) → lock ≡ lock_of w → v ≡ code_in lock k → v ≡ code_by w k
+coded_one w k e h = h ∙ ap (λ o. code_in o k) e ∙ coded_by w k
+
+pub bit_small : (b : Bool) → bool_byte b ≤ 1
+bit_small true = omega arith
+bit_small false = omega arith
 
 free_few : (m : List ℕ) (x : ℕ) → free_to m x ≤ x
 unfolding free_to

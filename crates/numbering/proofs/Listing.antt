@@ -107,6 +107,13 @@ module _ (m : List ℕ) where
             index = q ∙ omega (arith, h.index, length-append us (list_one m x)) ∙ ap length (is ∙ ap (λ y. keep new (row 1 y)) (sym back));
           }
 
+      -- Behind the last variable, or where there is none.
+      pub listing_past : {t : List ℕ} {j : ℕ} → n < x → t ≡ l → j ≡ i → Listing t (suc n) j
+      listing_past u p q = let e : x ≡ suc n = omega (arith, h.high) in rw (p, q, ← e) h
+
+      pub listing_last : {t v : List ℕ} {j k : ℕ} → t ≡ put_words i (list_one m x) l → j ≡ i + length (list_one m x) → x ≤ n → n ≤ x → v ≡ t → k ≡ j → Listing v (suc n) k
+      listing_last p q u w f g = let e : x + 1 ≡ suc n = omega arith in rw (f, g, ← e) (listing_more p q u)
+
       pub listing_end : n < x → (at : ℕ) (ys : List ℕ) → at ≡ 4 * i → ys ≡ replicate (length (mid_of at (length l - at) l)) 0
           → put_mid at (length l - at) l ys ≡ word_bytes (pad_to 512 (keep new (row 1 n)))
       listing_end u at ys e z =

@@ -9,10 +9,7 @@ use Rattle.fates.specs.Codes.{off_code, on_code}
 unfoldable pub code_by : ℕ → ℕ → ℕ
 code_by lock number = cond (eqb lock 0) number (cond (eqb lock 1) off_code on_code)
 
--- The lock that such a word tells, and the code by the lock.
-unfoldable pub lock_of : ℕ → Option Bool
-lock_of word = cond (eqb word 0) None (Some (not (eqb word 1)))
-
+-- The code by the lock that such a word tells.
 abbrev pub code_in : Option Bool → ℕ → ℕ
 code_in None number = number
 code_in (Some value) number = cond value on_code off_code

@@ -2,8 +2,7 @@
 // Map and list are lent one by one to be written, whole, since the lengths that are asked of them are those of the full limits.
 #![tactic(auto)]
 
-ghost use Rattle.std.specs.Prelude.{◌≡◌, cond, [], ◌∷◌, ℕ, ◌+◌, ◌*◌, ◌≤◌, ◌<◌, length};
-ghost use Rattle.std.specs.Option.{is_none};
+ghost use Rattle.std.specs.Prelude.{◌≡◌, [], ◌∷◌, ℕ, ◌+◌, ◌*◌, ◌≤◌, ◌<◌, length};
 ghost use Rattle.plpb.specs.Lists.{row, keep};
 ghost use Rattle.words.specs.Words.{word_at, word_bytes};
 ghost use Rattle.words.specs.Writes.{put_words};
@@ -12,29 +11,10 @@ ghost use Rattle.format.specs.Tables.{pad_to};
 ghost use Rattle.tables.specs.Places.{plan_of_file};
 ghost use Rattle.squeezed.specs.Squeezed.{becomes, unlocked};
 ghost use Rattle.fates.specs.Codes.{decoded, map_size};
-ghost use Rattle.numbering.specs.Numbered.{lock_of, code_in, Numbered, is_number, list_one};
+ghost use Rattle.numbering.specs.Numbered.{code_in, Numbered, is_number, list_one};
 
 use fates::map::{Code, Map};
 use tables::Lawful;
-
-// The lock that a word of the tables tells: 0 for unlocked, 1 for locked at 0, 2 for locked at 1.
-fn lock_of(word: u32) -> Option<bool>
-    ensures { result ≡ lock_of word }
-{
-    match word {
-        0 => None,
-        1 => Some(false),
-        _ => Some(true),
-    }
-}
-
-// How many variables are unlocked, with another.
-fn counted(lock: Option<bool>, before: u32) -> u32
-    requires { before < 4_294_967_295 }
-    ensures { result ≡ before + cond (is_none lock) 1 0 }
-{
-    if lock.is_none() { before + 1 } else { before }
-}
 
 // The word of a map that says what becomes of a variable.
 fn code_of(lock: Option<bool>, number: u32) -> u32
@@ -42,7 +22,8 @@ fn code_of(lock: Option<bool>, number: u32) -> u32
 {
     match lock {
         None => number,
-        Some(value) => { if value { fates::ON } else { fates::OFF } }
+        Some(true) => fates::ON,
+        Some(false) => fates::OFF,
     }
 }
 
@@ -54,9 +35,9 @@ fn number(map: &mut [u8], n: usize) -> u32
     ensures { Numbered map.old n map.new result }
 {
     let mut free: u32 = 0;
-    for x in 1..n + 1 {
-        let lock = lock_of(words::word(map, x));
-        free = counted(lock, free);
+    for x in 1..=n {
+        let lock = format::lock_of(words::word(map, x));
+        free += u32::from(lock.is_none());
         words::write_word(map, x, code_of(lock, free));
     }
     free
@@ -95,7 +76,7 @@ pub fn list_old(map: Map<'_>, n: usize, list: &mut [u8])
     ensures { list.new ≡ word_bytes (pad_to 512 (keep (λ x. is_number (word_at map.entry.words.now x)) (row 1 n))) }
 {
     let mut i = 0;
-    for x in 1..n + 1 {
+    for x in 1..=n {
         i = list_one(map, x, list, i);
     }
     let end = 4 * i;

@@ -2,12 +2,12 @@
 -- Assumes nothing.
 use Prim.Native.Nat.{ℕ, ◌+◌, ◌*◌, ◌≤◌, ◌<◌}
 use native.Mathlib.Omega.{arith}
-use mathlib.Core.Path.{◌≡◌, sym, ap, ap₂, ◌∙◌}
+use mathlib.Core.Path.{◌≡◌, refl, sym, ap, ap₂, ◌∙◌}
 use mathlib.Core.Bool.{Bool, true, false, not, ◌&&◌}
 use mathlib.Core.List.{List}
 use lib.Dec.{leb, ltb, eqb}
 use borrow.Author.Rules.{rules}
-use borrow.Author.Tests.{ltb-true, not-true, not-false, le-ltb, lt-ltb, tests}
+use borrow.Author.Tests.{eq-eqb, ne_eqb, le-leb, lt-leb, ltb-true, not-true, not-false, le-ltb, lt-ltb, tests}
 use Rattle.std.specs.Ordering.{is_le, is_lt, nat_cmp}
 use Rattle.plpb.specs.Lists.{◌and◌}
 use Rattle.plpb.specs.Normal.{is_negative}
@@ -92,12 +92,22 @@ module _ {tables terms : List ℕ} (y : Ready tables terms) where
 
 -- ---- its word
 
-pub word_told : (f g : ℕ → ℕ) (x least w c r i : ℕ) {first count named weight spelt : ℕ} {negated : Bool} → first ≡ f (rule_first_at r) → count ≡ f (clause_count_at c) → weight ≡ g (2 * (first + i) + 1) → negated ≡ is_negative (signed weight) → named ≡ g (2 * (first + i)) → spelt ≡ spelled (ltb 1 count) (record { clause = c; rule = r; term = i }) negated → ((eqb named x && leb least r) && eqb w spelt) ≡ word_good f g x least w (record { clause = c; rule = r; term = i })
-unfolding word_good
-word_told f g x least w c r i e n v m k q =
-    both _ _
-    ∙ ap₂ ◌and◌ (both _ _ ∙ ap (λ b. eqb b x and leb least r) (k ∙ ap (λ a. g (2 * (a + i))) e))
-    (ap (eqb w) (q ∙ ap₂ (λ b o. spelled (ltb 1 b) (record { clause = c; rule = r; term = i }) o) n (m ∙ ap (λ a. is_negative (signed a)) (v ∙ ap (λ a. g (2 * (a + i) + 1)) e))))
+-- A word by what is read for it: what it names, and then what it spells.
+module _ (f g : ℕ → ℕ) (x least w c r i : ℕ) {first named : ℕ} (e : first ≡ f (rule_first_at r)) (k : named ≡ g (2 * (first + i))) where
+  word_by : {count weight spelt : ℕ} {negated : Bool} → count ≡ f (clause_count_at c) → weight ≡ g (2 * (first + i) + 1) → negated ≡ is_negative (signed weight) → spelt ≡ spelled (ltb 1 count) (record { clause = c; rule = r; term = i }) negated → ((eqb named x and leb least r) and eqb w spelt) ≡ word_good f g x least w (record { clause = c; rule = r; term = i })
+  unfolding word_good
+  word_by n v m q =
+      ap₂ ◌and◌ (ap (λ b. eqb b x and leb least r) (k ∙ ap (λ a. g (2 * (a + i))) e))
+      (ap (eqb w) (q ∙ ap₂ (λ b o. spelled (ltb 1 b) (record { clause = c; rule = r; term = i }) o) n (m ∙ ap (λ a. is_negative (signed a)) (v ∙ ap (λ a. g (2 * (a + i) + 1)) e))))
+
+  pub word_told : {count weight spelt : ℕ} {negated : Bool} → count ≡ f (clause_count_at c) → weight ≡ g (2 * (first + i) + 1) → negated ≡ is_negative (signed weight) → spelt ≡ spelled (ltb 1 count) (record { clause = c; rule = r; term = i }) negated → named ≡ x → least ≤ r → eqb w spelt ≡ word_good f g x least w (record { clause = c; rule = r; term = i })
+  word_told n v m q a b = sym (and_first _ _ (and_first _ _ (eq-eqb _ _ a) ∙ le-leb _ _ b)) ∙ word_by n v m q
+
+  pub word_low : named ≡ x → r < least → false ≡ word_good f g x least w (record { clause = c; rule = r; term = i })
+  word_low a b = sym (and_stop _ _ (and_first _ _ (eq-eqb _ _ a) ∙ lt-leb _ _ b)) ∙ word_by refl refl refl refl
+
+  pub word_other : (named ≡ x → ⊥) → false ≡ word_good f g x least w (record { clause = c; rule = r; term = i })
+  word_other n = sym (and_stop _ _ (and_stop _ _ (ne_eqb _ _ n))) ∙ word_by refl refl refl refl
 
 -- The parts of a word are small.
 pub parts_small : (w : ℕ) → ((word_place w).clause < 1_024) × ((word_place w).rule < 2_048) × ((word_place w).term < 512)

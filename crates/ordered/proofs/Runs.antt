@@ -8,14 +8,14 @@ use mathlib.Core.Bool.{Bool, true, false, not, ◌&&◌}
 use mathlib.Core.List.{List}
 use lib.Dec.{eqb}
 use Rattle.std.specs.List.{list_all, range_with_len}
-use borrow.Author.Tests.{lt-leb, le-leb, not-true, not-false}
+use borrow.Author.Tests.{eq-eqb, ne_eqb, lt-leb, le-leb, not-true, not-false}
 use Rattle.plpb.specs.Lists.{◌and◌}
 use Rattle.words.specs.Words.{word_at}
 use Rattle.words.specs.Tests.{Decides, ZeroWords}
 use Rattle.order.specs.Order.{word_place}
 use Rattle.format.specs.Layout.{end_at, entry_at, order_at, table_word_count, term_room}
 use Rattle.format.specs.Good.{every_from, zeros_from, entry_good, entries_from, run_good, order_good}
-use Rattle.format.proofs.Bools.{and_first, and_stop, and_false, both}
+use Rattle.format.proofs.Bools.{and_first, and_stop, and_false}
 use Rattle.format.proofs.Good.{left_of, zeros_are}
 
 -- ---- entries
@@ -82,23 +82,36 @@ module _ (s : List ℕ) (g : ℕ → ℕ) {first n total : ℕ} (e : first ≡ w
     order_runs h =
         sym (and_stop _ _ (and_stop _ _ (and_stop _ _ (and_false _ _ (ap (every_from (run_good (word_at s) g) 1) (sym v) ∙ sym r ∙ not-true b h)))))
 
-    pub order_told : {last : ℕ} {y z : Bool} → not b ≡ false → last ≡ word_at s (end_at n) → Decides y (ZeroWords s (end_at (n + 1)) order_at) → Decides z (ZeroWords s (entry_at total) table_word_count) → n ≤ 512 → total ≤ term_room → ((eqb last total && y) && z) ≡ order_good (word_at s) g
-    unfolding order_good
-    order_told {last} {y} {z} h q a c few small =
-        both _ _
-        ∙ ap₂ ◌and◌
-        (both _ _
-        ∙ ap₂ ◌and◌
-        (ap₂ eqb (q ∙ ap (λ i. word_at s (end_at i)) v) t
-        ∙ sym (and_first _ _ (and_first _ _ (ap (λ i. eqb i 0) (sym e) ∙ not-false (eqb first 0) k) ∙ ap (every_from (run_good (word_at s) g) 1) (sym v) ∙ sym r ∙ not-false b h)))
-        (zeros_are s (end_at (n + 1)) order_at y a ∙ ap₂ (zeros_from (word_at s)) ends left))
-        (zeros_are s (entry_at total) table_word_count z c ∙ ap₂ (zeros_from (word_at s)) (ap (λ i. entry_at i) t) rest)
-      where
-        ends : end_at (n + 1) ≡ end_at (suc (word_at s 0))
-        ends = omega (arith, v)
+    module _ (h : not b ≡ false) {last : ℕ} (q : last ≡ word_at s (end_at n)) where
+      whole : eqb last total ≡ (eqb (word_at s (end_at 0)) 0 and every_from (run_good (word_at s) g) 1 (word_at s 0) and eqb (word_at s (end_at (word_at s 0))) (word_at s 3))
+      whole =
+          ap₂ eqb (q ∙ ap (λ i. word_at s (end_at i)) v) t
+          ∙ sym (and_first _ _ (and_first _ _ (ap (λ i. eqb i 0) (sym e) ∙ not-false (eqb first 0) k) ∙ ap (every_from (run_good (word_at s) g) 1) (sym v) ∙ sym r ∙ not-false b h))
 
-        left : order_at - end_at (n + 1) ≡ 512 - word_at s 0
-        left = omega (arith, v, few)
+      pub order_last : (last ≡ total → ⊥) → false ≡ order_good (word_at s) g
+      unfolding order_good
+      order_last m = sym (and_stop _ _ (and_stop _ _ (sym whole ∙ ne_eqb _ _ m)))
 
-        rest : table_word_count - entry_at total ≡ term_room - word_at s 3
-        rest = omega (arith, t, small)
+      module _ (m : last ≡ total) (few : n ≤ 512) {y : Bool} (a : Decides y (ZeroWords s (end_at (n + 1)) order_at)) where
+        gap : y ≡ zeros_from (word_at s) (end_at (suc (word_at s 0))) (512 - word_at s 0)
+        gap = zeros_are s (end_at (n + 1)) order_at y a ∙ ap₂ (zeros_from (word_at s)) ends left
+          where
+            ends : end_at (n + 1) ≡ end_at (suc (word_at s 0))
+            ends = omega (arith, v)
+
+            left : order_at - end_at (n + 1) ≡ 512 - word_at s 0
+            left = omega (arith, v, few)
+
+        pub order_gap : y ≡ false → false ≡ order_good (word_at s) g
+        unfolding order_good
+        order_gap z = sym (and_stop _ _ (and_false _ _ (sym gap ∙ z)))
+
+        pub order_told : {z : Bool} → y ≡ true → Decides z (ZeroWords s (entry_at total) table_word_count) → total ≤ term_room → z ≡ order_good (word_at s) g
+        unfolding order_good
+        order_told {z} o c small =
+            zeros_are s (entry_at total) table_word_count z c
+            ∙ ap₂ (zeros_from (word_at s)) (ap (λ i. entry_at i) t) rest
+            ∙ sym (and_first _ _ (and_first _ _ (sym whole ∙ eq-eqb _ _ m) ∙ sym gap ∙ o))
+          where
+            rest : table_word_count - entry_at total ≡ term_room - word_at s 3
+            rest = omega (arith, t, small)

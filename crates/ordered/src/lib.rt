@@ -1,6 +1,5 @@
 // The test of the order in tables whose base is good: one pass over its words, without memory of its own. Each run is of rising rules and of terms that name
 // its variable, and the runs together are as many as the terms; so none of them lacks a term (format/proofs/GoodOrder.antt).
-// The tests of a word, and the last ones of the whole, are joined by `&` as in `loaded`: good tables are read whole in any case.
 #![tactic(auto)]
 
 ghost use Rattle.std.specs.Prelude.{◌≡◌, true, ◌-◌, ◌≤◌, ◌<◌};
@@ -53,7 +52,7 @@ impl<'a> Base<'a> {
         let k = index(self.tables, RULES + 5 * r) + place.term;
         let several = 1 < index(self.tables, CLAUSE_COUNT + 2 * c);
         let negated = is_negative_word(word(self.terms, 2 * k + 1));
-        (word(self.terms, 2 * k) == x) & (least <= r) & (w == place.spell(several, negated))
+        word(self.terms, 2 * k) == x && least <= r && w == place.spell(several, negated)
     }
 
     fn entry_good(self, x: u32, least: usize, w: u32) -> bool
@@ -99,7 +98,7 @@ impl<'a> Base<'a> {
         self.entries_good(words::narrow(x), from, to)
     }
 
-    // The runs of all variables.
+    // The runs of all variables. The library has a law of what a chain over `a..b` yields, and none for `a..=b`.
     fn runs_good(self, variables: usize) -> bool
         requires { variables ≤ 512 }
         ensures { result ≡ every_from (run_good (word_at self.entry.tables.now) (word_at self.entry.terms.now)) 1 variables }
@@ -122,7 +121,7 @@ pub fn order_good(tables: &[u8], terms: &[u8]) -> bool
     if !(Base { tables, terms }).runs_good(variables) {
         return false;
     }
-    (index(tables, ENDS + variables) == total)
-        & zeros(tables, ENDS + (variables + 1), ORDER)
-        & zeros(tables, ORDER + total, TABLE_WORDS)
+    index(tables, ENDS + variables) == total
+        && zeros(tables, ENDS + (variables + 1), ORDER)
+        && zeros(tables, ORDER + total, TABLE_WORDS)
 }

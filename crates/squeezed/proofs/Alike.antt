@@ -1,23 +1,23 @@
 -- "Unlocked assignments satisfy new and old plan alike, at costs that differ by the constant." A sum over old variables is what the locked ones
 -- give and the sum over the new ones; each step of the squeeze keeps which rules, clauses and plans hold.
 -- Assumes nothing.
-use Prim.Native.Nat.{ℕ, zero, suc, ◌+◌, ◌≤◌, ◌<◌, zero-le}
+use Prim.Native.Nat.{ℕ, zero, suc, ◌+◌, ◌≤◌, ◌<◌}
 use native.Mathlib.Nat.{not-suc-le-zero}
 use native.Mathlib.Omega.{arith}
 use mathlib.Core.Path.{◌≡◌, refl, sym, ap, ap₂, ◌∙◌, subst}
 use mathlib.Core.Bool.{Bool, true, false, not, cond}
 use mathlib.Core.List.{List, [], ◌∷◌, map}
-use lib.Dec.{T, ltb, le→leb}
-use lib.IntN.{ℤ, pos, negsuc, neg_ℤ, ◌+ℤ◌, ◌-ℤ◌, +ℤ_idl, +ℤ_assoc, +ℤ_comm, -ℤ-+ℤ_cancel}
-use lib.ListN.{length, get_or, length-map}
+use lib.Dec.{T, ltb}
+use lib.IntN.{ℤ, pos, ◌+ℤ◌, ◌-ℤ◌, +ℤ_idl, +ℤ_assoc, +ℤ_comm, -ℤ-+ℤ_cancel}
+use lib.ListN.{get_or}
 use lib.Signed.{le_z}
 use borrow.Author.Tests.{lt-ltb, le-ltb, ltb-true, ltb-false}
 use Rattle.plpb.specs.Lists.{◌and◌, ◌or◌, keep, any, all, row}
 use Rattle.plpb.specs.Plan.{Bound, absent, present, map_bound, Term, Rule, Clause, Plan, Assignment, value, is_variable, total, at_least, at_most, rule_holds, clause_holds, satisfies, cost, least_total}
 use Rattle.plpb.proofs.Lists.{is_true, T_true, false_T, and_left, and_right, and_both, or_left, or_right}
-use Rattle.plpb.proofs.Integers.{le_z_shift, le_z_trans, le_z_refl, le_z_add}
+use Rattle.plpb.proofs.Integers.{le_z_shift, le_z_trans}
 use Rattle.plpb.proofs.Costs.{least_total_lem, greatest_total_lem}
-use Rattle.squeezed.specs.Squeezed.{Becomes, locked, renumbered, becomes, given, given_total, stays, terms_left, put_in, positive_part, greatest_total, possible, always, trimmed, rules_left, remains, clauses_left, squeezed, constant}
+use Rattle.squeezed.specs.Squeezed.{Becomes, locked, renumbered, becomes, given, given_total, stays, terms_left, put_in, greatest_total, possible, always, trimmed, rules_left, remains, clauses_left, squeezed, constant}
 use Rattle.squeezed.specs.Claims.{value_of, extended, Alike}
 
 -- ---- values

@@ -1,32 +1,31 @@
 -- The new plan is lawful: numbers rise as they did, a bound that is kept lies between the least and the greatest sum, a rule that is kept has a term
 -- left, and nothing becomes more.
 -- Assumes nothing.
-use Prim.Native.Nat.{ℕ, zero, suc, ◌+◌, ◌*◌, ◌≤◌, ◌<◌, zero-le}
+use Prim.Native.Nat.{ℕ, suc, ◌+◌, ◌*◌, ◌≤◌, ◌<◌, zero-le}
 use native.Mathlib.Nat.{le_refl}
 use native.Mathlib.Omega.{arith}
-use mathlib.Core.Path.{◌≡◌, refl, sym, ap, ap₂, ◌∙◌, subst}
+use mathlib.Core.Path.{◌≡◌, refl, sym, ◌∙◌}
 use mathlib.Core.Bool.{Bool, true, false, not, cond}
-use mathlib.Core.List.{List, [], ◌∷◌, ◌++◌, map}
-use lib.Dec.{T, ltb, leb, eqb}
-use lib.IntN.{ℤ, pos, negsuc, nat_abs, ◌+ℤ◌}
-use lib.ListN.{length, length-append, length-map}
+use mathlib.Core.List.{List, [], ◌∷◌, map}
+use lib.IntN.{ℤ, pos, negsuc, nat_abs}
+use lib.ListN.{length, length-append}
 use lib.Signed.{le_z}
 use borrow.Author.Tests.{lt-ltb, ltb-true, leb-true, leb-false, le-leb}
 use Rattle.plpb.specs.Lists.{◌and◌, ◌or◌, keep, count, any, all, concat, is_empty, sum_by, row}
-use Rattle.plpb.specs.Plan.{Bound, absent, present, Term, Rule, Clause, Plan, is_variable, lock_of, is_locked, is_present, at_least, at_most, negative_part, least_total, rising_above, rising}
+use Rattle.plpb.specs.Plan.{Bound, absent, present, Term, Rule, Clause, Plan, lock_of, is_locked, is_present, at_least, at_most, negative_part, least_total, rising_above, rising}
 use Rattle.plpb.specs.Tallies.{rules_of}
 use Rattle.plpb.proofs.Lists.{count_le, length_row}
 use Rattle.format.specs.Limits.{bound_lawful, rule_lawful, term_count, lawful, weight_lawful}
 use Rattle.format.specs.Limits as Limits
-use Rattle.format.proofs.Bools.{and_left, and_right, and_join, true_T, T_true}
+use Rattle.format.proofs.Bools.{and_left, and_right, and_join, true_T}
 use Rattle.format.proofs.Bounds.{both_lawful}
 use Rattle.format.proofs.Lists.{sum_by_append}
-use Rattle.format.proofs.Lawful.{term_within, weight_small, LawfulTerms, LawfulRule, terms_short, rule_parts, rule_whole, clause_lawful, clause_rules, clause_whole, LawfulPlan, plan_parts, plan_whole}
+use Rattle.format.proofs.Lawful.{term_within, weight_small, LawfulTerms, LawfulRule, terms_short, rule_parts, rule_whole, clause_lawful, clause_rules, clause_whole, plan_parts, plan_whole}
 use Rattle.format.proofs.Sizes.{terms_of}
 use Rattle.counting.proofs.Signed.{size_sum}
 use Rattle.squeezed.specs.Squeezed.{Becomes, locked, renumbered, is_unlocked, unlocked, new_number, under_lock, becomes, stays, terms_left, put_in, positive_part, greatest_total, possible, always, trimmed, rules_left, remains, clauses_left, squeezed, all_locked, clause_lost}
 use Rattle.squeezed.specs.Claims.{Lawful}
-use Rattle.squeezed.proofs.Numbers.{up_less, up_mono, becomes_new, in_range_lem, passes}
+use Rattle.squeezed.proofs.Numbers.{up_less, up_mono, in_range_lem, passes}
 
 -- ---- terms
 
@@ -103,12 +102,13 @@ module _ (p : Plan) where
 
 -- ---- how large the least and the greatest sum are
 
-negative_size : (w : ℤ) → nat_abs (negative_part w) ≤ nat_abs w
+-- A part is no larger than the weight.
+pub negative_size : (w : ℤ) → nat_abs (negative_part w) ≤ nat_abs w
 unfolding negative_part
 negative_size (pos n) = zero-le
 negative_size (negsuc n) = le_refl (suc n)
 
-positive_size : (w : ℤ) → nat_abs (positive_part w) ≤ nat_abs w
+pub positive_size : (w : ℤ) → nat_abs (positive_part w) ≤ nat_abs w
 unfolding positive_part
 positive_size (pos n) = le_refl n
 positive_size (negsuc n) = zero-le

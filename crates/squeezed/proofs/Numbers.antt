@@ -7,7 +7,7 @@ use native.Mathlib.Numerals.{add-one}
 use native.Mathlib.Omega.{arith}
 use mathlib.Core.Path.{◌≡◌, refl, sym, ap, ◌∙◌, subst}
 use mathlib.Core.Bool.{Bool, true, false, not, cond}
-use mathlib.Core.List.{List, [], ◌∷◌, ◌++◌, map}
+use mathlib.Core.List.{[], ◌∷◌, ◌++◌}
 use lib.Dec.{T, ltb}
 use lib.ListN.{length, get_or, length-map, get_or-append, get_or-map}
 use lib.Seq.{get_or_at, ext_get_or}
@@ -17,9 +17,9 @@ use Rattle.plpb.specs.Plan.{Bound, absent, present, is_present, Plan, Assignment
 use Rattle.plpb.proofs.Lists.{count_append, count_cons, count_nil, keep_append, length_row, is_true, is_false}
 use Rattle.plpb.proofs.Locks.{all_in_row, obeyed, free}
 use Rattle.format.proofs.Lists.{row_split}
-use Rattle.squeezed.specs.Squeezed.{Becomes, locked, renumbered, is_unlocked, unlocked, new_number, under_lock, becomes}
+use Rattle.squeezed.specs.Squeezed.{renumbered, is_unlocked, unlocked, new_number, under_lock, becomes}
 use Rattle.squeezed.specs.Claims.{value_of, extended, restricted, OneToOne, ListSays}
-use Rattle.squeezed.proofs.Alike.{map_row_at, value_extended}
+use Rattle.squeezed.proofs.Alike.{value_extended}
 
 -- One number more.
 pub row_more : (n : ℕ) → row 1 (suc n) ≡ row 1 n ++ (suc n ∷ [])

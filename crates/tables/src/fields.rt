@@ -1,6 +1,6 @@
 // Ways through a file that was judged lawful, from field to field. The file and a place in it go one by one: what must stand at the place is another fact in
-// each function, and each answers a place, which the next one takes. A byte is compared with a tag's own number: a lawful file has a tag at each of these
-// places, so that the option of `Tag::of` would be opened at once.
+// each function, and each answers a place, which the next one takes. Here as in `sections`, `fates` and `rewriting` a byte is compared with a tag's own number:
+// a lawful file has a tag at each of these places, so that the option of `Tag::of` would be opened at once.
 // Each walk over rules or clauses, here as in `sections`, `fates` and `rewriting`, is a loop of its own: a field's length says where the next one stands, and
 // that a rule or clause stands there is told afresh by each step, which an iterator or a walk with a closure would have to state of every place at once.
 ghost use Rattle.std.specs.Prelude.{◌≡◌, ◌+◌, ◌≤◌, length};

@@ -55,10 +55,7 @@ pub fn load(file: &[u8], tables: &mut [u8], terms: &mut [u8]) -> Result<(), Refu
     ensures terms_after { terms.new ≡ terms_after file.now tables.old terms.old }
 {
     if tables.len() < format::TABLES || terms.len() < format::TERMS {
-        return Err(Refusal {
-            number: 21,
-            offset: 0,
-        });
+        return Err(Refusal::TOO_SHORT);
     }
     judge::judge(file)?;
     let lawful = Lawful { file };

@@ -1,5 +1,5 @@
 // The sections of the tables, filled from a file that was judged lawful. Each is lent whole and filled to its end: "unused entries are 0". Each walk over
-// clauses or rules is a loop of its own, for the reason that the head of `fields` gives.
+// clauses or rules is a loop of its own, and a byte is compared with a tag's own number, for the reasons that the head of `fields` gives.
 ghost use Rattle.std.specs.Prelude.{◌≡◌, ℕ, cond, map, eqb, ◌+◌, ◌*◌, ◌≤◌, ◌<◌, length};
 ghost use Rattle.plpb.specs.Lists.{row};
 ghost use Rattle.plpb.specs.Plan.{Term};

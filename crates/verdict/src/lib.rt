@@ -12,6 +12,14 @@ pub struct Refusal {
     pub offset: usize,
 }
 
+impl Refusal {
+    // Of a buffer that is lent too short: 21, and no place in a file.
+    pub const TOO_SHORT: Refusal = Refusal {
+        number: 21,
+        offset: 0,
+    };
+}
+
 // The same in two numbers, as the C interface hands it over: 0 and 0 where nothing is refused.
 #[repr(C)]
 #[derive(Clone, Copy)]

@@ -2,7 +2,7 @@
 -- Assumes nothing.
 use mathlib.Core.Bool.{not}
 use mathlib.Core.Path.{ap}
-use Rattle.faults.proofs.Faults.{between}
+use Rattle.bodies.proofs.Ranges.{between}
 use Rattle.faults.proofs.count_wrong.Goals as goal
 
 pub returns : goal.returns

@@ -1,9 +1,7 @@
 -- `tables::sections::lock_section` meets its contract: cleared, then each lock's word at its variable's place.
 -- Assumes nothing.
-use Prim.Native.Nat.{ℕ, ◌+◌, ◌*◌}
+use Prim.Native.Nat.{◌+◌, ◌*◌}
 use native.Mathlib.Omega.{arith}
-use mathlib.Core.Path.{ap, ◌∙◌}
-use lib.ListN.{length, length-replicate}
 use Rattle.format.specs.Limits.{lock_term}
 use Rattle.format.specs.File.{lock_entry}
 use Rattle.tables.proofs.Found.{begun_front}
@@ -21,9 +19,6 @@ put_words-requires-clause-callable c = λ i l. omega (arith, l, locks_room _ _ c
 
 pub put_words-requires-clause-ranged : goal.put_words-requires-clause-ranged
 put_words-requires-clause-ranged c = λ i r l p. locks_ranged _ _ c.args.self.accepts _ _ c.behind_objective-at.ensures c.locks_of.ensures i l p.0
-
-pub put_words-requires-clause-out_len : goal.put_words-requires-clause-out_len
-put_words-requires-clause-out_len c = ap length c.clear.ensures ∙ length-replicate {A = ℕ} _ 0 ∙ c.requires.out_len
 
 pub returns : goal.returns
 returns c =

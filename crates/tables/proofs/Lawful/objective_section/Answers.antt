@@ -1,9 +1,7 @@
 -- `tables::sections::objective_section` meets its contract: cleared, then each coefficient at its variable's place.
 -- Assumes nothing.
 use native.Mathlib.Omega.{arith}
-use mathlib.Core.Path.{ap, ◌∙◌}
-use lib.ListN.{length, length-replicate}
-use Prim.Native.Nat.{ℕ, ◌+◌, ◌*◌}
+use Prim.Native.Nat.{◌+◌, ◌*◌}
 use Rattle.format.specs.File.{term_at}
 use Rattle.tables.specs.Places.{behind_objective}
 use Rattle.tables.proofs.Found.{begun_front}
@@ -19,9 +17,6 @@ put_words-requires-clause-callable c = λ i l. omega (arith, l, objective_room _
 
 pub put_words-requires-clause-ranged : goal.put_words-requires-clause-ranged
 put_words-requires-clause-ranged c = λ i r l p. objective_ranged _ _ c.args.self.accepts _ c.read_size.ensures i l p.0
-
-pub put_words-requires-clause-out_len : goal.put_words-requires-clause-out_len
-put_words-requires-clause-out_len c = ap length c.clear.ensures ∙ length-replicate {A = ℕ} _ 0 ∙ c.requires.out_len
 
 pub returns : goal.returns
 returns c =

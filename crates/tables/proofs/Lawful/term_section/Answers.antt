@@ -43,10 +43,6 @@ put_terms-requires c =
     let part = rule_part c.args.self.file.now (c.loop-at.at + 12) c.terms_of-count.result refl (omega (arith, c.terms_of-count.ensures, room)) in
     omega (arith, part.0, c.terms_of-count.ensures, term_part c.loop-at.invariant c.loop-at-test.true)
 
-pub overflow_mul-end : goal.overflow_mul-end
-overflow_mul-end c =
-    omega (arith, c.terms_of-count.ensures, term_more_space c.loop-at.invariant c.loop-at-test.true)
-
 pub overflow_add-end : goal.overflow_add-end
 overflow_add-end c =
     omega (arith, c.terms_of-count.ensures, term_more_space c.loop-at.invariant c.loop-at-test.true)

@@ -1,8 +1,0 @@
--- `tables::entries::put_head` meets its contract.
--- Assumes nothing.
-use mathlib.Core.Path.{◌∙◌}
-use Rattle.tables.proofs.entries.put_head.Goals as goal
-
-pub returns : goal.returns
-returns c =
-    c.put_entry.ensures ∙ rw (c.narrow.ensures, c.narrow-2.ensures, c.narrow-3.ensures)
