@@ -56,7 +56,7 @@ fn with_digit(n: u64, b: u8) -> u64
     n % 4294967296 * 10 + u64::from(b % 16)
 }
 
-// The number that digits say, with another behind them; none behind or with a byte that is no digit.
+// The number that digits say, with another behind them. It is none where it was none before, or where the byte is no digit.
 fn more_digits(number: Option<u64>, b: u8) -> Option<u64>
     ensures { result ≡ more_digits number b }
 {

@@ -90,7 +90,7 @@ fn put_terms(out: &mut [u8], from: usize, sites: Sites<'_>, zone: Option<Value>)
     to
 }
 
-// The byte of a rule's mode: a zone's rule has an upper bound, and a lower one or none.
+// The byte of a rule's mode: a zone's rule has an upper bound, and a lower one or none. It is the byte that `fields` writes.
 fn mode_of(lower: Option<u32>) -> u8
     ensures { result ≡ mode_of lower }
 {

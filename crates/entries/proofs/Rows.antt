@@ -7,7 +7,7 @@ use mathlib.Core.Path.{◌≡◌, refl, sym, ap, ap₂, ◌∙◌}
 use mathlib.Core.Bool.{Bool, true, false, not, cond}
 use mathlib.Core.List.{List}
 use mathlib.Core.Option.{none}
-use Rattle.std.proofs.Common.{rules, Option, Some, None, IsSome}
+use Rattle.std.proofs.Common.{rules, Option, Some, None, IsSome, Result, Err}
 use lib.Dec.{eqb}
 use lib.ListN.{length, take}
 use Rattle.std.proofs.lemmas.Bool.Decides.{nat_tests}
@@ -233,3 +233,17 @@ module _ (zones : Bool) (s : List ℕ) (k : ℕ) (left : List ℕ) (p : Place zo
 
     pub go_listed : found ≡ true → judged_from f (length all - k) k ≡ judged_from f (length all - (k + 1)) (k + 1)
     go_listed t = judge_on f (length all) k row_here (missing_none fault zones all others k (sym is_found ∙ t))
+
+-- With bytes left, the place is that of a row, whether the code reads it or not.
+pub left_fits :
+    (zones : Bool) (s : List ℕ) (k : ℕ) (left : List ℕ) → Place zones s k left → 0 < length left → (r : Option Row) → Reads (row_of (columns zones) left) r → k < length s
+left_fits zones s k left p l None w = broken_fits zones s k left p l w
+left_fits zones s k left p l (Some row) w = row_fits zones s k left p row l w
+
+-- What the code's none or error tells.
+pub unread : {w : Grammar.Row} {r : Option Row} → r ≡ None → Reads w r → w ≡ malformed
+unread {r = None} e h = h
+unread {r = Some row} e h = cc
+
+pub err_is : {X E : Type 0} {d e : E} → ◌≡◌ {A = Result X E} (Err d) (Err e) → d ≡ e
+err_is h = cc

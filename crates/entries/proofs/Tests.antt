@@ -7,7 +7,7 @@ use mathlib.Core.Bool.{Bool, true, false, not, cond}
 use mathlib.Core.List.{List, [], ◌∷◌}
 use mathlib.Core.Option.{none}
 use Rattle.std.proofs.Common.{Some}
-use lib.Dec.{eqb, ltb}
+use lib.Dec.{ltb}
 use lib.ListN.{length, get_or, take, length-take}
 use lib.Seq.{get_or-take}
 use borrow.Author.Tests.{leb-true}
@@ -15,23 +15,12 @@ use Rattle.plpb.specs.Lists.{◌and◌, ◌or◌, any, all}
 use Rattle.format.proofs.Bools.{and_left, and_right}
 use Rattle.cells.specs.declared.value.Value.{Value}
 use Rattle.cells.specs.Grammar.{rows_of, column_of, same_bytes}
-use Rattle.cells.specs.Values.{gather, gather_from, added, same_value}
+use Rattle.cells.specs.Values.{gather, same_value}
 use Rattle.rows.specs.Reading.{is_some}
 use Rattle.lists.specs.Refusals.{Entry, is_name, is_number, number_of, yes_bytes, no_bytes, is_yes, is_no, site_formed, zone_formed, site_fault, zone_fault, has}
 use Rattle.lists.proofs.Values.{number_says, Bytes, same_alike}
 use Rattle.lists.proofs.RowBytes.{rows_bytes}
 use Rattle.entries.specs.Judging.{own_fault, zone_column}
-
--- ---- values
-
--- The two words as the code holds them.
-pub word_yes : (v : Value) → (eqb v.length 3 and eqb v.low 7_955_827 and eqb v.high 0) ≡ same_value v (gather yes_bytes)
-unfolding same_value gather_from added
-word_yes v = refl
-
-pub word_no : (v : Value) → (eqb v.length 2 and eqb v.low 28_271 and eqb v.high 0) ≡ same_value v (gather no_bytes)
-unfolding same_value gather_from added
-word_no v = refl
 
 -- ---- rows
 

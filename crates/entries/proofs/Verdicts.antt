@@ -1,22 +1,28 @@
 -- Which refusal the verdict carries, step by step.
 -- Assumes nothing.
-use Prim.Native.Nat.{ℕ, ◌+◌, ◌≤◌, ◌<◌}
+use Prim.Native.Nat.{ℕ, ◌+◌}
 use native.Mathlib.Omega.{arith}
 use mathlib.Core.Path.{◌≡◌, refl, sym, ap, ◌∙◌}
-use mathlib.Core.Bool.{true, false, cond}
+use mathlib.Core.Bool.{Bool, true, false, cond}
 use mathlib.Core.List.{List}
-use Rattle.std.proofs.Common.{Result, Ok, Err, MatchResult, IsErrAnd}
-use lib.Dec.{eqb, ltb}
+use Rattle.std.proofs.Common.{rules, Some, Result, Ok, Err, MatchResult, IsErrAnd}
+use Rattle.std.proofs.lemmas.Bool.Decides.{nat_tests}
+use Rattle.std.specs.Ordering.{is_le, nat_cmp}
+use Rattle.std.specs.declared.ops.RangeInclusive.{RangeInclusive}
+use Rattle.std.specs.Range.{range_inclusive_start, range_inclusive_end, range_inclusive_exhausted, range_inclusive_contains}
+use Rattle.std.specs.Result.{is_ok}
+use lib.Dec.{eqb, ltb, leb}
 use lib.ListN.{length}
-use borrow.Author.Tests.{eq-eqb, ne_eqb, le-ltb, lt-ltb}
-use Rattle.plpb.specs.Lists.{◌or◌}
+use borrow.Author.Tests.{tests}
+use Rattle.plpb.specs.Lists.{◌and◌, ◌or◌}
 use Rattle.lists.specs.Refusals.{Entry, row_fault, unlisted, unused, Judged, judged, Refusal, accepted, plan_of, too_large, refusal_of}
 use Rattle.lists.proofs.Judging.{judged_rows, list_on, list_stop}
 use Rattle.lists.proofs.Accepted.{large_by_sites}
+use Rattle.entries.specs.declared.Fault.{Fault}
 use Rattle.entries.specs.declared.AtFault.{AtFault}
 use Rattle.entries.specs.declared.Refusal.{Refusal as RefusalT}
 use Rattle.entries.specs.declared.Refusal.TheVariants.{Site, Zone}
-use Rattle.entries.specs.Judging.{missing, IsAt, refusal_numbers}
+use Rattle.entries.specs.Judging.{found, missing, IsAt, refusal_numbers}
 use Rattle.entries.proofs.Rows.{some_fault}
 
 pub unlisted_is : (sites zones : List Entry) → missing 54 false sites zones ≡ unlisted sites zones
@@ -26,6 +32,21 @@ unlisted_is sites zones = refl
 pub unused_is : (sites zones : List Entry) → missing 55 true zones sites ≡ unused sites zones
 unfolding missing unused
 unused_is sites zones = refl
+
+-- From 1 to 512 sites are neither none nor too many.
+size_test : (n : ℕ) (a b : Refusal) → cond (eqb n 0 or ltb 512 n) a b ≡ cond (leb 1 n and leb n 512) b a
+unfolding ◌or◌ ◌and◌
+size_test n a b = grind (arith, nat_tests)
+
+-- What a range's `contains` tells of a number is what the two tests of the definition say.
+le_test : (a b : ℕ) → is_le (nat_cmp a b) ≡ leb a b
+le_test a b = search (rules, tests)
+
+pub within :
+    {a b : Bool} {k m n : ℕ} (x : ℕ) {r : RangeInclusive ℕ} → range_inclusive_start r ≡ m → range_inclusive_end r ≡ n → range_inclusive_exhausted r ≡ false
+    → a ≡ range_inclusive_contains (λ i j. Some (nat_cmp i j)) r x → a ≡ b → x ≡ k → (leb m k and leb k n) ≡ b
+unfolding ◌and◌
+within {k = k} {m = m} {n = n} x e f g h t z = rw (← le_test m k, ← le_test k n, ← z) (sym (h ∙ rw (e, f, g)) ∙ t)
 
 -- The refusals in their order.
 module _ (sites zones : List Entry) where
@@ -74,17 +95,15 @@ module _ (sites zones : List Entry) where
           large : too_large (plan_of sites zones) ≡ ltb 512 (length sites)
           large = large_by_sites sites zones (record { sites_well = p; zones_well = q; zones_used = u })
 
-          pub refuse_empty : length sites ≡ 0 → refusal_of sites zones ≡ four
+          sized : refusal_of sites zones ≡ cond (leb 1 (length sites) and leb (length sites) 512) accepted four
           unfolding ◌or◌
-          refuse_empty z = last_of ∙ rw (eq-eqb (length sites) 0 z)
+          sized = last_of ∙ rw large (size_test (length sites) four accepted)
 
-          pub refuse_large : (length sites ≡ 0 → ⊥) → 512 < length sites → refusal_of sites zones ≡ four
-          unfolding ◌or◌
-          refuse_large n l = last_of ∙ rw (ne_eqb (length sites) 0 n, large, lt-ltb 512 (length sites) l)
+          pub refuse_size : (leb 1 (length sites) and leb (length sites) 512) ≡ false → refusal_of sites zones ≡ four
+          refuse_size h = sized ∙ rw h
 
-          pub accept : (length sites ≡ 0 → ⊥) → length sites ≤ 512 → refusal_of sites zones ≡ accepted
-          unfolding ◌or◌
-          accept n l = last_of ∙ rw (ne_eqb (length sites) 0 n, large, le-ltb 512 (length sites) l)
+          pub accept : (leb 1 (length sites) and leb (length sites) 512) ≡ true → refusal_of sites zones ≡ accepted
+          accept h = sized ∙ rw h
 
 -- Without a fault all rows were looked at.
 pub all_rows : (xs : List Entry) (f : ℕ → ℕ) (n : ℕ) → judged f xs ≡ record { fault = 0; rows = n } → ((judged f xs).fault ≡ 0) × (n ≡ length xs)
@@ -121,3 +140,14 @@ pub kept :
     {X E D : Type 0} (r : Result X E) (v : X) (Turns : E → D → Type 0) → MatchResult r (λ x. ◌≡◌ {A = Result X D} (Ok v) (Ok x)) (λ e. let r' : Result X D = Ok v in IsErrAnd r' (Turns e)) → r ≡ Ok v
 kept (Ok x) v Turns h = cc
 kept (Err e) v Turns h = absurd h
+
+-- .. of a closure, whose own fact of the error is turned into another.
+pub went :
+    {X E : Type 0} (r : Result X E) (A : X → Type 0) (B : E → Type 0) (T : E → Type 0) → ((e : E) → B e → T e) → false ≡ is_ok r → MatchResult r A B
+    → (e : E) × (r ≡ Err e) × T e
+went (Ok x) A B T g n h = cc
+went (Err e) A B T g n h = (e, refl, g e h)
+
+pub none_found : {A : Type 0} (r : Result A Fault) → true ≡ is_ok r → found r ≡ 0
+none_found (Ok a) h = refl
+none_found (Err f) h = cc

@@ -1,6 +1,6 @@
 -- What the code that judges the mapper's two lists answers, beside the definitions of the lists.
 -- Assumes nothing.
-use Rattle.std.specs.Prelude.{ℕ, ◌+◌, ◌≡◌, Bool, true, not, cond, List, ltb, length, Option, Some, None, Result, MatchResult}
+use Rattle.std.specs.Prelude.{ℕ, ◌+◌, ◌≡◌, Bool, true, not, cond, List, ltb, length, Result, Ok, Err, MatchResult}
 use Rattle.plpb.specs.Lists.{all}
 use Rattle.cells.specs.Grammar.{rows_of, column_of}
 use Rattle.rows.specs.Reading.{columns}
@@ -36,7 +36,7 @@ zone_column zones = cond zones 0 2
 unfoldable pub missing : ℕ → Bool → List Entry → List Entry → ℕ → ℕ
 missing fault zones xs others k = cond (has (zone_column (not zones)) (column_of (zone_column zones) (entry_at xs k)) others) 0 fault
 
--- The numbers of the code's faults, and 0 for none.
+-- The numbers of the code's faults.
 abbrev pub fault_number : Fault → ℕ
 fault_number Malformed = 51
 fault_number OutOfRange = 52
@@ -44,9 +44,10 @@ fault_number Repeated = 53
 fault_number Unlisted = 54
 fault_number Unused = 55
 
-abbrev pub fault_of : Option Fault → ℕ
-fault_of None = 0
-fault_of (Some f) = fault_number f
+-- The number of what was found, 0 where nothing is wrong.
+abbrev pub found : {A : Type 0} → Result A Fault → ℕ
+found (Ok a) = 0
+found (Err f) = fault_number f
 
 -- The code's row at fault is the first of a list.
 abbrev pub IsAt : Judged → AtFault → Type 0

@@ -1,15 +1,15 @@
 // The mapper's two lists judged: "Turned away, with list and row from 1".
 #![tactic(auto)]
 
-ghost use Rattle.std.specs.Prelude.{◌≡◌, true, false, not, eqb, ltb, List, ℕ, Some, ◌+◌, ◌<◌, length, MatchResult};
+ghost use Rattle.std.specs.Prelude.{◌≡◌, true, false, not, ltb, List, ℕ, Some, ◌+◌, ◌<◌, length, MatchResult};
 ghost use Rattle.plpb.specs.Lists.{◌and◌, ◌or◌};
 ghost use Rattle.cells.specs.Values.{gather, same_value};
 ghost use Rattle.rows.specs.Reading.{Holds, is_zones, place};
 ghost use Rattle.lists.specs.Refusals.{Entry, is_name, is_number, site_formed, zone_formed, site_fault, zone_fault, row_fault, judged, refusal_of};
 ghost use Rattle.lists.specs.Refusals.{yes_bytes, no_bytes, site_rows, zone_rows};
-ghost use Rattle.entries.specs.Judging.{entries_of, OfBytes, own_fault, Well, zone_column, fault_number, fault_of, missing, IsAt, Tells};
+ghost use Rattle.entries.specs.Judging.{entries_of, OfBytes, own_fault, Well, zone_column, fault_number, found, missing, IsAt, Tells};
 
-use cells::value::Value;
+use cells::value::{Value, same};
 use rows::row::{Column, Listed, Row, among, field_in, read_row};
 
 // "A code or zone has 1 to 16 bytes and a number 1 to 7 digits"
@@ -22,10 +22,20 @@ const MOST_METRES: u64 = 1000000;
 
 const MOST_SITES: u64 = 512;
 
-// The bytes of `yes` and `no` as numbers to the base 256.
-const YES: u64 = 7955827;
+// The values of `yes` and `no`: their bytes make one number to the base 256, and none is a digit.
+const YES: Value = Value {
+    length: 3,
+    low: 7955827,
+    high: 0,
+    number: None,
+};
 
-const NO: u64 = 28271;
+const NO: Value = Value {
+    length: 2,
+    low: 28271,
+    high: 0,
+    number: None,
+};
 
 // "51 malformed row, 52 number out of its range, 53 repeated code or zone, 54 unlisted zone, 55 zone without sites"
 #[derive(Clone, Copy)]
@@ -88,23 +98,16 @@ fn is_number(v: Value) -> bool
     matches!(v.length, 1..=LONGEST_NUMBER) && v.number.is_some()
 }
 
-// A word of at most 8 bytes is one number. A value holds no bytes that the library could compare, but the numbers that they are gathered into.
-fn is_word(v: Value, length: usize, word: u64) -> bool
-    ensures { result ≡ (eqb v.length length and eqb v.low word and eqb v.high 0) }
-{
-    (v.length, v.low, v.high) == (length, word, 0)
-}
-
 pub fn is_yes(v: Value) -> bool
     ensures { result ≡ same_value v (gather yes_bytes) }
 {
-    is_word(v, 3, YES)
+    same(v, YES)
 }
 
 fn is_no(v: Value) -> bool
     ensures { result ≡ same_value v (gather no_bytes) }
 {
-    is_word(v, 2, NO)
+    same(v, NO)
 }
 
 // Whether a row's fields are those of a site.
@@ -135,37 +138,36 @@ fn is_above(v: Value, most: u64) -> bool
     v.number.is_some_and(|n| most < n)
 }
 
-// "51 malformed row, 52 number out of its range". The answer is a fault or none, not yet an error, here and in the two functions below: the error is the fault
-// with its row, which a row does not know.
-fn site_fault(row: Row<'_>) -> Option<Fault>
-    ensures { (x : Entry) → Holds x row.entry → fault_of result ≡ site_fault x }
+// "51 malformed row, 52 number out of its range"
+fn site_fault(row: Row<'_>) -> Result<(), Fault>
+    ensures { (x : Entry) → Holds x row.entry → found result ≡ site_fault x }
 {
     if !site_formed(row) {
-        return Some(Fault::Malformed);
+        return Err(Fault::Malformed);
     }
     if is_above(row.second, MOST_METRES) {
-        return Some(Fault::OutOfRange);
+        return Err(Fault::OutOfRange);
     }
-    None
+    Ok(())
 }
 
-fn zone_fault(row: Row<'_>) -> Option<Fault>
-    ensures { (x : Entry) → Holds x row.entry → OfBytes x → fault_of result ≡ zone_fault x }
+fn zone_fault(row: Row<'_>) -> Result<(), Fault>
+    ensures { (x : Entry) → Holds x row.entry → OfBytes x → found result ≡ zone_fault x }
 {
     if !zone_formed(row) {
-        return Some(Fault::Malformed);
+        return Err(Fault::Malformed);
     }
     if is_above(row.second, MOST_SITES) {
-        return Some(Fault::OutOfRange);
+        return Err(Fault::OutOfRange);
     }
     if is_above(row.third, MOST_SITES) {
-        return Some(Fault::OutOfRange);
+        return Err(Fault::OutOfRange);
     }
-    None
+    Ok(())
 }
 
-fn own_fault(row: Row<'_>, listed: Listed) -> Option<Fault>
-    ensures { (x : Entry) → Holds x row.entry → OfBytes x → fault_of result ≡ own_fault (is_zones listed) x }
+fn own_fault(row: Row<'_>, listed: Listed) -> Result<(), Fault>
+    ensures { (x : Entry) → Holds x row.entry → OfBytes x → found result ≡ own_fault (is_zones listed) x }
 {
     match listed {
         Listed::Sites => site_fault(row),
@@ -193,12 +195,8 @@ pub fn judge_list(s: &[u8], listed: Listed) -> Result<usize, AtFault>
     let mut rest = s;
     let mut k = 0;
     while !rest.is_empty() {
-        let Some(row) = read_row(rest, listed) else {
-            return Err(at_row(Fault::Malformed, k));
-        };
-        if let Some(fault) = own_fault(row, listed) {
-            return Err(at_row(fault, k));
-        }
+        let row = read_row(rest, listed).ok_or(at_row(Fault::Malformed, k))?;
+        own_fault(row, listed).map_err(|fault| at_row(fault, k))?;
         if among(s, listed, k, Column::First, row.first) {
             return Err(at_row(Fault::Repeated, k));
         }
@@ -271,10 +269,7 @@ pub fn judge(sites: &[u8], zones: &[u8]) -> Result<Counts, Refusal>
     let z = judge_list(zones, Listed::Zones).map_err(Refusal::Zone)?;
     judge_zones(sites, Listed::Sites, zones, z, Fault::Unlisted).map_err(Refusal::Site)?;
     judge_zones(zones, Listed::Zones, sites, s, Fault::Unused).map_err(Refusal::Zone)?;
-    if s == 0 {
-        return Err(Refusal::Size);
-    }
-    if 512 < s {
+    if !(1..=512).contains(&s) {
         return Err(Refusal::Size);
     }
     Ok(Counts { sites: s, zones: z })

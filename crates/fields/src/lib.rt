@@ -17,8 +17,8 @@ fn put_byte(s: &mut [u8], at: usize, b: u8)
     s[at] = b;
 }
 
-// "Fields: a one-byte tag, a two-byte length, the body." The tag comes as the byte that is written, as a mode does: a caller names
-// it by `Tag`, and the contract the byte.
+// "Fields: a one-byte tag, a two-byte length, the body." The tag comes as the byte that is written, as a mode does: a caller names it by `Tag`, and the
+// contract the byte. With a `Tag` each contract would turn it into that byte by a law of the cast.
 pub fn put_head(s: &mut [u8], at: usize, tag: u8, size: usize)
     requires { at + 3 ≤ length s.old }
     ensures { s.new ≡ put at (tag ∷ bytes_of 2 size) s.old }

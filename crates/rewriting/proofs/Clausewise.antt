@@ -18,7 +18,7 @@ use Rattle.fates.proofs.Resting.{rest_clause, rest_opened, no_clauses, rest_room
 use Rattle.rewriting.specs.Written.{rules_written, clauses_written}
 use Rattle.rewriting.specs.Moved.{Laid, RulesMoved, ClauseMoved, ClausesMoved}
 use Rattle.fields.proofs.Writing.{put_on}
-use Rattle.rewriting.proofs.Putting.{drop_put, Laying, laying_start, laying_more, laying_done}
+use Rattle.rewriting.proofs.Putting.{drop_put, Laying, laying_more, laying_done}
 use Rattle.rewriting.proofs.Rulewise.{laid_none, rest_same}
 
 -- ---- one clause
@@ -108,9 +108,6 @@ module _ (f : ℕ → Becomes) (s₀ : List ℕ) (from to : ℕ) where
 
   abbrev pub Passing : List ℕ → ℕ → ℕ → Type 0
   Passing s at end = (n : ℕ) (cs : List Clause) → Rest n s₀ from [] cs → ClausesAt s at end n cs
-
-  pub passing_start : to ≤ from → Passing s₀ from to
-  passing_start h n cs r = record { left = cs; rest = r; laying = laying_start s₀ to (clauses_written f cs); behind = h }
 
   module _ (s : List ℕ) (at end : ℕ) where
     pub passing_more : {t : List ℕ} {next e : ℕ} → Passing s at end → tag_at s at ≡ 3 → length t ≡ length s → ClauseMoved f s at end t next e → Passing t next e

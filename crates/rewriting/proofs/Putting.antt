@@ -2,7 +2,7 @@
 -- Assumes nothing.
 use Prim.Native.Nat.{ℕ, ◌+◌, ◌-◌, ◌≤◌}
 use native.Mathlib.Omega.{arith}
-use mathlib.Core.Path.{◌≡◌, refl, sym, ap, ap₂, ◌∙◌}
+use mathlib.Core.Path.{◌≡◌, sym, ap, ap₂, ◌∙◌}
 use mathlib.Core.List.{List, [], ◌++◌}
 use lib.ListN.{length, take, drop, length-append}
 use lib.Seq.{drop-drop, drop_at}
@@ -30,9 +30,6 @@ pub record Laying (s₀ : List ℕ) (to : ℕ) (goal s : List ℕ) (end : ℕ) (
   pub same : length s ≡ length s₀
   pub laid : put end rest s ≡ put to goal s₀
   pub ends : end + length rest ≡ to + length goal
-
-pub laying_start : (s : List ℕ) (to : ℕ) (goal : List ℕ) → Laying s to goal s to goal
-laying_start s to goal = record { same = refl; laid = refl; ends = refl }
 
 module _ {s₀ : List ℕ} {to : ℕ} {goal s : List ℕ} {end : ℕ} where
   pub laying_more : (bs rest : List ℕ) {all t : List ℕ} {next : ℕ} → Laying s₀ to goal s end all → all ≡ bs ++ rest → end + length bs ≤ length s

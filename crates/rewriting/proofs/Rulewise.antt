@@ -1,7 +1,6 @@
 -- Rules and clauses rewritten one after the other: what is written does not reach past what was read.
 -- Assumes nothing.
 use Prim.Native.Nat.{ℕ, ◌+◌, ◌*◌, ◌-◌, ◌≤◌}
-use native.Mathlib.Nat.{le_refl}
 use native.Mathlib.Omega.{arith}
 use mathlib.Core.Path.{◌≡◌, refl, sym, ap, ap₂, ◌∙◌, subst}
 use mathlib.Core.Bool.{Bool, true, false, cond}
@@ -31,7 +30,7 @@ use Rattle.fates.proofs.Resting.{rest_rule, rest_none, no_rules}
 use Rattle.rewriting.specs.Written.{terms_written, rules_written}
 use Rattle.rewriting.specs.Moved.{Laid, RulesMoved}
 use Rattle.fields.proofs.Writing.{put_before, put_none}
-use Rattle.rewriting.proofs.Putting.{drop_put, Laying, laying_start, laying_more, laying_done}
+use Rattle.rewriting.proofs.Putting.{drop_put, Laying, laying_more, laying_done}
 
 -- Nothing written; and the same by another name.
 pub laid_none : (s : List ℕ) (to : ℕ) {bytes : List ℕ} → bytes ≡ [] → Laid s to bytes s to
@@ -158,9 +157,6 @@ module _ (f : ℕ → Becomes) (s₀ : List ℕ) (from to : ℕ) where
 
   abbrev pub Moving : List ℕ → ℕ → ℕ → Type 0
   Moving s at end = (from ≤ at) × ((n : ℕ) (rs : List Rule) (cs : List Clause) → Rest n s₀ from rs cs → MovingAt s at end n rs cs)
-
-  pub moving_start : to ≤ from → Moving s₀ from to
-  moving_start h = (le_refl from, λ n rs cs r. record { left = rs; rest = r; laying = laying_start s₀ to (rules_written f rs); behind = h })
 
   module _ (s : List ℕ) (at end : ℕ) where
     one_moved : {t : List ℕ} {next e n : ℕ} {rs : List Rule} {cs : List Clause} → tag_at s at ≡ 4 → next ≡ behind_field s at

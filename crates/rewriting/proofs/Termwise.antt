@@ -25,7 +25,7 @@ use Rattle.fates.specs.Sums.{small_terms}
 use Rattle.fates.proofs.Parts.{small_at}
 use Rattle.rewriting.specs.Written.{terms_written}
 use Rattle.fields.proofs.Writing.{put_none}
-use Rattle.rewriting.proofs.Putting.{drop_put, same_num, Laying, laying_start, laying_more, laying_done}
+use Rattle.rewriting.proofs.Putting.{drop_put, same_num, Laying, laying_more, laying_done}
 
 -- ---- one term
 
@@ -81,9 +81,6 @@ module _ (s₀ map : List ℕ) (from count to : ℕ) where
     pub small : small_terms (terms_at s₀ at left) ≡ true
     pub ahead : drop at s ≡ drop at s₀
     pub laying : Laying s₀ to (terms_written f (terms_at s₀ from count)) s end (terms_written f (terms_at s₀ at left))
-
-  pub keeping_none : {at left : ℕ} → at ≡ from → left ≡ count → small_terms (terms_at s₀ from count) ≡ true → to ≤ from → Keeping s₀ at left to
-  keeping_none a n h l = rw (a, n) (record { place = refl; behind = l; small = h; ahead = refl; laying = laying_start s₀ to _ })
 
 -- A term is read as it stood.
 same_term : (s t : List ℕ) (at : ℕ) → drop at s ≡ drop at t → term_at s at ≡ term_at t at

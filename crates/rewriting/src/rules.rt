@@ -39,7 +39,8 @@ fn number(bound: Option<i32>) -> u32
 
 // As with terms, file, places and map stay parameters: the file is written between the reads. Reading and writing are at two places, and that the second is
 // not behind the first goes with each call: a call moves one of the two and the loop that makes it the other, so that a struct of both would be taken apart
-// and made again at each of them. Each walk over rules or clauses is a loop of its own, for the reason that the head of `tables::fields` gives.
+// and made again at each of them. Each walk over rules or clauses is a loop of its own, and a byte is compared with a tag's own number, for the reasons that
+// the head of `tables::fields` gives.
 
 // Writes a rule with the bounds and terms that are left of another at a place; it answers the place behind.
 fn put_rule(file: &mut [u8], at: usize, map: Map<'_>, to: usize, left: Bounds) -> usize

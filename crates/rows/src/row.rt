@@ -16,7 +16,7 @@ pub enum Listed {
     Zones,
 }
 
-// The columns of a row.
+// The columns of a row. All four stand, as the grammar's row has them; only two are asked for.
 #[derive(Clone, Copy)]
 pub enum Column {
     First,

@@ -70,8 +70,8 @@ impl From<Unfit> for Refusal {
     }
 }
 
-// What stands against squeezing a plan, if anything does. Here and below the file is a slice with a clause and no `Lawful`: that each byte of a slice is one,
-// which what is read of a whole plan rests on, is known of a slice that comes by itself, and has no proof of one in a struct.
+// What stands against squeezing a plan, if anything does. Here and below the file is a slice with a clause and no `Lawful`. What is read of a whole plan rests
+// on each number of the slice being a byte. That is known of a slice that is a parameter; of a slice in a struct it could not be proved.
 // It answers a fault or none and no `Result`: its one caller opens it at once, and the definition has the number of either.
 fn fault(file: &[u8], map: Map<'_>, variables: u32) -> Option<Unfit>
     requires accepts { Accepts file.now }
@@ -150,10 +150,7 @@ pub fn squeeze(file: &mut [u8], old: &mut [u8]) -> Squeezed
     ensures after { old.new ≡ (outcome file.old old.old).old }
 {
     if old.len() < LIST {
-        return Squeezed::from(Refusal {
-            number: 21,
-            offset: 0,
-        });
+        return Squeezed::from(Refusal::TOO_SHORT);
     }
     if let Err(refusal) = judge::judge(file) {
         return Squeezed::from(refusal);

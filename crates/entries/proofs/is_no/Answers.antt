@@ -1,8 +1,8 @@
 -- `entries::is_no` meets its contract.
 -- Assumes nothing.
-use mathlib.Core.Path.{◌∙◌}
-use Rattle.entries.proofs.Tests.{word_no}
+use Rattle.cells.specs.Values.{same_value, gather_from, added}
 use Rattle.entries.proofs.is_no.Goals as goal
 
 pub returns : goal.returns
-returns c = c.is_word.ensures ∙ word_no _
+unfolding same_value gather_from added
+returns c = c.same.ensures

@@ -25,8 +25,3 @@ returns-in-Ok c =
     let a = c.args in
     let e = room a.sites.now a.zones.now a.plan.now c.if-plan-lt-LEAST_ROOM.false in
     let whole = says_accepted _ _ _ _ (e ∙ c.in-Ok.ensures.0) refl c.put_plan.ensures.0 c.put_plan.ensures.1 in record { refusal_value = whole.0; plan_after = whole.1 }
-
-pub put_plan-requires : goal.put_plan-requires
-put_plan-requires c =
-    let h = c.in-Ok.ensures in
-    (ap (λ (f : Refusal). f.number) h.0, h.1, h.2, c.if-plan-lt-LEAST_ROOM.false)

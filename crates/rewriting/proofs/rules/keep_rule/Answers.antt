@@ -4,12 +4,6 @@ use Rattle.format.specs.File.{rule_at}
 use Rattle.rewriting.proofs.Rulewise.{rule_gone, rule_stays, laid_none, laid_is}
 use Rattle.rewriting.proofs.rules.keep_rule.Goals as goal
 
-pub fate-requires : goal.fate-requires
-fate-requires c = c.requires.0
-
-pub put_rule-requires : goal.put_rule-requires
-put_rule-requires c = c.requires
-
 pub returns-in-None : goal.returns-in-None
 returns-in-None c = laid_none _ _ (rule_gone _ _ c.in-None.ensures)
 
