@@ -5,6 +5,7 @@ use mathlib.Core.Path.{◌≡◌, refl, sym, ap, ◌∙◌}
 use Rattle.std.specs.Prelude.{Result, Ok, Err}
 use Rattle.std.specs.Result.{IsErrAnd}
 use mathlib.Core.Bool.{Bool, true, false, not}
+use mathlib.Core.List.{List}
 use lib.Dec.{T, nltb→le}
 use lib.ListN.{length}
 use Rattle.plpb.specs.Lists.{◌or◌}
@@ -17,7 +18,8 @@ use Rattle.format.proofs.IsLoaded.{is_loaded_lawful}
 use Rattle.tallies.specs.Layout.{are_bits}
 use Rattle.tallies.specs.Calls.{Lent, plan, too_small, open_refusal}
 use Rattle.format.specs.Layout.{table_size}
-use Rattle.calls.specs.Refusals.{number_of, refusal_of}
+use Rattle.recount.specs.declared.tables.Tables.{Tables}
+use Rattle.calls.specs.Refusals.{number_of, Tested}
 use Rattle.calls.specs.declared.tests.Refusal.{Refusal}
 use Rattle.calls.specs.declared.tests.Refusal.TheVariants.{TooSmall, NotLoaded, NoVariable, NotBits, Stale, Locked}
 
@@ -31,9 +33,9 @@ some_number Stale e = omega arith
 some_number Locked e = omega arith
 
 -- A refusal passed on keeps its number.
-pub passed_on : (r : Result (Unit {0}) Refusal) (q : Refusal) {k : ℕ} → IsErrAnd r (λ e. e ≡ q) → number_of q ≡ k → refusal_of r ≡ k
+pub passed_on : (r : Result Tables Refusal) (q : Refusal) {k : ℕ} {tables terms : List ℕ} → IsErrAnd r (λ e. e ≡ q) → number_of q ≡ k → Tested k tables terms r
 passed_on (Ok u) q h n = absurd h
-passed_on (Err e) q h n = ap number_of h ∙ n
+passed_on (Err e) q h n = record { number = ap number_of h ∙ n; handed = tt }
 
 -- The first test decides where it holds, and else the second.
 pub or_first : (b c : Bool) {v : Bool} → v ≡ b → b ≡ true → v ≡ (b or c)

@@ -6,7 +6,6 @@ ghost use Rattle.tallies.specs.Calls.{call_refusal, counts_break, counts_make, l
 use crate::tests::Lent;
 use counting::count::Marked;
 use exact::counts_core;
-use recount::tables::Tables;
 
 // The refusal and the two counts: a struct of the C interface, so a number and no Result.
 #[repr(C)]
@@ -31,14 +30,16 @@ pub fn counts(tables: &[u8], terms: &[u8], assignment: &[u8], tallies: &[u8], x:
         assignment,
         tallies,
     };
-    if let Err(refusal) = lent.call_refusal(x) {
-        return Counted {
-            refusal: u32::from(refusal),
-            breaks: Marked::ZERO,
-            makes: Marked::ZERO,
-        };
-    }
-    let t = Tables { tables, terms };
+    let t = match lent.call_refusal(x) {
+        Ok(t) => t,
+        Err(refusal) => {
+            return Counted {
+                refusal: u32::from(refusal),
+                breaks: Marked::ZERO,
+                makes: Marked::ZERO,
+            };
+        }
+    };
     let c = counts_core(&t, assignment, x);
     Counted {
         refusal: 0,

@@ -4,7 +4,6 @@ ghost use Rattle.tallies.specs.Calls.{flip_assignment, flip_refusal, flip_rules,
 
 use crate::tests::Lent;
 use flips::flip_core;
-use recount::tables::Tables;
 
 // The refusal, and how many rule tallies were rewritten: a struct of the C interface, so a number and no Result.
 #[repr(C)]
@@ -35,13 +34,15 @@ pub fn flip(
         assignment,
         tallies,
     };
-    if let Err(refusal) = lent.flip_refusal(x) {
-        return Flipped {
-            refusal: u32::from(refusal),
-            rules: 0,
-        };
-    }
-    let t = Tables { tables, terms };
+    let t = match lent.flip_refusal(x) {
+        Ok(t) => t,
+        Err(refusal) => {
+            return Flipped {
+                refusal: u32::from(refusal),
+                rules: 0,
+            };
+        }
+    };
     let rules = flip_core(&t, assignment, tallies, x);
     Flipped { refusal: 0, rules }
 }

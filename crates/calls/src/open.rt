@@ -4,7 +4,6 @@ ghost use Rattle.tallies.specs.Calls.{open_refusal, open_tallies, lent};
 
 use crate::tests::Lent;
 use recount::open::open_core;
-use recount::tables::Tables;
 
 // The C interface lends the buffers one by one, and wants a refusal's number, or 0.
 pub fn open(tables: &[u8], terms: &[u8], assignment: &[u8], tallies: &mut [u8]) -> u32
@@ -18,10 +17,10 @@ pub fn open(tables: &[u8], terms: &[u8], assignment: &[u8], tallies: &mut [u8]) 
         assignment,
         tallies,
     };
-    if let Err(refusal) = lent.open_refusal() {
-        return u32::from(refusal);
-    }
-    let t = Tables { tables, terms };
+    let t = match lent.open_refusal() {
+        Ok(t) => t,
+        Err(refusal) => return u32::from(refusal),
+    };
     open_core(&t, assignment, tallies);
     0
 }

@@ -2,7 +2,7 @@
 ghost use Rattle.std.specs.Prelude.{◌≡◌, ◌≤◌, length};
 ghost use Rattle.tallies.specs.Layout.{are_bits};
 ghost use Rattle.tallies.specs.Calls.{too_small, open_refusal, call_refusal, flip_refusal};
-ghost use Rattle.calls.specs.Refusals.{number_of, refusal_of, lent_in};
+ghost use Rattle.calls.specs.Refusals.{number_of, Tested, lent_in};
 
 use fresh::fresh;
 use loaded::good;
@@ -43,16 +43,17 @@ fn bits(bytes: &[u8]) -> bool
     bytes.iter().all(|b| *b <= 1)
 }
 
-// What the host program lends, to be tested: nothing is known of it yet, so that there is no ghost field.
+// What the host program lends, to be tested: nothing is known of it yet, so that there is no ghost field. A test hands on the tables, which have a lifetime of
+// their own: a call goes on to write the assignment and the tallies.
 #[derive(Clone, Copy)]
-pub struct Lent<'a> {
+pub struct Lent<'a, 'b> {
     pub tables: &'a [u8],
     pub terms: &'a [u8],
-    pub assignment: &'a [u8],
-    pub tallies: &'a [u8],
+    pub assignment: &'b [u8],
+    pub tallies: &'b [u8],
 }
 
-impl Lent<'_> {
+impl<'a> Lent<'a, '_> {
     // Whether a buffer is smaller than the full limits need.
     fn too_small(&self) -> bool
         ensures { result ≡ too_small (lent_in self.now) }
@@ -63,9 +64,9 @@ impl Lent<'_> {
             || self.tallies.len() < format::TALLIES
     }
 
-    // What opening is refused for.
-    pub fn open_refusal(&self) -> Result<(), Refusal>
-        ensures { refusal_of result ≡ open_refusal (lent_in self.now) }
+    // What opening is refused for, or else the tables, which hold a plan.
+    pub fn open_refusal(&self) -> Result<Tables<'a>, Refusal>
+        ensures { Tested (open_refusal (lent_in self.now)) self.now.tables.now self.now.terms.now result }
     {
         if self.too_small() {
             return Err(Refusal::TooSmall);
@@ -77,35 +78,35 @@ impl Lent<'_> {
         if !bits(&self.assignment[..n]) {
             return Err(Refusal::NotBits);
         }
-        Ok(())
-    }
-
-    // What a flip of x and counts of it are refused for.
-    pub fn call_refusal(&self, x: u32) -> Result<(), Refusal>
-        ensures { refusal_of result ≡ call_refusal (lent_in self.now) x }
-    {
-        self.open_refusal()?;
-        let t = Tables {
+        Ok(Tables {
             tables: self.tables,
             terms: self.terms,
-        };
+        })
+    }
+
+    // What a flip of x and counts of it are refused for, or else the tables.
+    pub fn call_refusal(&self, x: u32) -> Result<Tables<'a>, Refusal>
+        ensures { Tested (call_refusal (lent_in self.now) x) self.now.tables.now self.now.terms.now result }
+    {
+        let t = self.open_refusal()?;
         if !fresh(&t, self.assignment, self.tallies) {
             return Err(Refusal::Stale);
         }
         if x == 0 || word(self.tables, 0) < x {
             return Err(Refusal::NoVariable);
         }
-        Ok(())
+        Ok(t)
     }
 
-    // What a flip of x is refused for. A locked variable is refused to flips alone, so the test stands apart from what counts tests too.
-    pub fn flip_refusal(&self, x: u32) -> Result<(), Refusal>
-        ensures { refusal_of result ≡ flip_refusal (lent_in self.now) x }
+    // What a flip of x is refused for, or else the tables. A locked variable is refused to flips alone, so the test stands apart from what counts tests too.
+    // It is of the lock's word alone, since at which value is not asked.
+    pub fn flip_refusal(&self, x: u32) -> Result<Tables<'a>, Refusal>
+        ensures { Tested (flip_refusal (lent_in self.now) x) self.now.tables.now self.now.terms.now result }
     {
-        self.call_refusal(x)?;
+        let t = self.call_refusal(x)?;
         if 0 < word(self.tables, format::LOCKS + x as usize) {
             return Err(Refusal::Locked);
         }
-        Ok(())
+        Ok(t)
     }
 }

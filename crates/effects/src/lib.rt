@@ -1,5 +1,5 @@
-// What a flip does at one place of the variable's run, told by the walk's columns in constant time: no term of the rule is read. The terms' table is lent to
-// be spoken of alone.
+// What a flip does at one place of the variable's run, told by the walk's columns in constant time: no term of the rule is read. The terms' table is lent only
+// so that the contracts can speak of it.
 #![tactic(auto)]
 
 mod footing;
@@ -18,9 +18,10 @@ ghost use Rattle.columns.specs.Layout.{kept_size};
 ghost use Rattle.effects.specs.Kept.{size_in, Countable, Told, stands_on};
 ghost use Rattle.effects.specs.Run.{plan, bits, Inside, place, rule, clause};
 
-use columns::{LOWER_SIZES, NEEDS, NEVER, TOTALS, UPPER_SIZES, WEIGHTS};
+use columns::{NEEDS, NEVER, WEIGHTS};
 pub use footing::Footing;
 use format::ORDER;
+use needs::read_rule;
 use places::{SEVERAL, clause_in, rule_in};
 use rules::place::Stands;
 use rules::state::State;
@@ -39,11 +40,14 @@ pub fn told(tallies: &[u8], r: usize, stands: Stands) -> State
     requires { Countable (word_at tallies.now) r × (kept_size ≤ length tallies.now) }
     ensures { Told (word_at tallies.now) r stands result }
 {
-    let p = word(tallies, r);
-    let n = word(tallies, TOTALS + 3 * r) - p;
-    let a = size_in(word(tallies, LOWER_SIZES + 3 * r));
-    let b = size_in(word(tallies, UPPER_SIZES + 3 * r));
-    State { n, p, stands, a, b }
+    let k = read_rule(tallies, r);
+    State {
+        n: k.n,
+        p: k.p,
+        stands,
+        a: size_in(k.a),
+        b: size_in(k.b),
+    }
 }
 
 // How a variable stands on a side of a rule, with its weight.
@@ -60,7 +64,8 @@ fn stands_on(side: usize, weight: u32) -> Stands
 // Which place is asked is a number beside the run: the loops step it, and `run.spoils_at(k)` says in one call what a struct of both, built anew at each step,
 // would say in two.
 impl Run<'_, '_> {
-    // The side of a rule that place k is on: 2r + 1 for a true literal of rule r, 2r for a false one. The word's lowest bit is the sign.
+    // The side of a rule that place k is on: 2r + 1 for a true literal of rule r, 2r for a false one. The word's lowest bit is the sign. A side stays one
+    // number: it is the index of its word in the column NEEDS, and its lowest bit is asked in `stands_on` alone.
     fn side_at(&self, k: usize) -> usize
         requires { Inside self.now k }
         ensures { result

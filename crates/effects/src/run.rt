@@ -8,8 +8,7 @@ ghost use Rattle.effects.specs.Kept.{Going};
 ghost use Rattle.effects.specs.Footing.{HasRun};
 
 use crate::footing::Footing;
-use format::ENDS;
-use words::index;
+use recount::clause::run_of;
 
 // The run of a variable: the places of the order from the first on, below the end. The marks have the weights of its terms.
 // First and end are two numbers: a `Range` is not `Copy`, so that each chain over the places would clone it.
@@ -32,12 +31,13 @@ impl<'a, 'b> Run<'a, 'b> {
         requires { HasRun footing.now marks.now x }
         ensures { (result.footing ≡ footing.now) × (result.marks.now ≡ marks.now) × (result.x ≡ x) }
     {
+        let at = run_of(footing.tables, x);
         Run {
             footing: *footing,
             marks,
             x,
-            first: index(footing.tables, ENDS + (x - 1)),
-            end: index(footing.tables, ENDS + x),
+            first: at.start,
+            end: at.end,
         }
     }
 }

@@ -73,7 +73,8 @@ impl Asked<'_> {
         shares.joined(s.shares())
     }
 
-    // The shares of all rules of a clause.
+    // The shares of all rules of a clause. The loop goes from one end to the other and not over the range, so that the rule's number is its own
+    // variable, of which the invariant speaks (see `recount::clause::rules_of`).
     fn clause_shares(&self, c: usize) -> Shares
         requires { c < word_at self.now.lent.plan.tables.now 1 }
         ensures { shares_in result
@@ -125,11 +126,7 @@ pub fn counts_core(t: &Tables<'_>, assignment: &[u8], x: u32) -> Counts
         (capped_break (plan t.now) (bits_of (plan t.now).variables assignment.now) x)
         (capped_make (plan t.now) (bits_of (plan t.now).variables assignment.now) x) result }
 {
-    let n = index(t.tables, 0);
-    let lent = Lent {
-        plan: *t,
-        bits: &assignment[..n],
-    };
+    let lent = Lent::of(*t, assignment);
     let asked = Asked { lent, x };
     asked.counts()
 }

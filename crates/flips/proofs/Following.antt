@@ -44,7 +44,7 @@ use Rattle.tallies.proofs.Passed.{words_passed, along_rules, along_clauses}
 use Rattle.tallies.proofs.Tallied.{fresh_words, words_fresh}
 use Rattle.tallies.proofs.TallyBytes.{roomy_fits, length_fresh}
 use Rattle.recount.specs.Core.{Laid, Ready, Flippable, recounted}
-use Rattle.recount.proofs.Cores.{first_length, first_ready, first_bits_of, first_counted}
+use Rattle.recount.proofs.Cores.{first_ready, first_bits_of, first_counted}
 use Rattle.recount.proofs.Laid.{parts, sections, rises, rules_word, variables_word}
 use Rattle.flips.specs.Passing.{Inside, Passable, Passed, Followable}
 
@@ -374,9 +374,6 @@ module _ {tables terms bits t₀ : List ℕ} {x : ℕ} (y : Followable tables te
 module _ (tables terms assignment tallies : List ℕ) (x : ℕ) (f : Flippable tables terms assignment tallies x) {w : List ℕ} {n : ℕ} (e : w ≡ turned assignment x) (d : n ≡ word_at tables 0) where
   turned_ready : Ready tables terms w
   turned_ready = record { laid = f.ready.laid; bytes = rw (ap length e ∙ length_turned assignment x) f.ready.bytes }
-
-  pub turned_first : n ≡ length (take n w)
-  turned_first = first_length tables terms w turned_ready n d
 
   -- The first bytes are the flipped bits.
   pub turned_here : bits_in (take n w) ≡ bits_of (plan_of_tables tables terms).variables (turned assignment x)

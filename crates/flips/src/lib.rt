@@ -20,12 +20,13 @@ ghost use Rattle.recount.specs.Core.{Flippable, recounted};
 ghost use Rattle.recount.specs.Plans.{plan, rule};
 ghost use Rattle.flips.specs.Passing.{Countable, ClausePassed, Passable, Passed, Inside, Followable};
 
-use format::{ENDS, HOLDING, ORDER, UNSATISFIED};
+use format::{HOLDING, ORDER, UNSATISFIED};
 use places::{clause_in, rule_in};
+use recount::clause::run_of;
 use recount::lent::Lent;
 use recount::tables::Tables;
 use rules::state::State;
-use words::{index, narrow, word, write_word};
+use words::{narrow, word, write_word};
 
 fn opposite(b: u8) -> u8
     ensures { result ≡ 1 - b }
@@ -63,15 +64,21 @@ fn held_with(s: State, p: u32) -> bool
     before.holds()
 }
 
-// How many rules of a clause hold, and how many clauses hold none, once one rule of it does not hold any more, or does again. Whether it held and whether it
-// holds are facts that are counted.
-pub fn pass_clause(tallies: &mut [u8], c: usize, held: bool, holds: bool)
-    requires { Countable c held tallies.old }
-    ensures { ClausePassed c held holds tallies.old tallies.new }
+// Whether a rule held before, and whether it holds: two facts, each of which may be so without the other.
+#[derive(Clone, Copy)]
+pub struct Change {
+    pub held: bool,
+    pub holds: bool,
+}
+
+// How many rules of a clause hold, and how many clauses hold none, once one rule of it does not hold any more, or does again.
+pub fn pass_clause(tallies: &mut [u8], c: usize, change: Change)
+    requires { Countable c change.held tallies.old }
+    ensures { ClausePassed c change.held change.holds tallies.old tallies.new }
 {
     let before = word(tallies, HOLDING + c);
     let total = word(tallies, UNSATISFIED);
-    let after = exchanged(held, holds, before);
+    let after = exchanged(change.held, change.holds, before);
     write_word(tallies, HOLDING + c, after);
     write_word(
         tallies,
@@ -92,7 +99,11 @@ fn pass(lent: &Lent<'_>, tallies: &mut [u8], w: u32)
     let s = lent.state(r);
     let held = held_with(s, word(tallies, r));
     write_word(tallies, r, s.p);
-    pass_clause(tallies, clause_in(w), held, s.holds());
+    let change = Change {
+        held,
+        holds: s.holds(),
+    };
+    pass_clause(tallies, clause_in(w), change);
 }
 
 // The whole run of x; it answers how many rules it passed. The places are told by the indices of their words, where a slice would count bytes.
@@ -102,12 +113,11 @@ fn follow(lent: &Lent<'_>, tallies: &mut [u8], x: usize) -> u32
         × (tallies.new ≡ with_tallies (plan lent.now.plan) (bits_in lent.now.bits.now) tallies.old) }
 {
     let tables = lent.plan.tables;
-    let from = index(tables, ENDS + (x - 1));
-    let to = index(tables, ENDS + x);
-    for k in from..to {
+    let run = run_of(tables, x);
+    for k in run.start..run.end {
         pass(lent, tallies, word(tables, ORDER + k));
     }
-    narrow(to - from)
+    narrow(run.end - run.start)
 }
 
 // Turns a variable over; it answers how many rule tallies were rewritten, "which equals the number of rules naming the variable".
@@ -118,10 +128,5 @@ pub fn flip_core(t: &Tables<'_>, assignment: &mut [u8], tallies: &mut [u8], x: u
         × (tallies.new ≡ recounted t.now.tables.now t.now.terms.now (turned assignment.old x) tallies.old) }
 {
     turn(assignment, x);
-    let n = index(t.tables, 0);
-    let lent = Lent {
-        plan: *t,
-        bits: &assignment[..n],
-    };
-    follow(&lent, tallies, x as usize)
+    follow(&Lent::of(*t, assignment), tallies, x as usize)
 }

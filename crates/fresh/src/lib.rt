@@ -38,7 +38,8 @@ impl Tallied<'_, '_> {
         (word(self.tallies, r) == s.p).then_some(s.holds())
     }
 
-    // Whether the words of a clause are right: those of its rules and its count.
+    // Whether the words of a clause are right: those of its rules and its count. The loop goes from one end to the other and not over
+    // the range, so that the rule's number is its own variable, of which the invariant speaks (see `recount::clause::rules_of`).
     fn clause_fresh(&self, c: usize) -> bool
         requires { c < word_at self.now.lent.plan.tables.now 1 }
         ensures { Decides result
@@ -80,7 +81,6 @@ pub fn fresh(t: &Tables<'_>, assignment: &[u8], tallies: &[u8]) -> bool
         ≡ same_bytes (take tally_size tallies.now)
         (tally_bytes (fresh_count (plan t.now) (bits_of (plan t.now).variables assignment.now))) }
 {
-    let n = index(t.tables, 0);
     let clauses = index(t.tables, 1);
     let rules = index(t.tables, 2);
     if !zeros(tallies, rules, format::HOLDING) {
@@ -89,10 +89,7 @@ pub fn fresh(t: &Tables<'_>, assignment: &[u8], tallies: &[u8]) -> bool
     if !zeros(tallies, format::HOLDING + clauses, format::UNSATISFIED) {
         return false;
     }
-    let lent = Lent {
-        plan: *t,
-        bits: &assignment[..n],
-    };
+    let lent = Lent::of(*t, assignment);
     let tallied = Tallied { lent, tallies };
     tallied.clauses_fresh()
 }

@@ -23,7 +23,7 @@ use Rattle.needs.specs.declared.KeptRule.{KeptRule}
 use Rattle.needs.specs.Rules.{ReadAs, holds_in, Movable, Moved}
 use Rattle.needs.specs.Needs.{need_word, NeedsPut}
 use Rattle.needs.proofs.Words.{moved_rest}
-use Rattle.keeping.specs.declared.Change.{Change}
+use Rattle.flips.specs.declared.Change.{Change}
 use Rattle.keeping.specs.Keeping.{holds_at, Turnable, RuleTurned, PlaceTurnable, PlaceTurned}
 
 -- ---- the rule

@@ -10,7 +10,7 @@ use Rattle.columns.specs.Layout.{total_at, lower_size_at, upper_size_at, need_at
 use Rattle.flips.specs.Passing.{Countable}
 use Rattle.needs.specs.Rules.{Readable}
 use Rattle.needs.specs.Needs.{need_word}
-use Rattle.keeping.specs.declared.Change.{Change}
+use Rattle.flips.specs.declared.Change.{Change}
 
 -- Whether the literal of a word of the order was true before the flip that left its variable with a value.
 unfoldable pub was_true : ℕ → Bool → Bool

@@ -16,14 +16,16 @@ ghost use Rattle.keeping.specs.Keeping.{was_true, Turnable, RuleTurned, PlaceTur
 ghost use Rattle.keeping.specs.Flip.{Followed, Keepable, Kept};
 
 use columns::WEIGHTS;
-use flips::{pass_clause, turn};
-use format::{ENDS, ORDER};
+use flips::{Change, pass_clause, turn};
+use format::ORDER;
 use needs::{fill_needs, put_needs, read_rule};
 use places::{clause_in, rule_in};
+use recount::clause::run_of;
+use recount::lent::Lent;
 use recount::open::open_core;
 use recount::tables::Tables;
 use rules::term::value_of;
-use words::{index, word, write_word};
+use words::{word, write_word};
 
 // Whether the literal that a word of the order tells was true before the flip that left its variable with this value: a negated one was where the variable is
 // true now.
@@ -31,13 +33,6 @@ fn was_true(w: u32, value: bool) -> bool
     ensures { result ≡ was_true w value }
 {
     value == (w % 2 == 1)
-}
-
-// Whether a rule held before, and whether it holds: two facts, each of which may be so without the other.
-#[derive(Clone, Copy)]
-struct Change {
-    held: bool,
-    holds: bool,
 }
 
 // One literal of a rule is turned over: P and the needs follow. Whether it was true before is a fact of the literal, which tells the side that its weight
@@ -64,7 +59,7 @@ fn pass_change(tallies: &mut [u8], c: usize, change: Change)
     if change.held == change.holds {
         return;
     }
-    pass_clause(tallies, c, change.held, change.holds);
+    pass_clause(tallies, c, change);
 }
 
 // One place of the run, of which the word in the order is o and the weight w.
@@ -78,14 +73,14 @@ fn pass(tallies: &mut [u8], o: u32, value: bool, w: u32)
 
 // The whole run of x. The terms are not read: with the tables they say the plan. The places are told by the indices of their words, of which two tables have
 // one each: slices of both would count bytes.
-fn follow(t: &Tables<'_>, marks: &[u8], bits: &[u8], tallies: &mut [u8], x: u32)
-    requires { Followed t.now.tables.now t.now.terms.now marks.now bits.now tallies.old x }
-    ensures { Kept (plan t.now) (bits_in bits.now) tallies.old tallies.new }
+fn follow(lent: &Lent<'_>, marks: &[u8], tallies: &mut [u8], x: u32)
+    requires { Followed lent.now.plan.tables.now lent.now.plan.terms.now marks.now lent.now.bits.now tallies.old x }
+    ensures { Kept (plan lent.now.plan) (bits_in lent.now.bits.now) tallies.old tallies.new }
 {
-    let tables = t.tables;
-    let value = value_of(bits, x);
-    let to = index(tables, ENDS + x as usize);
-    for k in index(tables, ENDS + (x - 1) as usize)..to {
+    let tables = lent.plan.tables;
+    let value = value_of(lent.bits, x);
+    let run = run_of(tables, x as usize);
+    for k in run.start..run.end {
         pass(
             tallies,
             word(tables, ORDER + k),
@@ -102,8 +97,7 @@ pub fn flip_kept(t: &Tables<'_>, marks: &[u8], assignment: &mut [u8], tallies: &
         × Kept (plan t.now) (bits_of (plan t.now).variables (turned assignment.old x)) tallies.old tallies.new }
 {
     turn(assignment, x);
-    let n = index(t.tables, 0);
-    follow(t, marks, &assignment[..n], tallies, x);
+    follow(&Lent::of(*t, assignment), marks, tallies, x);
 }
 
 // The tallies of an assignment, counted anew, and the needs behind them.

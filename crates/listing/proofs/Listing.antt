@@ -14,20 +14,18 @@ use lib.ListN.{length, get_or, replicate, length-append, get_or-append}
 use lib.Seq.{get_or-append_seam}
 use Rattle.plpb.specs.Lists.{◌and◌}
 use Rattle.plpb.specs.Plan.{Plan, is_locked}
-use Rattle.plpb.specs.Tallies.{rules_of}
 use borrow.Rule.Slice.PartMut.{put_mid}
 use Rattle.std.proofs.lemmas.List.{length-replicate}
 use Rattle.words.specs.Words.{word_at, word_bytes}
 use Rattle.words.specs.Writes.{Wrote, put, put_words}
 use Rattle.words.proofs.Writes.{word_wrote, lent_part, word_bytes_zeros}
-use Rattle.order.specs.Order.{Place, occurrences, first_rule, word_place}
-use Rattle.order.specs.Mentions.{terms_before}
-use Rattle.order.proofs.Runs.{Named, named_below}
-use Rattle.format.specs.Layout.{clause_first_at, end_at, entry_at, lock_at, rule_first_at}
+use Rattle.order.specs.Order.{Place, occurrences, word_place}
+use Rattle.order.proofs.Runs.{Named}
+use Rattle.format.specs.Layout.{end_at, entry_at, lock_at}
 use Rattle.format.specs.Tables.{plan_of_tables}
 use Rattle.format.proofs.Arranged.{Arranged}
 use Rattle.format.proofs.ReadBack.{holds_arranged}
-use Rattle.format.proofs.Placed.{get_d_row, clause_first, rule_first}
+use Rattle.format.proofs.Placed.{get_d_row}
 use Rattle.format.proofs.LockWords.{lock_word_lem, word_locked}
 use Rattle.format.proofs.Spells.{spells_all, spells_map}
 use Rattle.recount.specs.Core.{Laid}
@@ -84,140 +82,126 @@ module _ {tables terms : List ℕ} (l : Laid tables terms) {x k : ℕ} (low : 1 
         let z : k ≡ word_at tables (end_at (x - 1)) + (k - word_at tables (end_at (x - 1))) = omega arith in
         f ∙ ap (λ o. o.clause) (ap word_place (e ∙ ap (λ n. word_at tables (entry_at n)) z) ∙ run_place p (parts tables terms l) (word_at tables) (word_at terms) (sections tables terms l) arranged x low high _ inside)
 
-    below : c < length p.clauses
+    pub below : c < length (plan_of_tables tables terms).clauses
     below = rw clause_here named.clause_there
 
     pub clause_few : c < 513
     clause_few = omega (arith, below, (parts tables terms l).clause_count)
 
-    module _ {r : ℕ} (g : r ≡ word_at tables (clause_first_at c)) where
-      first_here : r ≡ first_rule p.clauses c
-      first_here = g ∙ clause_first p (parts tables terms l) (word_at tables) (word_at terms) (sections tables terms l) c below
+    module _ {at : ℕ} (start_here : at ≡ terms_ahead (plan_of_tables tables terms) c) where
+      module _ (free : is_locked (plan_of_tables tables terms) x ≡ false) {s : List ℕ} (y : Listing (plan_of_tables tables terms) x (k - word_at tables (end_at (x - 1))) s) {n : ℕ} (u : n ≡ word_at s (list_count_at c)) where
+        abbrev L : List ℕ
+        L = list_to p x (k - word_at tables (end_at (x - 1))) c
 
-      first_there : r < length (rules_of p)
-      first_there = omega (arith, first_here, ap (first_rule p.clauses) clause_here, named.first, named_below p x q named)
+        told : ListOf p L (word_at s) c
+        told = y.each c below
 
-      pub rule_few : r < 1_025
-      rule_few = omega (arith, first_there, (parts tables terms l).rule_count)
+        long : n ≡ length L
+        long = u ∙ told.counted
 
-      module _ {at : ℕ} (o : at ≡ word_at tables (rule_first_at r)) where
-        start_here : at ≡ terms_ahead p c
-        unfolding terms_ahead
-        start_here = o ∙ rule_first p (parts tables terms l) (word_at tables) (word_at terms) (sections tables terms l) r first_there ∙ ap (λ n. terms_before p n) first_here
+        pub list_room : at + n ≤ 6_512
+        list_room = omega (arith, start_here, long, list_few p x low free c below (k - word_at tables (end_at (x - 1))), ahead_next p c below, ahead_all p (suc c), (parts tables terms l).terms)
 
-        module _ (free : is_locked (plan_of_tables tables terms) x ≡ false) {s : List ℕ} (y : Listing (plan_of_tables tables terms) x (k - word_at tables (end_at (x - 1))) s) {n : ℕ} (u : n ≡ word_at s (list_count_at c)) where
-          abbrev L : List ℕ
-          L = list_to p x (k - word_at tables (end_at (x - 1))) c
+        -- The test says whether the clause has x already.
+        tested : (b : Bool) → reached_by p x (k - word_at tables (end_at (x - 1))) c ≡ b → (ltb 0 n and eqb (word_at s (list_at (at + n - 1))) x) ≡ b
+        unfolding ◌and◌
+        tested true h =
+            let last = ends_there p x (k - word_at tables (end_at (x - 1))) c low h in
+            let z : list_at (at + n - 1) ≡ list_at (terms_ahead p c) + (length L - 1) = omega (arith, start_here, long, last.0) in
+            ap₂ ◌and◌ (lt-ltb 0 n (omega (arith, long, last.0))) (eq-eqb _ x (ap (word_at s) z ∙ list_at_lem p L (word_at s) c told (length L - 1) (omega (arith, last.0)) ∙ last.1))
+        tested false h = elim (ℕ_discrete n 0) [
+          | yes none ↦ ap (λ b. b and eqb (word_at s (list_at (at + n - 1))) x) (le-ltb 0 n (omega (arith, none)))
+          | no some ↦
+              let z : list_at (at + n - 1) ≡ list_at (terms_ahead p c) + (length L - 1) = omega (arith, start_here, long, some) in
+              let less = ends_elsewhere p x (k - word_at tables (end_at (x - 1))) c low h (omega (arith, long, some)) in
+              let word = ap (word_at s) z ∙ list_at_lem p L (word_at s) c told (length L - 1) (omega (arith, long, some)) in
+              ap₂ ◌and◌ (lt-ltb 0 n (omega (arith, some))) (ne_eqb _ x (λ e. omega (arith, e, word, less)))
+        ]
 
-          told : ListOf p L (word_at s) c
-          told = y.each c below
+        ends : {b : Bool} → b ≡ (ltb 0 n and eqb (word_at s (list_at (at + n - 1))) x) → b ≡ reached_by p x (k - word_at tables (end_at (x - 1))) c
+        ends h = h ∙ tested _ refl
 
-          long : n ≡ length L
-          long = u ∙ told.counted
+        after : k + 1 - word_at tables (end_at (x - 1)) ≡ suc (k - word_at tables (end_at (x - 1)))
+        after = omega arith
 
-          pub list_room : at + n ≤ 6_512
-          list_room = omega (arith, start_here, long, list_few p x low free c below (k - word_at tables (end_at (x - 1))), ahead_next p c below, ahead_all p (suc c), (parts tables terms l).terms)
+        entered : (d : ℕ) → list_to p x (suc (k - word_at tables (end_at (x - 1)))) d ≡ list_to p x (k + 1 - word_at tables (end_at (x - 1))) d
+        entered d = ap (λ j. list_to p x j d) (sym after)
 
-          -- The test says whether the clause has x already.
-          tested : (b : Bool) → reached_by p x (k - word_at tables (end_at (x - 1))) c ≡ b → (ltb 0 n and eqb (word_at s (list_at (at + n - 1))) x) ≡ b
-          unfolding ◌and◌
-          tested true h =
-              let last = ends_there p x (k - word_at tables (end_at (x - 1))) c low h in
-              let z : list_at (at + n - 1) ≡ list_at (terms_ahead p c) + (length L - 1) = omega (arith, start_here, long, last.0) in
-              ap₂ ◌and◌ (lt-ltb 0 n (omega (arith, long, last.0))) (eq-eqb _ x (ap (word_at s) z ∙ list_at_lem p L (word_at s) c told (length L - 1) (omega (arith, last.0)) ∙ last.1))
-          tested false h = elim (ℕ_discrete n 0) [
-            | yes none ↦ ap (λ b. b and eqb (word_at s (list_at (at + n - 1))) x) (le-ltb 0 n (omega (arith, none)))
-            | no some ↦
-                let z : list_at (at + n - 1) ≡ list_at (terms_ahead p c) + (length L - 1) = omega (arith, start_here, long, some) in
-                let less = ends_elsewhere p x (k - word_at tables (end_at (x - 1))) c low h (omega (arith, long, some)) in
-                let word = ap (word_at s) z ∙ list_at_lem p L (word_at s) c told (length L - 1) (omega (arith, long, some)) in
-                ap₂ ◌and◌ (lt-ltb 0 n (omega (arith, some))) (ne_eqb _ x (λ e. omega (arith, e, word, less)))
-          ]
+        -- It has it: nothing is written.
+        pub list_same : {b : Bool} → b ≡ (ltb 0 n and eqb (word_at s (list_at (at + n - 1))) x) → b ≡ true → Listing (plan_of_tables tables terms) x (k + 1 - word_at tables (end_at (x - 1))) s
+        list_same {b} h t = record { room = y.room; each = λ d z. subst (λ xs. ListOf p xs (word_at s) d) (same d (ℕ_discrete d q.clause) ∙ entered d) (y.each d z) }
+          where
+            same : (d : ℕ) → Dec (d ≡ q.clause) → list_to p x (k - word_at tables (end_at (x - 1))) d ≡ list_to p x (suc (k - word_at tables (end_at (x - 1)))) d
+            same d (yes e) = sym (ap (list_to p x (suc (k - word_at tables (end_at (x - 1))))) e ∙ list_there p x (k - word_at tables (end_at (x - 1))) no_place inside (ap (reached_by p x (k - word_at tables (end_at (x - 1)))) (sym clause_here) ∙ sym (ends h) ∙ t) ∙ ap (list_to p x (k - word_at tables (end_at (x - 1)))) (sym e))
+            same d (no e) = sym (list_beside p x (k - word_at tables (end_at (x - 1))) no_place inside d e)
 
-          ends : {b : Bool} → b ≡ (ltb 0 n and eqb (word_at s (list_at (at + n - 1))) x) → b ≡ reached_by p x (k - word_at tables (end_at (x - 1))) c
-          ends h = h ∙ tested _ refl
+        -- It has not: the list is one longer.
+        module _ {b : Bool} (h : b ≡ (ltb 0 n and eqb (word_at s (list_at (at + n - 1))) x)) (t : b ≡ false) where
+          unreached : reached_by p x (k - word_at tables (end_at (x - 1))) q.clause ≡ false
+          unreached = ap (reached_by p x (k - word_at tables (end_at (x - 1)))) (sym clause_here) ∙ sym (ends h) ∙ t
 
-          after : k + 1 - word_at tables (end_at (x - 1)) ≡ suc (k - word_at tables (end_at (x - 1)))
-          after = omega arith
+          longer : list_to p x (k + 1 - word_at tables (end_at (x - 1))) c ≡ L ++ (x ∷ [])
+          longer =
+              sym (entered c)
+              ∙ ap (list_to p x (suc (k - word_at tables (end_at (x - 1))))) clause_here
+              ∙ list_longer p x (k - word_at tables (end_at (x - 1))) no_place inside unreached
+              ∙ ap (λ d. list_to p x (k - word_at tables (end_at (x - 1))) d ++ (x ∷ [])) (sym clause_here)
 
-          entered : (d : ℕ) → list_to p x (suc (k - word_at tables (end_at (x - 1)))) d ≡ list_to p x (k + 1 - word_at tables (end_at (x - 1))) d
-          entered d = ap (λ j. list_to p x j d) (sym after)
+          pub list_space : at + n + 1 ≤ terms_ahead (plan_of_tables tables terms) (suc c)
+          list_space =
+              omega (arith, start_here, long, ap length longer, length-append L (x ∷ []), list_few p x low free c below (k + 1 - word_at tables (end_at (x - 1))), ahead_next p c below)
 
-          -- It has it: nothing is written.
-          pub list_same : {b : Bool} → b ≡ (ltb 0 n and eqb (word_at s (list_at (at + n - 1))) x) → b ≡ true → Listing (plan_of_tables tables terms) x (k + 1 - word_at tables (end_at (x - 1))) s
-          list_same {b} h t = record { room = y.room; each = λ d z. subst (λ xs. ListOf p xs (word_at s) d) (same d (ℕ_discrete d q.clause) ∙ entered d) (y.each d z) }
-            where
-              same : (d : ℕ) → Dec (d ≡ q.clause) → list_to p x (k - word_at tables (end_at (x - 1))) d ≡ list_to p x (suc (k - word_at tables (end_at (x - 1)))) d
-              same d (yes e) = sym (ap (list_to p x (suc (k - word_at tables (end_at (x - 1))))) e ∙ list_there p x (k - word_at tables (end_at (x - 1))) no_place inside (ap (reached_by p x (k - word_at tables (end_at (x - 1)))) (sym clause_here) ∙ sym (ends h) ∙ t) ∙ ap (list_to p x (k - word_at tables (end_at (x - 1)))) (sym e))
-              same d (no e) = sym (list_beside p x (k - word_at tables (end_at (x - 1))) no_place inside d e)
+          pub place_few : at + n < 6_512
+          place_few = omega (arith, list_space, ahead_all p (suc c), (parts tables terms l).terms)
 
-          -- It has not: the list is one longer.
-          module _ {b : Bool} (h : b ≡ (ltb 0 n and eqb (word_at s (list_at (at + n - 1))) x)) (t : b ≡ false) where
-            unreached : reached_by p x (k - word_at tables (end_at (x - 1))) q.clause ≡ false
-            unreached = ap (reached_by p x (k - word_at tables (end_at (x - 1)))) (sym clause_here) ∙ sym (ends h) ∙ t
+          module _ {v m : ℕ} {a z : List ℕ} (ev : v ≡ x) (ea : a ≡ put_words (list_at (at + n)) (v ∷ []) s) (em : m ≡ n + 1) (ez : z ≡ put_words (list_count_at c) (m ∷ []) a) where
+            first : Wrote (list_at (at + n)) v s a
+            first = word_wrote (list_at (at + n)) v s a (omega (arith, place_few, y.room)) (omega (arith, ev, high, (parts tables terms l).high)) ea
 
-            longer : list_to p x (k + 1 - word_at tables (end_at (x - 1))) c ≡ L ++ (x ∷ [])
-            longer =
-                sym (entered c)
-                ∙ ap (list_to p x (suc (k - word_at tables (end_at (x - 1))))) clause_here
-                ∙ list_longer p x (k - word_at tables (end_at (x - 1))) no_place inside unreached
-                ∙ ap (λ d. list_to p x (k - word_at tables (end_at (x - 1))) d ++ (x ∷ [])) (sym clause_here)
+            second : Wrote (list_count_at c) m a z
+            second = word_wrote (list_count_at c) m a z (omega (arith, clause_few, first.size, y.room)) (omega (arith, em, place_few)) ez
 
-            pub list_space : at + n + 1 ≤ terms_ahead (plan_of_tables tables terms) (suc c)
-            list_space =
-                omega (arith, start_here, long, ap length longer, length-append L (x ∷ []), list_few p x low free c below (k + 1 - word_at tables (end_at (x - 1))), ahead_next p c below)
+            pub list_only : Only (list_count_at 0) column_word_count s z
+            list_only = only_next (wrote_only (omega arith) (omega (arith, place_few)) first) (wrote_only (omega arith) (omega (arith, clause_few)) second)
 
-            pub place_few : at + n < 6_512
-            place_few = omega (arith, list_space, ahead_all p (suc c), (parts tables terms l).terms)
+            -- A word of another list, or of this one's beginning, stands.
+            stands : (d j : ℕ) → d < length p.clauses → ((terms_ahead p d + j ≡ at + n) → ⊥) → word_at z (list_at (terms_ahead p d) + j) ≡ word_at s (list_at (terms_ahead p d) + j)
+            stands d j g o = second.others (list_at (terms_ahead p d) + j) (λ e. omega (arith, e, clause_few)) ∙ first.others (list_at (terms_ahead p d) + j) (λ e. o (omega (arith, e)))
 
-            module _ {v m : ℕ} {a z : List ℕ} (ev : v ≡ x) (ea : a ≡ put_words (list_at (at + n)) (v ∷ []) s) (em : m ≡ n + 1) (ez : z ≡ put_words (list_count_at c) (m ∷ []) a) where
-              first : Wrote (list_at (at + n)) v s a
-              first = word_wrote (list_at (at + n)) v s a (omega (arith, place_few, y.room)) (omega (arith, ev, high, (parts tables terms l).high)) ea
+            own : ListOf p (L ++ (x ∷ [])) (word_at z) c
+            own = list_told p (L ++ (x ∷ [])) (word_at z) c (second.here ∙ em ∙ omega (arith, long, length-append L (x ∷ []))) each
+              where
+                each : (j : ℕ) → j < length (L ++ (x ∷ [])) → word_at z (list_at (terms_ahead p c) + j) ≡ get_or (L ++ (x ∷ [])) j 0
+                each j g = elim (ℕ_discrete j (length L)) [
+                  | yes e ↦
+                      let here : list_at (terms_ahead p c) + j ≡ list_at (at + n) = omega (arith, start_here, long, e) in
+                      ap (word_at z) here ∙ second.others (list_at (at + n)) (λ o. omega (arith, o, clause_few)) ∙ first.here ∙ ev ∙ sym (ap (λ o. get_or (L ++ (x ∷ [])) o 0) e ∙ get_or-append_seam L x [] 0)
+                  | no o ↦
+                      let few : j < length L = omega (arith, o, g, length-append L (x ∷ [])) in
+                      stands c j below (λ e. omega (arith, e, start_here, long, few)) ∙ list_at_lem p L (word_at s) c told j few ∙ sym (get_or-append L (x ∷ []) 0 j few)
+                ]
 
-              second : Wrote (list_count_at c) m a z
-              second = word_wrote (list_count_at c) m a z (omega (arith, clause_few, first.size, y.room)) (omega (arith, em, place_few)) ez
+            other : (d : ℕ) → d < length p.clauses → (d ≡ c → ⊥) → ListOf p (list_to p x (k - word_at tables (end_at (x - 1))) d) (word_at z) d
+            other d g o =
+                let L' = list_to p x (k - word_at tables (end_at (x - 1))) d in
+                list_told p L' (word_at z) d
+                (second.others (list_count_at d) (λ e. o (omega (arith, e))) ∙ first.others (list_count_at d) (λ e. omega (arith, e, g, (parts tables terms l).clause_count)) ∙ (y.each d g).counted)
+                (λ j few. stands d j g (λ e. apart j few e) ∙ list_at_lem p L' (word_at s) d (y.each d g) j few)
+              where
+                apart : (j : ℕ) → j < length (list_to p x (k - word_at tables (end_at (x - 1))) d) → terms_ahead p d + j ≡ at + n → ⊥
+                apart j few e = elim (dec_le d c) [
+                  | yes le ↦ omega (arith, e, few, start_here, list_few p x low free d g (k - word_at tables (end_at (x - 1))), ahead_next p d g, ahead_rise p (suc d) c (omega (arith, o, le)) (omega (arith, below)))
+                  | no ge ↦ omega (arith, e, list_space, ahead_rise p (suc c) d (lt_of_not-le ge) (omega (arith, g)))
+                ]
 
-              pub list_only : Only (list_count_at 0) column_word_count s z
-              list_only = only_next (wrote_only (omega arith) (omega (arith, place_few)) first) (wrote_only (omega arith) (omega (arith, clause_few)) second)
-
-              -- A word of another list, or of this one's beginning, stands.
-              stands : (d j : ℕ) → d < length p.clauses → ((terms_ahead p d + j ≡ at + n) → ⊥) → word_at z (list_at (terms_ahead p d) + j) ≡ word_at s (list_at (terms_ahead p d) + j)
-              stands d j g o = second.others (list_at (terms_ahead p d) + j) (λ e. omega (arith, e, clause_few)) ∙ first.others (list_at (terms_ahead p d) + j) (λ e. o (omega (arith, e)))
-
-              own : ListOf p (L ++ (x ∷ [])) (word_at z) c
-              own = list_told p (L ++ (x ∷ [])) (word_at z) c (second.here ∙ em ∙ omega (arith, long, length-append L (x ∷ []))) each
-                where
-                  each : (j : ℕ) → j < length (L ++ (x ∷ [])) → word_at z (list_at (terms_ahead p c) + j) ≡ get_or (L ++ (x ∷ [])) j 0
-                  each j g = elim (ℕ_discrete j (length L)) [
-                    | yes e ↦
-                        let here : list_at (terms_ahead p c) + j ≡ list_at (at + n) = omega (arith, start_here, long, e) in
-                        ap (word_at z) here ∙ second.others (list_at (at + n)) (λ o. omega (arith, o, clause_few)) ∙ first.here ∙ ev ∙ sym (ap (λ o. get_or (L ++ (x ∷ [])) o 0) e ∙ get_or-append_seam L x [] 0)
-                    | no o ↦
-                        let few : j < length L = omega (arith, o, g, length-append L (x ∷ [])) in
-                        stands c j below (λ e. omega (arith, e, start_here, long, few)) ∙ list_at_lem p L (word_at s) c told j few ∙ sym (get_or-append L (x ∷ []) 0 j few)
-                  ]
-
-              other : (d : ℕ) → d < length p.clauses → (d ≡ c → ⊥) → ListOf p (list_to p x (k - word_at tables (end_at (x - 1))) d) (word_at z) d
-              other d g o =
-                  let L' = list_to p x (k - word_at tables (end_at (x - 1))) d in
-                  list_told p L' (word_at z) d
-                  (second.others (list_count_at d) (λ e. o (omega (arith, e))) ∙ first.others (list_count_at d) (λ e. omega (arith, e, g, (parts tables terms l).clause_count)) ∙ (y.each d g).counted)
-                  (λ j few. stands d j g (λ e. apart j few e) ∙ list_at_lem p L' (word_at s) d (y.each d g) j few)
-                where
-                  apart : (j : ℕ) → j < length (list_to p x (k - word_at tables (end_at (x - 1))) d) → terms_ahead p d + j ≡ at + n → ⊥
-                  apart j few e = elim (dec_le d c) [
-                    | yes le ↦ omega (arith, e, few, start_here, list_few p x low free d g (k - word_at tables (end_at (x - 1))), ahead_next p d g, ahead_rise p (suc d) c (omega (arith, o, le)) (omega (arith, below)))
-                    | no ge ↦ omega (arith, e, list_space, ahead_rise p (suc c) d (lt_of_not-le ge) (omega (arith, g)))
-                  ]
-
-              pub list_more : Listing (plan_of_tables tables terms) x (k + 1 - word_at tables (end_at (x - 1))) z
-              list_more = record { room = rw (second.size ∙ first.size) y.room; each = each }
-                where
-                  each : (d : ℕ) → d < length p.clauses → ListOf p (list_to p x (k + 1 - word_at tables (end_at (x - 1))) d) (word_at z) d
-                  each d g = elim (ℕ_discrete d c) [
-                    | yes e ↦ subst (λ o. ListOf p (list_to p x (k + 1 - word_at tables (end_at (x - 1))) o) (word_at z) o) (sym e) (subst (λ xs. ListOf p xs (word_at z) c) (sym longer) own)
-                    | no o ↦ subst (λ xs. ListOf p xs (word_at z) d) (sym (list_beside p x (k - word_at tables (end_at (x - 1))) no_place inside d (λ e. o (e ∙ sym clause_here))) ∙ entered d) (other d g o)
-                  ]
+            pub list_more : Listing (plan_of_tables tables terms) x (k + 1 - word_at tables (end_at (x - 1))) z
+            list_more = record { room = rw (second.size ∙ first.size) y.room; each = each }
+              where
+                each : (d : ℕ) → d < length p.clauses → ListOf p (list_to p x (k + 1 - word_at tables (end_at (x - 1))) d) (word_at z) d
+                each d g = elim (ℕ_discrete d c) [
+                  | yes e ↦ subst (λ o. ListOf p (list_to p x (k + 1 - word_at tables (end_at (x - 1))) o) (word_at z) o) (sym e) (subst (λ xs. ListOf p xs (word_at z) c) (sym longer) own)
+                  | no o ↦ subst (λ xs. ListOf p xs (word_at z) d) (sym (list_beside p x (k - word_at tables (end_at (x - 1))) no_place inside d (λ e. o (e ∙ sym clause_here))) ∙ entered d) (other d g o)
+                ]
 
 -- ---- a run, and all
 

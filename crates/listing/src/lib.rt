@@ -8,20 +8,30 @@ ghost use Rattle.std.specs.Prelude.{◌≡◌, ◌+◌, ◌*◌, ◌-◌, ◌≤
 ghost use Rattle.plpb.specs.Lists.{◌and◌};
 ghost use Rattle.plpb.specs.Plan.{is_locked};
 ghost use Rattle.words.specs.Words.{word_at};
-ghost use Rattle.format.specs.Layout.{clause_first_at, end_at, rule_first_at};
+ghost use Rattle.format.specs.Layout.{end_at};
 ghost use Rattle.recount.specs.Plans.{plan as planOf};
 ghost use Rattle.columns.specs.Layout.{column_size, column_word_count, list_at, list_count_at};
-ghost use Rattle.columns.specs.Columns.{Listed};
+ghost use Rattle.columns.specs.Columns.{terms_ahead, Listed};
 ghost use Rattle.columns.specs.Frames.{Only};
 ghost use Rattle.listing.specs.Listing.{Listing};
 
 use columns::{LIST_COUNTS, LISTS};
-use format::{CLAUSES, ENDS, LOCKS, ORDER, RULES};
+use format::{CLAUSES, LOCKS, ORDER, RULES};
 use places::clause_in;
+use recount::clause::run_of;
 use recount::tables::Tables;
 use words::{index, narrow, word, write_word};
 
-// Whether x is the last of the n variables of a list. They are words in lent bytes, of which the library's ends_with would compare four and no number.
+// How many terms stand before those of clause c.
+pub fn terms_ahead(t: &Tables<'_>, c: usize) -> usize
+    requires { c < length (planOf t.now).clauses }
+    ensures { result ≡ terms_ahead (planOf t.now) c }
+{
+    index(t.tables, RULES + 5 * index(t.tables, CLAUSES + 2 * c))
+}
+
+// Whether x is the last of the n variables of a list. They are words in lent bytes: the library's `ends_with` would compare the last four bytes with another
+// four, and not the number that they stand for with x.
 fn ends_with(marks: &[u8], at: usize, n: usize, x: usize) -> bool
     requires { (at + n ≤ 6_512) × (column_size ≤ length marks.now) }
     ensures { result ≡ (ltb 0 n and eqb (word_at marks.now (list_at (at + n - 1))) x) }
@@ -47,9 +57,8 @@ impl Variable<'_> {
         ensures { Listing (planOf self.now.plan) self.now.x (k + 1 - word_at self.now.plan.tables.now (end_at (self.now.x - 1))) marks.new
             × Only (list_count_at 0) column_word_count marks.old marks.new }
     {
-        let tables = self.plan.tables;
-        let c = clause_in(word(tables, ORDER + k));
-        let at = index(tables, RULES + 5 * index(tables, CLAUSES + 2 * c));
+        let c = clause_in(word(self.plan.tables, ORDER + k));
+        let at = terms_ahead(&self.plan, c);
         let n = index(marks, LIST_COUNTS + c);
         if ends_with(marks, at, n, self.x) {
             return;
@@ -64,13 +73,14 @@ impl Variable<'_> {
         ensures { Listing (planOf self.now.plan) (self.now.x + 1) 0 marks.new
             × Only (list_count_at 0) column_word_count marks.old marks.new }
     {
-        let end = index(self.plan.tables, ENDS + self.x);
-        for k in index(self.plan.tables, ENDS + (self.x - 1))..end {
+        let run = run_of(self.plan.tables, self.x);
+        for k in run.start..run.end {
             self.list_entry(k, marks);
         }
     }
 
-    // All entries of the variable's run, unless it is locked: then no list gets it.
+    // All entries of the variable's run, unless it is locked: then no list gets it. Whether it is locked is asked of the lock's word alone, since at which
+    // value is not asked.
     fn list(&self, marks: &mut [u8])
         requires { Listing (planOf self.now.plan) self.now.x 0 marks.old }
         ensures { Listing (planOf self.now.plan) (self.now.x + 1) 0 marks.new

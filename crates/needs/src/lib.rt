@@ -1,6 +1,7 @@
 // What a rule's two sides need: how much weight has to come to its false literals, or to its true ones, before a part is false that a bound asks for. A flip
 // spoils a part where the weight it brings is not below the need, so one comparison tells it.
-// The tallies are lent by themselves, for each function that writes them reads them too.
+// The tallies come beside the tables that are read: in one struct with them they would be read while they are lent for writing, which the proof of borrows does
+// not cover.
 #![tactic(auto)]
 
 ghost use Rattle.std.specs.Prelude.{◌≡◌, ◌+◌, ◌≤◌, ◌<◌, length};

@@ -11,24 +11,17 @@ use lib.ListN.{length, get_or, take, length-append, get_or-append}
 use lib.Seq.{take-suc, get_or-append_seam}
 use Rattle.plpb.specs.Lists.{keep, row}
 use Rattle.plpb.specs.Plan.{Plan, Assignment}
-use Rattle.plpb.specs.Tallies.{rules_of}
 use Rattle.plpb.specs.Count.{capped_break}
 use Rattle.plpb.specs.Choice.{choosable, with_break}
-use Rattle.plpb.proofs.Lists.{keep_append, length_row, row_at, all_at, false_T, T_true}
+use Rattle.plpb.proofs.Lists.{keep_append, length_row, row_at, false_T, T_true}
 use Rattle.words.specs.Words.{word_at, num_at}
 use Rattle.words.specs.Writes.{Wrote}
 use Rattle.words.proofs.Words.{num_at_drop}
-use Rattle.order.specs.Order.{first_rule}
-use Rattle.order.proofs.Runs.{first_next, first_within}
 use Rattle.format.specs.Limits.{max_variables}
 use Rattle.format.specs.Tables.{plan_of_tables}
-use Rattle.format.specs.Layout.{clause_first_at, rule_first_at}
-use Rattle.format.proofs.Bools as bools
-use Rattle.format.proofs.Lawful.{clause_lawful, clause_some}
-use Rattle.format.proofs.Placed.{clause_first, rule_first}
 use Rattle.tallies.proofs.Tallied.{get_d_map}
 use Rattle.recount.specs.Core.{Laid}
-use Rattle.recount.proofs.Laid.{parts, sections}
+use Rattle.recount.proofs.Laid.{parts}
 use Rattle.columns.specs.Layout.{hint_at, pick_at, weight_at, list_at, column_size}
 use Rattle.columns.specs.Columns.{words_from, terms_ahead, Weighed, Listed}
 use Rattle.columns.proofs.Marks.{Behind, weighed_behind, listed_behind}
@@ -115,24 +108,6 @@ with_fewer p a b xs = keep_fewer (λ x. eqb (capped_break p a x) b) xs
 module _ {tables terms : List ℕ} (l : Laid tables terms) {c : ℕ} (h : c < length (plan_of_tables tables terms).clauses) where
   abbrev p : Plan
   p = plan_of_tables tables terms
-
-  pub clause_low : c < 513
-  clause_low = omega (arith, (parts tables terms l).clause_count)
-
-  first_few : first_rule p.clauses c < length (rules_of p)
-  unfolding rules_of
-  first_few =
-      let some : 0 < length (get_or p.clauses c []) = clause_some p.variables (get_or p.clauses c []) (bools.T_true _ (all_at (clause_lawful p.variables) p.clauses c [] (bools.true_T _ (parts tables terms l).clauses) h)) in
-      omega (arith, first_next p.clauses c h, first_within p.clauses (suc c))
-
-  pub first_word : {r : ℕ} → r ≡ word_at tables (clause_first_at c) → r < 1_025
-  first_word e = omega (arith, e, clause_first p (parts tables terms l) (word_at tables) (word_at terms) (sections tables terms l) c h, first_few, (parts tables terms l).rule_count)
-
-  pub ahead_word : {r n : ℕ} → r ≡ word_at tables (clause_first_at c) → n ≡ word_at tables (rule_first_at r) → n ≡ terms_ahead (plan_of_tables tables terms) c
-  unfolding terms_ahead
-  ahead_word e f =
-      f ∙ ap (λ r. word_at tables (rule_first_at r)) (e ∙ clause_first p (parts tables terms l) (word_at tables) (word_at terms) (sections tables terms l) c h)
-      ∙ rule_first p (parts tables terms l) (word_at tables) (word_at terms) (sections tables terms l) (first_rule p.clauses c) first_few
 
   pub list_inside : terms_ahead (plan_of_tables tables terms) c + length (choosable (plan_of_tables tables terms) (get_or (plan_of_tables tables terms).clauses c [])) ≤ 6_512
   list_inside = omega (arith, list_room p c h, (parts tables terms l).terms)

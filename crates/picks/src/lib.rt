@@ -18,19 +18,11 @@ ghost use Rattle.picks.specs.Choice.{plan as plan_of, bits, variables, Marked};
 pub use choice::Choice;
 use columns::{LIST_COUNTS, LISTS, PICKS};
 use effects::Footing;
-use format::{CLAUSES, RULES};
 use freely::is_free;
+use listing::terms_ahead;
 use recount::tables::Tables;
 use std::ops::Range;
 use words::{index, narrow, write_word};
-
-// How many terms stand before those of clause c.
-pub fn terms_ahead(t: &Tables<'_>, c: usize) -> usize
-    requires { c < length (plan t.now).clauses }
-    ensures { result ≡ terms_ahead (plan t.now) c }
-{
-    index(t.tables, RULES + 5 * index(t.tables, CLAUSES + 2 * c))
-}
 
 // The words of the marks that list the variables of clause c that may be chosen.
 pub fn list_of(t: &Tables<'_>, marks: &[u8], c: usize) -> Range<usize>

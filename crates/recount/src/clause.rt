@@ -1,10 +1,10 @@
-// The rules of a clause, and whether they name a variable.
-ghost use Rattle.std.specs.Prelude.{◌≡◌, ◌+◌, ◌*◌, ◌<◌};
+// The rules of a clause, and whether they name a variable; and where a variable's terms stand in their order.
+ghost use Rattle.std.specs.Prelude.{◌≡◌, ◌+◌, ◌*◌, ◌-◌, ◌≤◌, ◌<◌, length};
 ghost use Rattle.plpb.specs.Plan.{named_in, names as clauseNames};
 ghost use Rattle.words.specs.Words.{word_at};
 ghost use Rattle.recount.specs.Core.{RunReadable};
 ghost use Rattle.recount.specs.Plans.{rule, clause};
-ghost use Rattle.format.specs.Layout.{clause_count_at, clause_first_at};
+ghost use Rattle.format.specs.Layout.{clause_count_at, clause_first_at, end_at};
 
 use crate::tables::Tables;
 use rules::state::names;
@@ -20,6 +20,15 @@ pub fn rules_of(tables: &[u8], c: usize) -> Range<usize>
 {
     let first = index(tables, format::CLAUSES + 2 * c);
     first..first + index(tables, format::CLAUSE_COUNT + 2 * c)
+}
+
+// Where the run of variable x stands in the order: from the end of the run before it to its own. Loops whose invariant speaks of the place go from one end to
+// the other, as those over `rules_of` do.
+pub fn run_of(tables: &[u8], x: usize) -> Range<usize>
+    requires { (1 ≤ x) × (4 * end_at x + 4 ≤ length tables.now) }
+    ensures { (result.start ≡ word_at tables.now (end_at (x - 1))) × (result.end ≡ word_at tables.now (end_at x)) }
+{
+    index(tables, format::ENDS + (x - 1))..index(tables, format::ENDS + x)
 }
 
 impl Tables<'_> {

@@ -1,11 +1,9 @@
 -- The book in `replay`'s contract is that of the file's plan: the tables that hold a plan read back as it. Assumes nothing.
-use Prim.Native.Nat.{ℕ, suc}
-use native.Mathlib.Omega.{arith}
+use Prim.Native.Nat.{ℕ}
 use mathlib.Core.Path.{◌≡◌, subst}
-use mathlib.Core.Bool.{Bool, true, false}
 use mathlib.Core.List.{List}
-use Rattle.format.specs.File.{refuse}
 use Rattle.format.proofs.Accepted.{accepted_lawful}
+use Rattle.format.proofs.Fields.{unrefused}
 use Rattle.format.proofs.Lawful.{lawful_roomy}
 use Rattle.format.proofs.ReadBack.{read_back}
 use Rattle.tallies.specs.Calls.{Lent, plan, open_refusal}
@@ -14,14 +12,9 @@ use Rattle.tallies.proofs.Demand3.{agrees}
 use Rattle.replay.specs.Replay.{calls_of, replay_refusal, replay_out, replay_assignment, replay_tallies}
 use Rattle.replay.specs.Account.{Accounted, FileAccounted}
 
-refuse_later : (b : Bool) (k m : ℕ) → refuse b (suc k) m ≡ 0 → m ≡ 0
-unfolding refuse
-refuse_later true k m e = omega arith
-refuse_later false k m e = e
-
 opening_accepted : (l : Lent) (list out : List ℕ) → replay_refusal l list out ≡ 0 → open_refusal l ≡ 0
 unfolding replay_refusal
-opening_accepted l list out e = refuse_later _ 20 (open_refusal l) e
+opening_accepted l list out e = (unrefused _ 20 (open_refusal l) e).1
 
 pub accounted : (l : Lent) (list out : List ℕ) → replay_refusal l list out ≡ 0 → Accounted (plan l) l list out
 unfolding replay_out replay_assignment replay_tallies

@@ -6,7 +6,9 @@ use mathlib.Core.Path.{◌≡◌, refl, sym, ap, ap₂, ◌∙◌}
 use mathlib.Core.Bool.{Bool, cond}
 use mathlib.Core.List.{List, [], ◌∷◌, ◌++◌, append-nil}
 use lib.Dec.{eqb-suc-zero}
-use lib.ListN.{length, get_or, take-append-drop}
+use lib.ListN.{length, get_or, drop, take-append-drop}
+use lib.Seq.{get_or-drop, get_or-take}
+use Rattle.std.specs.Simd.{first_chunks}
 use borrow.Author.Tests.{eq-eqb, ne_eqb}
 use Rattle.plpb.specs.Book.{Call, flip_call, counts_call, Answer, refused, accepted, counted}
 use Rattle.plpb.specs.Count.{given}
@@ -14,7 +16,7 @@ use Rattle.counting.specs.Count.{count_words}
 use Rattle.counting.proofs.Marks.{words_uncut}
 use Rattle.words.specs.Words.{num_at, bytes_of, word_bytes}
 use Rattle.words.specs.Writes.{front, put}
-use Rattle.words.proofs.Words.{length_word_bytes}
+use Rattle.words.proofs.Words.{length_word_bytes, num_at_same}
 use borrow.Rule.Slice.PartMut.{put_mid}
 use Rattle.words.proofs.Writes.{put_put, lent_part, front_whole, front_none, word_bytes_append}
 use Rattle.tallies.specs.Calls.{Lent, lent, call_refusal, flip_refusal, flip_assignment, flip_tallies, flip_rules, counts_break, counts_make, answer, left_by}
@@ -164,3 +166,22 @@ answers_last l n s k out h = rw (calls_end n s k h, front_none) (take-append-dro
 pub after_last : (l : Lent) (n : ℕ) (s : List ℕ) (k : ℕ) → n ≤ k → after l (calls_left n s k) ≡ l
 unfolding after
 after_last l n s k h = rw (calls_end n s k h)
+
+-- ---- a call in its chunk of the list
+
+chunk_byte : (n : ℕ) (s : List ℕ) (k j : ℕ) → k < n → j < 5 → get_or (get_or (first_chunks 5 n s) k []) j 0 ≡ get_or s (5 * k + j) 0
+chunk_byte zero s k j h l = absurd (omega arith)
+chunk_byte (suc n) s zero j h l =
+    let z : j ≡ 5 * 0 + j = omega arith in
+    get_or-take 5 s j 0 l ∙ ap (λ i. get_or s i 0) z
+chunk_byte (suc n) s (suc k) j h l =
+    let z : 5 + (5 * k + j) ≡ 5 * suc k + j = omega arith in
+    chunk_byte n (drop 5 s) k j (omega arith) l ∙ get_or-drop 5 s (5 * k + j) 0 ∙ ap (λ i. get_or s i 0) z
+
+pub chunk_call : {cs : List (List ℕ)} {n : ℕ} (s : List ℕ) (k : ℕ) → cs ≡ first_chunks 5 n s → k < n → call_of (get_or (get_or cs k []) 0 0) (num_at 4 (get_or cs k []) 1) ≡ call_of (get_or s (5 * k) 0) (num_at 4 s (5 * k + 1))
+chunk_call {cs} {n} s k e h =
+    let here : 5 * k + 0 ≡ 5 * k = omega arith in
+    let kind : get_or (get_or (first_chunks 5 n s) k []) 0 0 ≡ get_or s (5 * k) 0 = chunk_byte n s k 0 h (omega arith) ∙ ap (λ i. get_or s i 0) here in
+    let variable : num_at 4 (get_or (first_chunks 5 n s) k []) 1 ≡ num_at 4 s (5 * k + 1) =
+    num_at_same 4 _ _ 1 (5 * k + 1) (λ m l. let z : 5 * k + (1 + m) ≡ 5 * k + 1 + m = omega arith in chunk_byte n s k (1 + m) h (omega arith) ∙ ap (λ i. get_or s i 0) z) in
+    ap (λ (c : List ℕ). call_of (get_or c 0 0) (num_at 4 c 1)) (ap (λ (d : List (List ℕ)). get_or d k []) e) ∙ ap₂ call_of kind variable

@@ -1,7 +1,7 @@
 // Opening, and then a list of calls one after another on the lent buffers: demand 3 as a claim about running code.
 #![tactic(auto)]
 
-ghost use Rattle.std.specs.Prelude.{◌≡◌, [], ◌∷◌, ◌++◌, ◌+◌, ◌*◌, ◌/◌, ◌≤◌, get_or, length};
+ghost use Rattle.std.specs.Prelude.{◌≡◌, [], ◌∷◌, ◌++◌, ◌*◌, ◌/◌, ◌≤◌, get_or, length};
 ghost use Rattle.counting.specs.Count.{marked_words};
 ghost use Rattle.words.specs.Words.{num_at, word_bytes};
 ghost use Rattle.words.specs.Writes.{front};
@@ -67,13 +67,12 @@ impl From<Counted> for Answered {
     }
 }
 
-// The call that stands at a place of the caller's list: its kind, 0 for a flip and any other for counts, and its variable.
-fn call_at(list: &[u8], at: usize) -> Call
-    requires { at + 5 ≤ length list.now }
-    ensures { called result ≡ call_of (get_or list.now at 0) (num_at 4 list.now (at + 1)) }
+// The call in its bytes: its kind, 0 for a flip and any other for counts, and its variable.
+fn read_call(bytes: &[u8; CALL]) -> Call
+    ensures { called result ≡ call_of (get_or bytes.now 0 0) (num_at 4 bytes.now 1) }
 {
-    let x = read_u32(list, at + 1);
-    if list[at] == 0 {
+    let x = read_u32(bytes, 1);
+    if bytes[0] == 0 {
         Call::Flip(x)
     } else {
         Call::Counts(x)
@@ -144,16 +143,17 @@ fn make_calls(
         ≡ (after (lent tables.now terms.now assignment.old tallies.old) (calls_of list.now)
         ).tallies }
 {
-    let count = list.len() / CALL;
-    for k in 0..count {
-        let call = call_at(list, CALL * k);
+    let (calls, _rest) = list.as_chunks::<CALL>();
+    for k in 0..calls.len() {
+        let call = read_call(&calls[k]);
         let a = make_call(tables, terms, assignment, tallies, call);
         write_answer(&mut out[ANSWER * k..ANSWER * (k + 1)], a);
     }
 }
 
 // Opens, and then makes the calls of `list`; `out` has room for the bytes of an answer to each. The refusals are the C interface's numbers.
-pub fn replay(
+#[unsafe(no_mangle)]
+pub extern "C" fn replay_calls(
     tables: &[u8],
     terms: &[u8],
     assignment: &mut [u8],
@@ -183,30 +183,4 @@ pub fn replay(
     }
     make_calls(tables, terms, assignment, tallies, list, out);
     0
-}
-
-// The same under the name that C calls.
-#[unsafe(no_mangle)]
-pub extern "C" fn replay_calls(
-    tables: &[u8],
-    terms: &[u8],
-    assignment: &mut [u8],
-    tallies: &mut [u8],
-    list: &[u8],
-    out: &mut [u8],
-) -> u32
-    ensures value { result
-        ≡ replay_refusal (lent tables.now terms.now assignment.old tallies.old) list.now
-        out.old }
-    ensures out_after { out.new
-        ≡ replay_out (lent tables.now terms.now assignment.old tallies.old) list.now
-        out.old }
-    ensures assignment_after { assignment.new
-        ≡ replay_assignment (lent tables.now terms.now assignment.old tallies.old) list.now
-        out.old }
-    ensures tallies_after { tallies.new
-        ≡ replay_tallies (lent tables.now terms.now assignment.old tallies.old) list.now
-        out.old }
-{
-    replay(tables, terms, assignment, tallies, list, out)
 }

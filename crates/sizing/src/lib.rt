@@ -37,7 +37,7 @@ fn put_sizes(tallies: &mut [u8], r: usize, k: u32, a: u32, b: u32)
     write_word(tallies, UPPER_SIZES + 3 * r, b);
 }
 
-// The words of rule r. N and P together are K whatever the assignment, so any bytes that are long enough do for one.
+// The words of rule r.
 fn size_rule(lent: &Lent<'_>, tallies: &mut [u8], r: usize)
     requires { (r < word_at lent.now.plan.tables.now 2) × (kept_size ≤ length tallies.old) }
     ensures { RuleSized lent.now.plan.tables.now lent.now.plan.terms.now r tallies.old tallies.new }
@@ -46,7 +46,7 @@ fn size_rule(lent: &Lent<'_>, tallies: &mut [u8], r: usize)
     put_sizes(tallies, r, s.n + s.p, size_word(s.a), size_word(s.b));
 }
 
-// The words of all rules.
+// The words of all rules. The terms' bytes stand in for an assignment: N and P together are K whatever it is.
 pub fn size_rules(t: &Tables<'_>, tallies: &mut [u8])
     requires { kept_size ≤ length tallies.old }
     ensures { Sized (plan t.now) tallies.new × Only (total_at 0) (need_at 0) tallies.old tallies.new }

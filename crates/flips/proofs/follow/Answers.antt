@@ -23,22 +23,22 @@ here tables x {from} {k} l e h = let z : k ≡ word_at tables (end_at (x - 1)) +
 
 pub loop-k-init : goal.loop-k-init
 loop-k-init c =
-    let z : c.index-from.result - c.index-from.result ≡ 0 = omega arith in
-    (omega arith, omega (arith, c.index-from.ensures, c.index-to.ensures, run_size c.requires), going_at (sym z) (going_start c.requires), record { size = refl; beyond = refl }, λ j. omega (arith, c.slice_known-1.given j))
+    let z : c.run_of-run.result.start - c.run_of-run.result.start ≡ 0 = omega arith in
+    (omega arith, omega (arith, c.run_of-run.ensures.0, c.run_of-run.ensures.1, run_size c.requires), going_at (sym z) (going_start c.requires), record { size = refl; beyond = refl }, λ j. omega (arith, c.slice_known-1.given j))
 
 pub pass-requires : goal.pass-requires
 pass-requires c =
     let i = c.loop-k.invariant in
-    pass_ready c.requires (inside c.requires i.0 c.loop-k-test.true c.index-from.ensures c.index-to.ensures) (here c.args.lent.now.plan.tables.now c.args.x i.0 c.index-from.ensures c.word.ensures) i.2 (rw i.3.size (follow_room c.requires))
+    pass_ready c.requires (inside c.requires i.0 c.loop-k-test.true c.run_of-run.ensures.0 c.run_of-run.ensures.1) (here c.args.lent.now.plan.tables.now c.args.x i.0 c.run_of-run.ensures.0 c.word.ensures) i.2 (rw i.3.size (follow_room c.requires))
 
 pub loop-k-preserved : goal.loop-k-preserved
 loop-k-preserved c =
     let i = c.loop-k.invariant in
-    let next : c.loop-k.k - c.index-from.result + 1 ≡ c.loop-k.k + 1 - c.index-from.result = omega (arith, i.0) in (
+    let next : c.loop-k.k - c.run_of-run.result.start + 1 ≡ c.loop-k.k + 1 - c.run_of-run.result.start = omega (arith, i.0) in (
       omega (arith, i.0),
       omega (arith, c.loop-k-test.true),
       going_at next
-          (pass_step c.requires (inside c.requires i.0 c.loop-k-test.true c.index-from.ensures c.index-to.ensures) (here c.args.lent.now.plan.tables.now c.args.x i.0 c.index-from.ensures c.word.ensures) i.2 c.pass.ensures.0),
+          (pass_step c.requires (inside c.requires i.0 c.loop-k-test.true c.run_of-run.ensures.0 c.run_of-run.ensures.1) (here c.args.lent.now.plan.tables.now c.args.x i.0 c.run_of-run.ensures.0 c.word.ensures) i.2 c.pass.ensures.0),
       inside_more i.3 c.pass.ensures.1,
       λ j. omega (arith, c.slice_known-in-loop-k-1.given j),
     )
@@ -46,23 +46,20 @@ loop-k-preserved c =
 pub returns : goal.returns
 returns c =
     let i = c.loop-k.invariant in
-    let all : c.loop-k.k - c.index-from.result ≡ length (occurrences (plan_of_tables c.args.lent.now.plan.tables.now c.args.lent.now.plan.terms.now) c.args.x) =
-    omega (arith, i.0, i.1, c.loop-k-test.false, c.index-from.ensures, c.index-to.ensures, run_size c.requires) in
-    let size : c.index-to.result - c.index-from.result ≡ length (occurrences (plan_of_tables c.args.lent.now.plan.tables.now c.args.lent.now.plan.terms.now) c.args.x) =
-    omega (arith, c.index-from.ensures, c.index-to.ensures, run_size c.requires) in
+    let all : c.loop-k.k - c.run_of-run.result.start ≡ length (occurrences (plan_of_tables c.args.lent.now.plan.tables.now c.args.lent.now.plan.terms.now) c.args.x) =
+    omega (arith, i.0, i.1, c.loop-k-test.false, c.run_of-run.ensures.0, c.run_of-run.ensures.1, run_size c.requires) in
+    let size : c.run_of-run.result.end - c.run_of-run.result.start ≡ length (occurrences (plan_of_tables c.args.lent.now.plan.tables.now c.args.lent.now.plan.terms.now) c.args.x) =
+    omega (arith, c.run_of-run.ensures.0, c.run_of-run.ensures.1, run_size c.requires) in
     (c.narrow.ensures ∙ size ∙ run_named c.requires, going_whole c.requires i.2 i.3 all i.4)
 
-pub index-from-requires : goal.index-from-requires
-index-from-requires c = omega (arith, places_few c.requires, tables_long _ _ c.requires.ready.laid)
-
-pub index-to-requires : goal.index-to-requires
-index-to-requires c = omega (arith, places_few c.requires, tables_long _ _ c.requires.ready.laid)
+pub run_of-run-requires : goal.run_of-run-requires
+run_of-run-requires c = (c.requires.low, omega (arith, places_few c.requires, tables_long _ _ c.requires.ready.laid))
 
 pub overflow_add-k : goal.overflow_add-k
-overflow_add-k c = omega (arith, c.loop-k-test.true, c.index-to.ensures, run_few c.requires)
+overflow_add-k c = omega (arith, c.loop-k-test.true, c.run_of-run.ensures.1, run_few c.requires)
 
 pub word-requires : goal.word-requires
-word-requires c = omega (arith, c.loop-k-test.true, c.index-to.ensures, run_few c.requires, tables_long _ _ c.requires.ready.laid)
+word-requires c = omega (arith, c.loop-k-test.true, c.run_of-run.ensures.1, run_few c.requires, tables_long _ _ c.requires.ready.laid)
 
 pub narrow-requires : goal.narrow-requires
-narrow-requires c = omega (arith, c.index-to.ensures, run_few c.requires)
+narrow-requires c = omega (arith, c.run_of-run.ensures.1, run_few c.requires)

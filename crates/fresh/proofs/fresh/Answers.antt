@@ -1,13 +1,9 @@
 -- `fresh` meets its contract: unused entries are 0, and then the clauses tell the rest.
 -- Assumes nothing.
 use native.Mathlib.Omega.{arith}
-use Rattle.recount.proofs.Laid.{tables_long, clauses_few}
-use Rattle.recount.proofs.Cores.{first_length, first_ready}
+use Rattle.recount.proofs.Laid.{tables_long, variables_word, clauses_few}
 use Rattle.fresh.proofs.Testing.{tested, rule_used, clause_used, both_unused}
 use Rattle.fresh.proofs.fresh.Goals as goal
-
-pub index-n-requires : goal.index-n-requires
-index-n-requires c = omega (arith, tables_long _ _ c.args.t.now.laid)
 
 pub index-clauses-requires : goal.index-clauses-requires
 index-clauses-requires c = omega (arith, tables_long _ _ c.args.t.now.laid)
@@ -17,7 +13,7 @@ index-rules-requires c = omega (arith, tables_long _ _ c.args.t.now.laid)
 
 pub returns-then-not-zeros : goal.returns-then-not-zeros
 returns-then-not-zeros c =
-    rule_used _ _ _ _ (record { laid = c.args.t.now.laid; bytes = c.requires.0 }) _ c.index-n.ensures _ c.index-rules.ensures (c.zeros.ensures.not_so c.if-not-zeros.true)
+    rule_used _ _ _ _ (record { laid = c.args.t.now.laid; bytes = c.requires.0 }) _ (variables_word _ _ c.args.t.now.laid) _ c.index-rules.ensures (c.zeros.ensures.not_so c.if-not-zeros.true)
 
 pub overflow_add-clauses : goal.overflow_add-clauses
 overflow_add-clauses c =
@@ -25,21 +21,17 @@ overflow_add-clauses c =
 
 pub returns-then-not-zeros-2 : goal.returns-then-not-zeros-2
 returns-then-not-zeros-2 c =
-    clause_used _ _ _ _ (record { laid = c.args.t.now.laid; bytes = c.requires.0 }) _ c.index-n.ensures _ c.index-clauses.ensures (c.zeros-2.ensures.not_so c.if-not-zeros-2.true)
-
-pub slice_bounds-lent-end : goal.slice_bounds-lent-end
-slice_bounds-lent-end c =
-    first_length _ _ _ (record { laid = c.args.t.now.laid; bytes = c.requires.0 }) _ c.index-n.ensures
-
-pub invariant_of-lent : goal.invariant_of-lent
-invariant_of-lent c = record { bytes = (first_ready _ _ _ (record { laid = c.args.t.now.laid; bytes = c.requires.0 }) _ c.index-n.ensures).bytes }
+    clause_used _ _ _ _ (record { laid = c.args.t.now.laid; bytes = c.requires.0 }) _ (variables_word _ _ c.args.t.now.laid) _ c.index-clauses.ensures (c.zeros-2.ensures.not_so c.if-not-zeros-2.true)
 
 pub clauses_fresh-requires : goal.clauses_fresh-requires
 clauses_fresh-requires c =
-    both_unused _ _ _ _ (record { laid = c.args.t.now.laid; bytes = c.requires.0 }) _ c.index-n.ensures _ _ c.index-rules.ensures c.index-clauses.ensures
+    let e = c.of-lent.ensures in
+    rw e.0
+    (both_unused _ _ _ _ (record { laid = c.args.t.now.laid; bytes = c.requires.0 }) _ (variables_word _ _ c.args.t.now.laid) _ _ c.index-rules.ensures c.index-clauses.ensures
     (c.zeros.ensures.so c.if-not-zeros.false)
-    (c.zeros-2.ensures.so c.if-not-zeros-2.false)
+    (c.zeros-2.ensures.so c.if-not-zeros-2.false))
 
 pub returns : goal.returns
 returns c =
-    tested _ _ _ c.args.tallies.now (record { laid = c.args.t.now.laid; bytes = c.requires.0 }) _ c.index-n.ensures c.clauses_fresh.ensures
+    let e = c.of-lent.ensures in
+    tested _ _ _ c.args.tallies.now (record { laid = c.args.t.now.laid; bytes = c.requires.0 }) _ (variables_word _ _ c.args.t.now.laid) (rw (e.0, e.1) at c.clauses_fresh.ensures)

@@ -24,27 +24,27 @@ here s at from k l h = let z : k ≡ from + (k - from) = omega arith in h ∙ ap
 
 pub loop-k-init : goal.loop-k-init
 loop-k-init c =
-    let z : 0 ≡ c.index-k.result - word_at c.args.t.now.tables.now (end_at (c.args.x - 1)) = omega (arith, c.index-k.ensures) in
-    (omega (arith, c.index-k.ensures), omega (arith, c.index-k.ensures, c.index-to.ensures, run_size c.requires.follow), keeping_at z (keeping_start c.requires), λ j. omega (arith, c.slice_known-1.given j))
+    let z : 0 ≡ c.run_of-run.result.start - word_at c.args.lent.now.plan.tables.now (end_at (c.args.x - 1)) = omega (arith, c.run_of-run.ensures.0) in
+    (omega (arith, c.run_of-run.ensures.0), omega (arith, c.run_of-run.ensures.0, c.run_of-run.ensures.1, run_size c.requires.follow), keeping_at z (keeping_start c.requires), λ j. omega (arith, c.slice_known-1.given j))
 
 pub pass-requires : goal.pass-requires
 pass-requires c =
     let i = c.loop-k.invariant in
-    place_ready c.requires (inside c.requires.follow i.0 c.loop-k-test.true c.index-to.ensures)
-    (here c.args.t.now.tables.now (λ n. entry_at n) (word_at c.args.t.now.tables.now (end_at (c.args.x - 1))) _ i.0 c.word.ensures)
-    (here c.args.marks.now (λ n. weight_at n) (word_at c.args.t.now.tables.now (end_at (c.args.x - 1))) _ i.0 c.word-in-loop-k.ensures)
+    place_ready c.requires (inside c.requires.follow i.0 c.loop-k-test.true c.run_of-run.ensures.1)
+    (here c.args.lent.now.plan.tables.now (λ n. entry_at n) (word_at c.args.lent.now.plan.tables.now (end_at (c.args.x - 1))) _ i.0 c.word.ensures)
+    (here c.args.marks.now (λ n. weight_at n) (word_at c.args.lent.now.plan.tables.now (end_at (c.args.x - 1))) _ i.0 c.word-in-loop-k.ensures)
     c.value_of-value.ensures i.2
 
 pub loop-k-preserved : goal.loop-k-preserved
 loop-k-preserved c =
     let i = c.loop-k.invariant in
-    let from = word_at c.args.t.now.tables.now (end_at (c.args.x - 1)) in
-    let next : c.loop-k.k - word_at c.args.t.now.tables.now (end_at (c.args.x - 1)) + 1 ≡ c.loop-k.k + 1 - word_at c.args.t.now.tables.now (end_at (c.args.x - 1)) = omega (arith, i.0) in (
+    let from = word_at c.args.lent.now.plan.tables.now (end_at (c.args.x - 1)) in
+    let next : c.loop-k.k - word_at c.args.lent.now.plan.tables.now (end_at (c.args.x - 1)) + 1 ≡ c.loop-k.k + 1 - word_at c.args.lent.now.plan.tables.now (end_at (c.args.x - 1)) = omega (arith, i.0) in (
       omega (arith, i.0),
       omega (arith, c.loop-k-test.true),
       keeping_at next
-          (place_kept c.requires (inside c.requires.follow i.0 c.loop-k-test.true c.index-to.ensures)
-          (here c.args.t.now.tables.now (λ n. entry_at n) from _ i.0 c.word.ensures)
+          (place_kept c.requires (inside c.requires.follow i.0 c.loop-k-test.true c.run_of-run.ensures.1)
+          (here c.args.lent.now.plan.tables.now (λ n. entry_at n) from _ i.0 c.word.ensures)
           (here c.args.marks.now (λ n. weight_at n) from _ i.0 c.word-in-loop-k.ensures)
           c.value_of-value.ensures i.2 c.pass.ensures),
       λ j. omega (arith, c.slice_known-in-loop-k-1.given j),
@@ -53,23 +53,20 @@ loop-k-preserved c =
 pub returns : goal.returns
 returns c =
     let i = c.loop-k.invariant in
-    let all : c.loop-k.k - word_at c.args.t.now.tables.now (end_at (c.args.x - 1)) ≡ length (occurrences (plan_of_tables c.args.t.now.tables.now c.args.t.now.terms.now) c.args.x) = omega (arith, i.0, i.1, c.loop-k-test.false, c.index-to.ensures, run_size c.requires.follow) in
+    let all : c.loop-k.k - word_at c.args.lent.now.plan.tables.now (end_at (c.args.x - 1)) ≡ length (occurrences (plan_of_tables c.args.lent.now.plan.tables.now c.args.lent.now.plan.terms.now) c.args.x) = omega (arith, i.0, i.1, c.loop-k-test.false, c.run_of-run.ensures.1, run_size c.requires.follow) in
     keeping_end c.requires i.2 all i.3
 
-pub index-to-requires : goal.index-to-requires
-index-to-requires c = omega (arith, places_few c.requires.follow, tables_long _ _ c.args.t.now.laid)
-
-pub index-k-requires : goal.index-k-requires
-index-k-requires c = omega (arith, places_few c.requires.follow, tables_long _ _ c.args.t.now.laid)
+pub run_of-run-requires : goal.run_of-run-requires
+run_of-run-requires c = (c.requires.follow.low, omega (arith, places_few c.requires.follow, tables_long _ _ c.args.lent.now.plan.laid))
 
 pub overflow_add-k : goal.overflow_add-k
-overflow_add-k c = omega (arith, c.loop-k-test.true, c.index-to.ensures, run_few c.requires.follow)
+overflow_add-k c = omega (arith, c.loop-k-test.true, c.run_of-run.ensures.1, run_few c.requires.follow)
 
 pub word-requires : goal.word-requires
-word-requires c = omega (arith, c.loop-k-test.true, c.index-to.ensures, run_few c.requires.follow, tables_long _ _ c.args.t.now.laid)
+word-requires c = omega (arith, c.loop-k-test.true, c.run_of-run.ensures.1, run_few c.requires.follow, tables_long _ _ c.args.lent.now.plan.laid)
 
 pub overflow_add-k-in-loop-k : goal.overflow_add-k-in-loop-k
-overflow_add-k-in-loop-k c = omega (arith, c.loop-k-test.true, c.index-to.ensures, run_few c.requires.follow)
+overflow_add-k-in-loop-k c = omega (arith, c.loop-k-test.true, c.run_of-run.ensures.1, run_few c.requires.follow)
 
 pub word-requires-in-loop-k : goal.word-requires-in-loop-k
-word-requires-in-loop-k c = omega (arith, c.loop-k-test.true, c.index-to.ensures, run_few c.requires.follow, c.requires.weighed.room)
+word-requires-in-loop-k c = omega (arith, c.loop-k-test.true, c.run_of-run.ensures.1, run_few c.requires.follow, c.requires.weighed.room)

@@ -9,4 +9,4 @@ use Rattle.keeping.proofs.follow.Given as goal
 
 abbrev pub invariant-loop-k : goal.invariant-loop-k
 invariant-loop-k l =
-    (word_at l.t.tables.now (end_at (l.x - 1)) ≤ l.k) × (l.k ≤ l.to) × Keeping l.t.tables.now l.t.terms.now l.bits l.initial.tallies l.x (l.k - word_at l.t.tables.now (end_at (l.x - 1))) l.tallies × Below 256 l.tallies
+    (word_at l.lent.plan.tables.now (end_at (l.x - 1)) ≤ l.k) × (l.k ≤ l.k-end) × Keeping l.lent.plan.tables.now l.lent.plan.terms.now l.lent.bits.now l.initial.tallies l.x (l.k - word_at l.lent.plan.tables.now (end_at (l.x - 1))) l.tallies × Below 256 l.tallies

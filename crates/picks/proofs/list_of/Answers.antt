@@ -2,7 +2,8 @@
 -- Assumes nothing.
 use native.Mathlib.Omega.{arith}
 use mathlib.Core.Path.{◌∙◌}
-use Rattle.picks.proofs.Noting.{clause_low, list_inside}
+use Rattle.listing.proofs.Ahead.{clause_low}
+use Rattle.picks.proofs.Noting.{list_inside}
 use Rattle.picks.proofs.list_of.Goals as goal
 
 pub overflow_add-start : goal.overflow_add-start

@@ -6,19 +6,16 @@ use Rattle.calls.proofs.flip.flip.Goals as goal
 
 pub returns-in-Err : goal.returns-in-Err
 returns-in-Err c =
-    let e = c.in-Err.ensures in
+    let e = c.in-Err.ensures.number in
     let k = flip_refused _ _ _ e (some_number c.in-Err.refusal) in
     record { refusal_value = c.from.ensures ∙ e; rules_value = k.0; assignment_after = k.1; tallies_after = k.2 }
 
-pub invariant_of-t : goal.invariant_of-t
-invariant_of-t c = record { laid = (flip_tested _ _ (sym c.in_default.ensures)).ready.laid }
-
 pub flip_core-rules-requires : goal.flip_core-rules-requires
-flip_core-rules-requires c = flip_tested _ _ (sym c.in_default.ensures)
+flip_core-rules-requires c = let e = c.in-Ok.ensures in rw (e.handed.0, e.handed.1) (flip_tested _ _ (sym e.number))
 
 pub returns : goal.returns
 returns c =
-    let z = sym c.in_default.ensures in
-    let k = flip_accepted _ _ z in
-    let f = c.flip_core-rules.ensures in
-    record { refusal_value = sym z; rules_value = f.0 ∙ k.0; assignment_after = f.1 ∙ k.1; tallies_after = f.2 ∙ k.2 }
+    let e = c.in-Ok.ensures in
+    let k = flip_accepted _ _ (sym e.number) in
+    let f = rw (e.handed.0, e.handed.1) at c.flip_core-rules.ensures in
+    record { refusal_value = e.number; rules_value = f.0 ∙ k.0; assignment_after = f.1 ∙ k.1; tallies_after = f.2 ∙ k.2 }

@@ -6,16 +6,16 @@ use Rattle.calls.proofs.Opening.{some_number}
 use Rattle.calls.proofs.Accepting.{open_refused, open_accepted}
 use Rattle.calls.proofs.open.open.Goals as goal
 
-pub invariant_of-t : goal.invariant_of-t
-invariant_of-t c = record { laid = (opens_ready _ (opens _ (sym c.in_default.ensures))).laid }
-
 pub open_core-requires : goal.open_core-requires
 open_core-requires c =
-    let o = opens _ (sym c.in_default.ensures) in
-    ((opens_ready _ o).bytes, tallies_room _ o)
+    let e = c.in-Ok.ensures in
+    let o = opens _ (sym e.number) in
+    rw (e.handed.0, e.handed.1) ((opens_ready _ o).bytes, tallies_room _ o)
 
 pub returns-in-Err-clause-tallies_after : goal.returns-in-Err-clause-tallies_after
-returns-in-Err-clause-tallies_after c = open_refused _ _ c.in-Err.ensures (some_number c.in-Err.refusal)
+returns-in-Err-clause-tallies_after c = open_refused _ _ c.in-Err.ensures.number (some_number c.in-Err.refusal)
 
 pub returns-clause-tallies_after : goal.returns-clause-tallies_after
-returns-clause-tallies_after c = c.open_core.ensures ∙ open_accepted _ (sym c.in_default.ensures)
+returns-clause-tallies_after c =
+    let e = c.in-Ok.ensures in
+    (rw (e.handed.0, e.handed.1) at c.open_core.ensures) ∙ open_accepted _ (sym e.number)

@@ -10,14 +10,15 @@ use Rattle.plpb.specs.Lists.{◌and◌}
 use Rattle.plpb.specs.Plan.{is_locked}
 use Rattle.words.specs.Words.{word_at}
 use Rattle.order.specs.Order.{word_place}
-use Rattle.format.specs.Layout.{clause_first_at, end_at, entry_at, rule_first_at}
+use Rattle.format.specs.Layout.{end_at, entry_at}
 use Rattle.recount.specs.Plans.{plan}
 use Rattle.recount.proofs.Laid.{tables_long}
 use Rattle.columns.specs.Layout.{list_at, list_count_at}
+use Rattle.columns.specs.Columns.{terms_ahead}
 use Rattle.columns.proofs.Frames.{only_none}
 use Rattle.listing.specs.Listing.{Listing}
 use Rattle.listing.specs.declared.Variable.{Variable}
-use Rattle.listing.proofs.Listing.{variables_few, entry_few, clause_few, rule_few, list_room, list_same, place_few, list_only, list_more}
+use Rattle.listing.proofs.Listing.{variables_few, entry_few, below, clause_few, list_room, list_same, place_few, list_only, list_more}
 use Rattle.listing.proofs.Variable.list_entry.Goals as goal
 
 -- Entry k is one of the variable's run, and the lists have come so far.
@@ -30,25 +31,25 @@ module _ (v : Variable) {k w d : ℕ} {s : List ℕ} (y : Entry v k s) (e : w �
   few : d < 513
   few = clause_few v.plan.laid v.low v.high y.1 y.2 e f
 
-  module _ {r at n : ℕ} (g : r ≡ word_at v.plan.tables.now (clause_first_at d)) (o : at ≡ word_at v.plan.tables.now (rule_first_at r)) (u : n ≡ word_at s (list_count_at d)) where
+  module _ {at n : ℕ} (o : at ≡ terms_ahead (plan v.plan) d) (u : n ≡ word_at s (list_count_at d)) where
     room : at + n ≤ 6_512
-    room = list_room v.plan.laid v.low v.high y.1 y.2 e f g o y.0 y.3 u
+    room = list_room v.plan.laid v.low v.high y.1 y.2 e f o y.0 y.3 u
 
     space : {b : Bool} → b ≡ (ltb 0 n and eqb (word_at s (list_at (at + n - 1))) v.x) → b ≡ false → at + n < 6_512
-    space h t = place_few v.plan.laid v.low v.high y.1 y.2 e f g o y.0 y.3 u h t
+    space h t = place_few v.plan.laid v.low v.high y.1 y.2 e f o y.0 y.3 u h t
 
 pub returns-then-ends_with : goal.returns-then-ends_with
 returns-then-ends_with c =
     let v = c.args.self.now in
     let y = c.requires in
-    (list_same v.plan.laid v.low v.high y.1 y.2 c.word.ensures c.clause_in-c.ensures c.index.ensures c.index-at.ensures y.0 y.3 c.index-n.ensures c.ends_with.ensures c.if-ends_with.true, only_none _ _ _)
+    (list_same v.plan.laid v.low v.high y.1 y.2 c.word.ensures c.clause_in-c.ensures c.terms_ahead-at.ensures y.0 y.3 c.index-n.ensures c.ends_with.ensures c.if-ends_with.true, only_none _ _ _)
 
 pub returns : goal.returns
 returns c =
     let v = c.args.self.now in
     let y = c.requires in (
-      list_more v.plan.laid v.low v.high y.1 y.2 c.word.ensures c.clause_in-c.ensures c.index.ensures c.index-at.ensures y.0 y.3 c.index-n.ensures c.ends_with.ensures c.if-ends_with.false c.narrow.ensures c.write_word.ensures c.narrow-2.ensures c.write_word-2.ensures,
-      list_only v.plan.laid v.low v.high y.1 y.2 c.word.ensures c.clause_in-c.ensures c.index.ensures c.index-at.ensures y.0 y.3 c.index-n.ensures c.ends_with.ensures c.if-ends_with.false c.narrow.ensures c.write_word.ensures c.narrow-2.ensures c.write_word-2.ensures,
+      list_more v.plan.laid v.low v.high y.1 y.2 c.word.ensures c.clause_in-c.ensures c.terms_ahead-at.ensures y.0 y.3 c.index-n.ensures c.ends_with.ensures c.if-ends_with.false c.narrow.ensures c.write_word.ensures c.narrow-2.ensures c.write_word-2.ensures,
+      list_only v.plan.laid v.low v.high y.1 y.2 c.word.ensures c.clause_in-c.ensures c.terms_ahead-at.ensures y.0 y.3 c.index-n.ensures c.ends_with.ensures c.if-ends_with.false c.narrow.ensures c.write_word.ensures c.narrow-2.ensures c.write_word-2.ensures,
     )
 
 pub overflow_add-k : goal.overflow_add-k
@@ -57,60 +58,43 @@ overflow_add-k c = let v = c.args.self.now in omega (arith, entry_few v.plan.lai
 pub word-requires : goal.word-requires
 word-requires c = let v = c.args.self.now in omega (arith, entry_few v.plan.laid v.low v.high c.requires.1 c.requires.2, tables_long _ _ v.plan.laid)
 
-pub overflow_mul-c : goal.overflow_mul-c
-overflow_mul-c c = omega (arith, few c.args.self.now c.requires c.word.ensures c.clause_in-c.ensures)
+pub terms_ahead-at-requires : goal.terms_ahead-at-requires
+terms_ahead-at-requires c = let v = c.args.self.now in below v.plan.laid v.low v.high c.requires.1 c.requires.2 c.word.ensures c.clause_in-c.ensures
 
 pub overflow_add-c : goal.overflow_add-c
 overflow_add-c c = omega (arith, few c.args.self.now c.requires c.word.ensures c.clause_in-c.ensures)
-
-pub index-requires : goal.index-requires
-index-requires c = omega (arith, few c.args.self.now c.requires c.word.ensures c.clause_in-c.ensures, tables_long _ _ c.args.self.now.plan.laid)
-
-pub overflow_mul-index : goal.overflow_mul-index
-overflow_mul-index c = let v = c.args.self.now in omega (arith, rule_few v.plan.laid v.low v.high c.requires.1 c.requires.2 c.word.ensures c.clause_in-c.ensures c.index.ensures)
-
-pub overflow_add-index : goal.overflow_add-index
-overflow_add-index c = let v = c.args.self.now in omega (arith, rule_few v.plan.laid v.low v.high c.requires.1 c.requires.2 c.word.ensures c.clause_in-c.ensures c.index.ensures)
-
-pub index-at-requires : goal.index-at-requires
-index-at-requires c =
-    let v = c.args.self.now in
-    omega (arith, rule_few v.plan.laid v.low v.high c.requires.1 c.requires.2 c.word.ensures c.clause_in-c.ensures c.index.ensures, tables_long _ _ v.plan.laid)
-
-pub overflow_add-c-2 : goal.overflow_add-c-2
-overflow_add-c-2 c = omega (arith, few c.args.self.now c.requires c.word.ensures c.clause_in-c.ensures)
 
 pub index-n-requires : goal.index-n-requires
 index-n-requires c = omega (arith, few c.args.self.now c.requires c.word.ensures c.clause_in-c.ensures, c.requires.3.room)
 
 pub ends_with-requires : goal.ends_with-requires
-ends_with-requires c = (room c.args.self.now c.requires c.word.ensures c.clause_in-c.ensures c.index.ensures c.index-at.ensures c.index-n.ensures, c.requires.3.room)
+ends_with-requires c = (room c.args.self.now c.requires c.word.ensures c.clause_in-c.ensures c.terms_ahead-at.ensures c.index-n.ensures, c.requires.3.room)
 
 pub overflow_add-at : goal.overflow_add-at
 overflow_add-at c =
-    omega (arith, space c.args.self.now c.requires c.word.ensures c.clause_in-c.ensures c.index.ensures c.index-at.ensures c.index-n.ensures c.ends_with.ensures c.if-ends_with.false)
+    omega (arith, space c.args.self.now c.requires c.word.ensures c.clause_in-c.ensures c.terms_ahead-at.ensures c.index-n.ensures c.ends_with.ensures c.if-ends_with.false)
 
 pub overflow_add-at-2 : goal.overflow_add-at-2
 overflow_add-at-2 c =
-    omega (arith, space c.args.self.now c.requires c.word.ensures c.clause_in-c.ensures c.index.ensures c.index-at.ensures c.index-n.ensures c.ends_with.ensures c.if-ends_with.false)
+    omega (arith, space c.args.self.now c.requires c.word.ensures c.clause_in-c.ensures c.terms_ahead-at.ensures c.index-n.ensures c.ends_with.ensures c.if-ends_with.false)
 
 pub narrow-requires : goal.narrow-requires
 narrow-requires c = omega (arith, c.args.self.now.high, variables_few c.args.self.now.plan.laid)
 
 pub write_word-requires : goal.write_word-requires
 write_word-requires c =
-    omega (arith, space c.args.self.now c.requires c.word.ensures c.clause_in-c.ensures c.index.ensures c.index-at.ensures c.index-n.ensures c.ends_with.ensures c.if-ends_with.false, c.requires.3.room)
+    omega (arith, space c.args.self.now c.requires c.word.ensures c.clause_in-c.ensures c.terms_ahead-at.ensures c.index-n.ensures c.ends_with.ensures c.if-ends_with.false, c.requires.3.room)
 
-pub overflow_add-c-3 : goal.overflow_add-c-3
-overflow_add-c-3 c = omega (arith, few c.args.self.now c.requires c.word.ensures c.clause_in-c.ensures)
+pub overflow_add-c-2 : goal.overflow_add-c-2
+overflow_add-c-2 c = omega (arith, few c.args.self.now c.requires c.word.ensures c.clause_in-c.ensures)
 
 pub overflow_add-n : goal.overflow_add-n
 overflow_add-n c =
-    omega (arith, space c.args.self.now c.requires c.word.ensures c.clause_in-c.ensures c.index.ensures c.index-at.ensures c.index-n.ensures c.ends_with.ensures c.if-ends_with.false)
+    omega (arith, space c.args.self.now c.requires c.word.ensures c.clause_in-c.ensures c.terms_ahead-at.ensures c.index-n.ensures c.ends_with.ensures c.if-ends_with.false)
 
 pub narrow-requires-2 : goal.narrow-requires-2
 narrow-requires-2 c =
-    omega (arith, space c.args.self.now c.requires c.word.ensures c.clause_in-c.ensures c.index.ensures c.index-at.ensures c.index-n.ensures c.ends_with.ensures c.if-ends_with.false)
+    omega (arith, space c.args.self.now c.requires c.word.ensures c.clause_in-c.ensures c.terms_ahead-at.ensures c.index-n.ensures c.ends_with.ensures c.if-ends_with.false)
 
 pub write_word-requires-2 : goal.write_word-requires-2
 write_word-requires-2 c = omega (arith, few c.args.self.now c.requires c.word.ensures c.clause_in-c.ensures, c.marks-1.given, c.requires.3.room)

@@ -12,23 +12,16 @@ use Rattle.listing.proofs.Variable.list_run.Goals as goal
 pub loop-k-init : goal.loop-k-init
 loop-k-init c =
     let v = c.args.self.now in
-    let z : 0 ≡ c.index-k.result - word_at c.args.self.now.plan.tables.now (end_at (c.args.self.now.x - 1)) = omega (arith, c.index-k.ensures) in
-    (omega (arith, c.index-k.ensures), omega (arith, c.index-k.ensures, c.index-end.ensures, run_begins v.plan.laid v.low v.high), list_at_end z c.requires.1, only_none _ _ _)
+    let z : 0 ≡ c.run_of-run.result.start - word_at c.args.self.now.plan.tables.now (end_at (c.args.self.now.x - 1)) = omega (arith, c.run_of-run.ensures.0) in
+    (omega (arith, c.run_of-run.ensures.0), omega (arith, c.run_of-run.ensures.0, c.run_of-run.ensures.1, run_begins v.plan.laid v.low v.high), list_at_end z c.requires.1, only_none _ _ _)
 
 pub returns : goal.returns
 returns c =
     let v = c.args.self.now in
     let i = c.loop-k.invariant in
-    (run_listed v.plan.laid v.low v.high c.requires.0 c.index-k.ensures c.index-end.ensures i.1 c.loop-k-test.false i.2, i.3)
+    (run_listed v.plan.laid v.low v.high c.requires.0 c.run_of-run.ensures.0 c.run_of-run.ensures.1 i.1 c.loop-k-test.false i.2, i.3)
 
-pub overflow_add-self : goal.overflow_add-self
-overflow_add-self c = omega (arith, c.args.self.now.high, variables_few c.args.self.now.plan.laid)
-
-pub index-end-requires : goal.index-end-requires
-index-end-requires c = omega (arith, c.args.self.now.high, variables_few c.args.self.now.plan.laid, tables_long _ _ c.args.self.now.plan.laid)
-
-pub overflow_add-self-2 : goal.overflow_add-self-2
-overflow_add-self-2 c = omega (arith, c.args.self.now.high, variables_few c.args.self.now.plan.laid)
-
-pub index-k-requires : goal.index-k-requires
-index-k-requires c = omega (arith, c.args.self.now.high, variables_few c.args.self.now.plan.laid, tables_long _ _ c.args.self.now.plan.laid)
+pub run_of-run-requires : goal.run_of-run-requires
+run_of-run-requires c =
+    let v = c.args.self.now in
+    (v.low, omega (arith, v.high, variables_few v.plan.laid, tables_long _ _ v.plan.laid))

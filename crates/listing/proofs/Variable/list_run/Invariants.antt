@@ -11,5 +11,5 @@ use Rattle.listing.proofs.Variable.list_run.Given as goal
 
 abbrev pub invariant-loop-k : goal.invariant-loop-k
 invariant-loop-k l =
-    (word_at l.self.plan.tables.now (end_at (l.self.x - 1)) ≤ l.k) × (l.k ≤ l.end) × Listing (plan l.self.plan) l.self.x (l.k - word_at l.self.plan.tables.now (end_at (l.self.x - 1))) l.marks
+    (word_at l.self.plan.tables.now (end_at (l.self.x - 1)) ≤ l.k) × (l.k ≤ l.k-end) × Listing (plan l.self.plan) l.self.x (l.k - word_at l.self.plan.tables.now (end_at (l.self.x - 1))) l.marks
     × Only (list_count_at 0) column_word_count l.initial.marks l.marks

@@ -10,38 +10,48 @@ use Rattle.calls.proofs.Accepting.{loaded_tables, call_first, call_25, call_zero
 use Rattle.calls.proofs.tests.Lent.call_refusal.Goals.{then-x-eq0-via-then-x-eq0, then-x-eq0-via-else-x-eq0+then-word-x}
 use Rattle.calls.proofs.tests.Lent.call_refusal.Goals as goal
 
-pub returns-in_err-open_refusal : goal.returns-in_err-open_refusal
-returns-in_err-open_refusal c =
-    let q = c.in_err-open_refusal.field-0.0 in
-    passed_on _ q c.from_residual.ensures.1 (call_first _ _ _ c.in_err-open_refusal.ensures (some_number q))
-
-pub invariant_of-t : goal.invariant_of-t
-invariant_of-t c = record { laid = (opens_ready _ (opens _ (sym c.in_ok-open_refusal.ensures))).laid }
+pub returns-in_err-t : goal.returns-in_err-t
+returns-in_err-t c =
+    let q = c.in_err-t.field-0.0 in
+    passed_on _ q c.from_residual.ensures.1 (call_first _ _ _ c.in_err-t.ensures.number (some_number q))
 
 pub fresh-requires : goal.fresh-requires
-fresh-requires c = let o = opens _ (sym c.in_ok-open_refusal.ensures) in ((opens_ready _ o).bytes, tallies_room _ o)
+fresh-requires c =
+    let e = c.in_ok-t.ensures in
+    let o = opens _ (sym e.number) in
+    rw (e.handed.0, e.handed.1) ((opens_ready _ o).bytes, tallies_room _ o)
 
 pub returns-then-not-fresh : goal.returns-then-not-fresh
 unfolding fresh_bytes plan
 returns-then-not-fresh c =
-    call_25 _ _ (sym c.in_ok-open_refusal.ensures) (sym c.fresh.ensures ∙ not-true _ c.if-not-fresh.true-raw)
+    let e = c.in_ok-t.ensures in
+    let f = rw (e.handed.0, e.handed.1) at c.fresh.ensures in
+    record { number = call_25 _ _ (sym e.number) (sym f ∙ not-true _ c.if-not-fresh.true-raw); handed = tt }
 
 pub returns-then-x-eq0 : goal.returns-then-x-eq0
 unfolding fresh_bytes plan
 returns-then-x-eq0 c =
-    let opened = sym c.in_ok-open_refusal.ensures in
-    let same = sym c.fresh.ensures ∙ not-false _ c.if-not-fresh.false-raw in
-    elim c.then-x-eq0.branch [
-      | then-x-eq0-via-then-x-eq0 w ↦ call_zero _ _ opened same w.if-x-eq0.true
-      | then-x-eq0-via-else-x-eq0+then-word-x w ↦ call_high _ _ opened same w.if-x-eq0.false (omega (arith, w.word.ensures, w.if-word-x.true))
-    ]
+    let e = c.in_ok-t.ensures in
+    let f = rw (e.handed.0, e.handed.1) at c.fresh.ensures in
+    let same = sym f ∙ not-false _ c.if-not-fresh.false-raw in
+    record {
+      number = elim c.then-x-eq0.branch [
+        | then-x-eq0-via-then-x-eq0 w ↦ call_zero _ _ (sym e.number) same w.if-x-eq0.true
+        | then-x-eq0-via-else-x-eq0+then-word-x w ↦ call_high _ _ (sym e.number) same w.if-x-eq0.false (omega (arith, w.word.ensures, w.if-word-x.true))
+      ];
+      handed = tt;
+    }
 
 pub word-requires : goal.word-requires
 word-requires c =
-    omega (arith, loaded_tables _ (opens _ (sym c.in_ok-open_refusal.ensures)))
+    omega (arith, loaded_tables _ (opens _ (sym c.in_ok-t.ensures.number)))
 
 pub returns : goal.returns
 unfolding fresh_bytes plan
 returns c =
-    call_none _ _ (sym c.in_ok-open_refusal.ensures) (sym c.fresh.ensures ∙ not-false _ c.if-not-fresh.false-raw)
-    c.if-x-eq0.false (omega (arith, c.word.ensures))
+    let e = c.in_ok-t.ensures in
+    let f = rw (e.handed.0, e.handed.1) at c.fresh.ensures in
+    record {
+      number = call_none _ _ (sym e.number) (sym f ∙ not-false _ c.if-not-fresh.false-raw) c.if-x-eq0.false (omega (arith, c.word.ensures));
+      handed = e.handed;
+    }

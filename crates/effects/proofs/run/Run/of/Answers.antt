@@ -6,13 +6,10 @@ use Rattle.effects.proofs.Runs.{going_tables, going_few, run_first, run_last}
 use Rattle.effects.proofs.Visits.{going_on}
 use Rattle.effects.proofs.run.Run.of.Goals as goal
 
-pub index-requires : goal.index-requires
-index-requires c = let g = going_on c.args.footing.now c.requires in omega (arith, going_few g, going_tables g)
-
-pub index-requires-2 : goal.index-requires-2
-index-requires-2 c = let g = going_on c.args.footing.now c.requires in omega (arith, going_few g, going_tables g)
+pub run_of-at-requires : goal.run_of-at-requires
+run_of-at-requires c = let g = going_on c.args.footing.now c.requires in (c.requires.low, omega (arith, going_few g, going_tables g))
 
 pub invariant_of-result : goal.invariant_of-result
 invariant_of-result c =
     let g = going_on c.args.footing.now c.requires in
-    record { going = g; begins = c.index.ensures ∙ run_first g; ends = c.index-2.ensures ∙ run_last g }
+    record { going = g; begins = c.run_of-at.ensures.0 ∙ run_first g; ends = c.run_of-at.ensures.1 ∙ run_last g }

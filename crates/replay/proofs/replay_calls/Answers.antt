@@ -1,4 +1,4 @@
--- `replay::replay` meets its contract: it is refused before a byte is changed, or the book tells what the calls after opening leave.
+-- `replay_calls` meets its contract: it is refused before a byte is changed, or the book tells what the calls after opening leave.
 -- Assumes nothing.
 use native.Mathlib.Omega.{arith}
 use mathlib.Core.Path.{sym, ap, ◌∙◌}
@@ -8,7 +8,7 @@ use Rattle.tallies.specs.Demand.{answers, after}
 use Rattle.calls.proofs.Accepting.{open_refused}
 use Rattle.replay.specs.Replay.{calls_of, answer_bytes}
 use Rattle.replay.proofs.Told.{no_room, with_room, refused_keeps, opened_by, told_answers, told_assignment, told_tallies}
-use Rattle.replay.proofs.replay.Goals as goal
+use Rattle.replay.proofs.replay_calls.Goals as goal
 
 pub returns-then-out-list : goal.returns-then-out-list
 returns-then-out-list c =

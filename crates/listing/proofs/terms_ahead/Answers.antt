@@ -2,8 +2,8 @@
 -- Assumes nothing.
 use native.Mathlib.Omega.{arith}
 use Rattle.recount.proofs.Laid.{tables_long}
-use Rattle.picks.proofs.Noting.{clause_low, first_word, ahead_word}
-use Rattle.picks.proofs.terms_ahead.Goals as goal
+use Rattle.listing.proofs.Ahead.{clause_low, first_word, ahead_word}
+use Rattle.listing.proofs.terms_ahead.Goals as goal
 
 pub overflow_mul-c : goal.overflow_mul-c
 overflow_mul-c c = omega (arith, clause_low c.args.t.now.laid c.requires)
