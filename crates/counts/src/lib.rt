@@ -45,7 +45,7 @@ fn idle_at(run: &Run<'_, '_>, k: usize) -> bool
     true
 }
 
-// What the group at place k counts, as `spoiling::count_at` does, but of both counts.
+// What the group at place k adds to both counts; `spoiling::count_at` does the same for the break count alone.
 fn turn_at(run: &Run<'_, '_>, k: usize) -> Step<Counts>
     requires { Starts run.now k }
     ensures { TurnAt run.now k result }

@@ -17,7 +17,8 @@ use effects::{Footing, Run};
 use groups::Group;
 use words::{index, narrow, write_word};
 
-// Where the group that begins at place k ends, unless its clause breaks. A clause of one rule has one place, and one compare tells of it.
+// Where the group that begins at place k ends, unless its clause breaks. A clause of one rule has one place, and one compare tells of it. Why it shares no
+// function with `spoiling::count_at` stands there.
 fn passed(run: &Run<'_, '_>, k: usize) -> Option<usize>
     requires { Begins run.now k }
     ensures { result

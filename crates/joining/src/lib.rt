@@ -6,13 +6,15 @@
 ghost use Rattle.std.specs.Prelude.{◌≡◌, cond, ◌+◌};
 ghost use Rattle.plpb.specs.Plan.{named_in};
 ghost use Rattle.plpb.specs.Equations.{shares_of};
-ghost use Rattle.counting.specs.Shares.{shares_in, capped_shares, start_shares, joined_along};
+ghost use Rattle.counting.specs.Count.{number};
+ghost use Rattle.counting.specs.Shares.{shares_in, capped_shares, start_shares, joined_shares, joined_along};
 ghost use Rattle.order.specs.Order.{rule_at};
-ghost use Rattle.rules.specs.State.{StateOf};
+ghost use Rattle.rules.specs.State.{Balanced, StateOf, shares_from};
 ghost use Rattle.groups.specs.Group.{plan, bits, clause};
-ghost use Rattle.joining.specs.Merging.{Merging, Placed};
+ghost use Rattle.joining.specs.Merging.{Merging, Placed, untouched};
 
-use counting::shares::Shares;
+use counting::count::Count;
+use counting::shares::{Shares, literal_absent};
 use effects::told;
 use format::ORDER;
 use groups::Group;
@@ -57,6 +59,29 @@ fn state_in(group: &Group<'_>, r: usize, i: usize) -> State
     told(run.footing.tallies, r, Stands::Out)
 }
 
+// The shares of some rules joined with those of one that does not name the variable: no part of it is spoiled or mended, and g of them stay unsatisfied.
+fn narrowed(shares: Shares, g: Count) -> Shares
+    ensures { shares_in result ≡ capped_shares (joined_shares (shares_in shares) (untouched (number g))) }
+{
+    Shares {
+        e: shares.e * g,
+        f: shares.f * g,
+        g: shares.g * g,
+    }
+}
+
+// The same with a rule in this state. Most rules of a long clause do not name the variable, and then three products do for the five products and four sums of
+// `Shares::joined`.
+fn with_rule(shares: Shares, s: State) -> Shares
+    requires { Balanced s }
+    ensures { shares_in result ≡ capped_shares (joined_shares (shares_in shares) (capped_shares (shares_from s))) }
+{
+    match s.stands {
+        Stands::Out => narrowed(shares, literal_absent(s.n as u64, s.p as u64, s.a, s.b).g),
+        Stands::On(_) | Stands::Off(_) => shares.joined(s.shares()),
+    }
+}
+
 // The shares of the clause whose group this is.
 pub fn shares_along(group: &Group<'_>) -> Shares
     requires { Placed group.now }
@@ -67,7 +92,7 @@ pub fn shares_along(group: &Group<'_>) -> Shares
     let mut i = group.first;
     for r in rules_of(run.footing.tables, group.clause) {
         let s = state_in(group, r, i);
-        shares = shares.joined(s.shares());
+        shares = with_rule(shares, s);
         i = past(group, r, i);
     }
     shares

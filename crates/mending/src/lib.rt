@@ -31,7 +31,7 @@ pub fn mended(s: State) -> Count
     spoiled(s.flipped())
 }
 
-// Whether m + w choose as many as the bound's size, and m fewer ways. The three stay apart, as equation (11) and `counting::bound` have them.
+// Whether there are more ways to choose as many as the bound's size of m + w than of m. The three stay apart, as equation (11) and `counting::bound` have them.
 fn reached(m: u64, w: u64, bound: Option<u64>) -> bool
     requires { m + w < 4294967296 }
     ensures { result ≡ reaches m w (bound_of bound) }
@@ -39,8 +39,8 @@ fn reached(m: u64, w: u64, bound: Option<u64>) -> bool
     bound.is_some_and(|k| 0 < k && 0 < w && k <= m + w)
 }
 
-// Whether f is above 0, told without a binomial. This matches as `spoiling::spoiled` does, to ask something else of a side: a function of the side alone would
-// hand out its three numbers in an `Option`, which each of them would match again.
+// Whether f is above 0, told without a binomial. This matches as `spoiling::spoiled` does on the flipped state, whose numbers it forms itself. Why the two
+// share no function of the side stands at `spoiling::surely_past`.
 fn mends(s: State) -> bool
     requires { Balanced s }
     ensures { result ≡ ltb 0 (shares_from s).f }

@@ -7,8 +7,8 @@ use mathlib.Core.List.{List, [], ◌∷◌}
 use mathlib.Core.Path.{◌≡◌, refl, sym, ap, ap₂, ◌∙◌}
 use lib.Dec.{T, ltb}
 use lib.ListN.{length}
-use borrow.Author.Tests.{lt-ltb, ltb-true}
-use Rattle.plpb.specs.Lists.{◌and◌, all, row}
+use borrow.Author.Tests.{lt-ltb}
+use Rattle.plpb.specs.Lists.{all, row}
 use Rattle.plpb.specs.Plan.{Clause, Plan, Assignment, is_variable}
 use Rattle.plpb.specs.Numbers.{take_pick, taken, too_few}
 use Rattle.plpb.specs.Walk.{Walk, done, pick, at, ends, run}
@@ -18,7 +18,8 @@ use Rattle.plpb.specs.Choice.{choosable, pick_from, ranked_choice, novelty_choic
 use Rattle.plpb.proofs.Lists.{and_left, and_right, and_both, all_still, T_true, is_true}
 use Rattle.plpb.proofs.Locks.{all_in_row, variable_range}
 use Rattle.plpb.proofs.Novelty.{length_ranked, all_ranked}
-use Rattle.std.specs.Prelude.{Result, Ok, Err}
+use Rattle.std.specs.Prelude.{Option, Some, None, IsSomeAnd, is_some, Result, Ok, Err}
+use Rattle.std.proofs.lemmas.Option.{none-some}
 use Rattle.numbers.specs.declared.Drawn.{Drawn}
 use Rattle.numbers.specs.declared.Short.{Short}
 use Rattle.numbers.specs.Numbers.{numbers_of}
@@ -27,8 +28,9 @@ use Rattle.numbers.proofs.Taking.{length_numbers_of, picked_at, picked_short, pi
 use Rattle.numbers.proofs.Runs.{bind_ends, bind_short, run_pick_taken, run_pick_short, run_true, run_false}
 use Rattle.picking.specs.Outcome.{Chosen, outcome_of, used_by, Among, Chooses}
 use Rattle.picking.proofs.Picking.{later}
+use Rattle.ranking.specs.declared.Standing.{Standing}
 use Rattle.ranking.specs.declared.Top.{Top}
-use Rattle.ranking.specs.Ranking.{Tops, Ranks}
+use Rattle.ranking.specs.Ranking.{Stands, Tops, Ranks}
 use Rattle.novelty.specs.Noise.{asks_noise}
 
 -- ---- the walk chance
@@ -78,6 +80,11 @@ second_within : (p : Plan) (x y : ℕ) (ys : List ℕ) → T (all (is_variable p
 unfolding all
 second_within p x y ys v = first_within p y ys (and_right _ _ v)
 
+-- What is known to be of some kind is there.
+kept_some : {A : Type 0} (P : A → Type 0) (o : Option A) → IsSomeAnd o P → is_some o ≡ true
+kept_some P None k = absurd k
+kept_some P (Some x) k = refl
+
 -- Where a variable is chosen without a number.
 chosen_now : {x n : ℕ} (w : Walk ℕ) (numbers : List ℕ) (used : ℕ) → ((f : ℕ) (fs : List Assignment) → run w (numbers_of numbers) (at used f fs) ≡ ends x (at used f fs))
     → (1 ≤ x) × (x ≤ n) → used ≤ length numbers / 4 → Chooses w (numbers_of numbers) used n (Ok (record { value = x; used = used }))
@@ -88,75 +95,106 @@ either_within : (n : ℕ) (b : Bool) {x y : ℕ} → (1 ≤ x) × (x ≤ n) → 
 either_within n true h k = h
 either_within n false h k = k
 
--- Where a second number is asked for there is a second variable.
-two_asked : (t : Top) → asks_noise t ≡ true → 1 < t.count
-unfolding asks_noise
-two_asked t e = ltb-true 1 t.count (is_true _ (and_left _ _ (T_true e)))
+module _ (s : Settings) (p : Plan) (a : Assignment) (last : ℕ → ℕ) (xs : List ℕ) (t : Top) (newest : t.latest ≡ latest last xs) (numbers : List ℕ) (used : ℕ) {f : Standing} (there : t.first ≡ Some f) where
+  -- The first of those that are ranked is the one that is kept.
+  first_is : (x : ℕ) (ys : List ℕ) → Tops p a last (x ∷ ys) t → Stands p a last x f
+  unfolding Tops
+  first_is x [] k = rw there at k.0
+  first_is x (y ∷ ys) k = rw there at k.0
 
-module _ (s : Settings) (p : Plan) (a : Assignment) (last : ℕ → ℕ) (xs : List ℕ) (t : Top) (newest : t.latest ≡ latest last xs) (numbers : List ℕ) (used : ℕ) where
-  -- .. and it is asked for exactly where the first is the one most recently flipped.
-  asks_is : (x y : ℕ) (ys : List ℕ) → Tops p a last (x ∷ y ∷ ys) t → asks_noise t ≡ is_newest last xs x
-  unfolding asks_noise is_newest Tops ◌and◌
-  asks_is x y ys k = rw (k.0, newest, k.1.last_flip)
+  -- A second number is asked for exactly where the first is the one most recently flipped.
+  asks_is : (x y : ℕ) (ys : List ℕ) → Tops p a last (x ∷ y ∷ ys) t → asks_noise f t.latest ≡ is_newest last xs x
+  unfolding asks_noise is_newest
+  asks_is x y ys k = let w = first_is x (y ∷ ys) k in rw (newest, w.last_flip) refl
 
-  first_now : (ys : List ℕ) → Tops p a last ys t → 0 < length ys → T (all (is_variable p) ys) → used ≤ length numbers / 4 → asks_noise t ≡ false
-      → Chooses (ranked_choice s last xs ys) (numbers_of numbers) used p.variables (Ok (record { value = t.first.variable; used = used }))
+  alone_now : (ys : List ℕ) → Tops p a last ys t → T (all (is_variable p) ys) → used ≤ length numbers / 4 → t.second ≡ None
+      → Chooses (ranked_choice s last xs ys) (numbers_of numbers) used p.variables (Ok (record { value = f.variable; used = used }))
   unfolding Tops ranked_choice run
-  first_now [] k h v l e = absurd (omega arith)
-  first_now (x ∷ []) k h v l e =
-      rw k.1.variable (chosen_now (done x) numbers used (λ f fs. refl) (first_within p x [] v) l)
-  first_now (x ∷ y ∷ ys) k h v l e =
-      rw k.1.variable
+  alone_now [] k v l e = absurd (none-some f (sym k.0 ∙ there))
+  alone_now (x ∷ []) k v l e =
+      let w = first_is x [] k in
+      rw w.variable (chosen_now (done x) numbers used (λ f fs. refl) (first_within p x [] v) l)
+  alone_now (x ∷ y ∷ ys) k v l e = absurd (rw e at k.1)
+
+  first_now : (ys : List ℕ) → Tops p a last ys t → T (all (is_variable p) ys) → used ≤ length numbers / 4 → asks_noise f t.latest ≡ false
+      → Chooses (ranked_choice s last xs ys) (numbers_of numbers) used p.variables (Ok (record { value = f.variable; used = used }))
+  unfolding Tops ranked_choice run
+  first_now [] k v l e = absurd (none-some f (sym k.0 ∙ there))
+  first_now (x ∷ []) k v l e = alone_now (x ∷ []) k v l k.1
+  first_now (x ∷ y ∷ ys) k v l e =
+      let w = first_is x (y ∷ ys) k in
+      rw w.variable
       (chosen_now _ numbers used (λ f fs. run_false _ (done x) (numbers_of numbers) (at used f fs) (sym (asks_is x y ys k) ∙ e)) (first_within p x (y ∷ ys) v) l)
 
-  drawn_two : (ys : List ℕ) → Tops p a last ys t → T (all (is_variable p) ys) → asks_noise t ≡ true
-      → {i after : ℕ} → take_pick 1_000 (numbers_of numbers) used ≡ taken i after
-      → {z : ℕ} → z ≡ cond (ltb i s.noise) t.second.variable t.first.variable
-      → Chooses (ranked_choice s last xs ys) (numbers_of numbers) used p.variables (Ok (record { value = z; used = after }))
-  unfolding Tops ranked_choice run outcome_of used_by Among
-  drawn_two [] k v e d z = absurd (omega (arith, k, two_asked t e))
-  drawn_two (x ∷ []) k v e d z = absurd (omega (arith, k.0, two_asked t e))
-  drawn_two (x ∷ y ∷ ys) k v e {i} {after} d {z} f =
-      let u = pick_uses 1_000 (numbers_of numbers) used d in
-      let told : z ≡ cond (ltb i s.noise) y x = f ∙ ap₂ (cond (ltb i s.noise)) k.2.variable k.1.variable in
-      record {
-        outcome = λ g gs. run_true _ (done x) (numbers_of numbers) (at used g gs) (sym (asks_is x y ys k) ∙ e)
-            ∙ run_pick_taken 1_000 (λ r. done (cond (ltb r s.noise) y x)) (numbers_of numbers) (at used g gs) d
-            ∙ ap (λ w. ends w (at after g gs)) (sym told);
-        among = rw told (either_within p.variables (ltb i s.noise) (second_within p x y ys v) (first_within p x (y ∷ ys) v));
-        uses = omega (arith, u.0);
-        within = u.1;
-      }
+  module _ {g : Standing} (more : t.second ≡ Some g) (e : asks_noise f t.latest ≡ true) where
+    drawn_two : (ys : List ℕ) → Tops p a last ys t → T (all (is_variable p) ys)
+        → {i after : ℕ} → take_pick 1_000 (numbers_of numbers) used ≡ taken i after
+        → {z : ℕ} → z ≡ cond (ltb i s.noise) g.variable f.variable
+        → Chooses (ranked_choice s last xs ys) (numbers_of numbers) used p.variables (Ok (record { value = z; used = after }))
+    unfolding Tops ranked_choice run outcome_of used_by Among
+    drawn_two [] k v d z = absurd (none-some g (sym k.1 ∙ more))
+    drawn_two (x ∷ []) k v d z = absurd (none-some g (sym k.1 ∙ more))
+    drawn_two (x ∷ y ∷ ys) k v {i} {after} d {z} e_z =
+        let u = pick_uses 1_000 (numbers_of numbers) used d in
+        let w = first_is x (y ∷ ys) k in
+        let q : Stands p a last y g = rw more at k.1 in
+        let told : z ≡ cond (ltb i s.noise) y x = e_z ∙ ap₂ (cond (ltb i s.noise)) q.variable w.variable in
+        record {
+          outcome = λ g gs. run_true _ (done x) (numbers_of numbers) (at used g gs) (sym (asks_is x y ys k) ∙ e)
+              ∙ run_pick_taken 1_000 (λ r. done (cond (ltb r s.noise) y x)) (numbers_of numbers) (at used g gs) d
+              ∙ ap (λ w. ends w (at after g gs)) (sym told);
+          among = rw told (either_within p.variables (ltb i s.noise) (second_within p x y ys v) (first_within p x (y ∷ ys) v));
+          uses = omega (arith, u.0);
+          within = u.1;
+        }
 
-  gone_two : (ys : List ℕ) → Tops p a last ys t → asks_noise t ≡ true → used ≤ length numbers / 4
-      → {after : ℕ} → take_pick 1_000 (numbers_of numbers) used ≡ too_few after
-      → Chooses (ranked_choice s last xs ys) (numbers_of numbers) used p.variables (Err (record { used = after }))
-  unfolding Tops ranked_choice outcome_of used_by Among
-  gone_two [] k e l d = absurd (omega (arith, k, two_asked t e))
-  gone_two (x ∷ []) k e l d = absurd (omega (arith, k.0, two_asked t e))
-  gone_two (x ∷ y ∷ ys) k e l d =
-      let u = pick_gone 1_000 (numbers_of numbers) used d in
-      record {
-        outcome = λ g gs. run_true _ (done x) (numbers_of numbers) (at used g gs) (sym (asks_is x y ys k) ∙ e)
-            ∙ run_pick_short 1_000 (λ r. done (cond (ltb r s.noise) y x)) (numbers_of numbers) (at used g gs) d;
-        among = tt;
-        uses = u.0;
-        within = u.1 (rw (length_numbers_of numbers) l);
-      }
+    gone_two : (ys : List ℕ) → Tops p a last ys t → used ≤ length numbers / 4
+        → {after : ℕ} → take_pick 1_000 (numbers_of numbers) used ≡ too_few after
+        → Chooses (ranked_choice s last xs ys) (numbers_of numbers) used p.variables (Err (record { used = after }))
+    unfolding Tops ranked_choice outcome_of used_by Among
+    gone_two [] k l d = absurd (none-some g (sym k.1 ∙ more))
+    gone_two (x ∷ []) k l d = absurd (none-some g (sym k.1 ∙ more))
+    gone_two (x ∷ y ∷ ys) k l d =
+        let u = pick_gone 1_000 (numbers_of numbers) used d in
+        record {
+          outcome = λ g gs. run_true _ (done x) (numbers_of numbers) (at used g gs) (sym (asks_is x y ys k) ∙ e)
+              ∙ run_pick_short 1_000 (λ r. done (cond (ltb r s.noise) y x)) (numbers_of numbers) (at used g gs) d;
+          among = tt;
+          uses = u.0;
+          within = u.1 (rw (length_numbers_of numbers) l);
+        }
 
-module _ (s : Settings) {p : Plan} {a : Assignment} {last : ℕ → ℕ} {xs : List ℕ} {t : Top} (r : Ranks p a last xs t) (v : T (all (is_variable p) xs)) (numbers : List ℕ) (used : ℕ) where
-  pub ranked_first : 0 < length xs → used ≤ length numbers / 4 → asks_noise t ≡ false
-      → Chooses (ranked_choice s last xs (ranked p a last xs)) (numbers_of numbers) used p.variables (Ok (record { value = t.first.variable; used = used }))
-  ranked_first h = first_now s p a last xs t r.newest numbers used (ranked p a last xs) r.tops (rw length_ranked h) (all_ranked p a last (is_variable p) xs v)
+module _ (s : Settings) {p : Plan} {a : Assignment} {last : ℕ → ℕ} {xs : List ℕ} {t : Top} (r : Ranks p a last xs t) (v : T (all (is_variable p) xs)) (numbers : List ℕ) (used : ℕ) {f : Standing} (there : t.first ≡ Some f) where
+  all_listed : T (all (is_variable p) (ranked p a last xs))
+  all_listed = all_ranked p a last (is_variable p) xs v
 
-  pub ranked_drawn : asks_noise t ≡ true → {k after : ℕ} → take_pick 1_000 (numbers_of numbers) used ≡ taken k after
-      → {z : ℕ} → z ≡ cond (ltb k s.noise) t.second.variable t.first.variable
-      → Chooses (ranked_choice s last xs (ranked p a last xs)) (numbers_of numbers) used p.variables (Ok (record { value = z; used = after }))
-  ranked_drawn = drawn_two s p a last xs t r.newest numbers used (ranked p a last xs) r.tops (all_ranked p a last (is_variable p) xs v)
+  pub ranked_alone : used ≤ length numbers / 4 → t.second ≡ None
+      → Chooses (ranked_choice s last xs (ranked p a last xs)) (numbers_of numbers) used p.variables (Ok (record { value = f.variable; used = used }))
+  ranked_alone = alone_now s p a last xs t r.newest numbers used there (ranked p a last xs) r.tops all_listed
 
-  pub ranked_gone : asks_noise t ≡ true → used ≤ length numbers / 4 → {after : ℕ} → take_pick 1_000 (numbers_of numbers) used ≡ too_few after
-      → Chooses (ranked_choice s last xs (ranked p a last xs)) (numbers_of numbers) used p.variables (Err (record { used = after }))
-  ranked_gone = gone_two s p a last xs t r.newest numbers used (ranked p a last xs) r.tops
+  pub ranked_first : used ≤ length numbers / 4 → asks_noise f t.latest ≡ false
+      → Chooses (ranked_choice s last xs (ranked p a last xs)) (numbers_of numbers) used p.variables (Ok (record { value = f.variable; used = used }))
+  ranked_first = first_now s p a last xs t r.newest numbers used there (ranked p a last xs) r.tops all_listed
+
+  module _ {g : Standing} (more : t.second ≡ Some g) (e : asks_noise f t.latest ≡ true) where
+    pub ranked_drawn : {k after : ℕ} → take_pick 1_000 (numbers_of numbers) used ≡ taken k after
+        → {z : ℕ} → z ≡ cond (ltb k s.noise) g.variable f.variable
+        → Chooses (ranked_choice s last xs (ranked p a last xs)) (numbers_of numbers) used p.variables (Ok (record { value = z; used = after }))
+    ranked_drawn = drawn_two s p a last xs t r.newest numbers used there more e (ranked p a last xs) r.tops all_listed
+
+    pub ranked_gone : used ≤ length numbers / 4 → {after : ℕ} → take_pick 1_000 (numbers_of numbers) used ≡ too_few after
+        → Chooses (ranked_choice s last xs (ranked p a last xs)) (numbers_of numbers) used p.variables (Err (record { used = after }))
+    ranked_gone = gone_two s p a last xs t r.newest numbers used there more e (ranked p a last xs) r.tops
+
+-- Of some variables a first is kept, since the ranking holds them all.
+tops_some : (p : Plan) (a : Assignment) (last : ℕ → ℕ) (t : Top) (ys : List ℕ) → Tops p a last ys t → 0 < length ys → is_some t.first ≡ true
+unfolding Tops
+tops_some p a last t [] k h = absurd (omega arith)
+tops_some p a last t (y ∷ []) k h = kept_some _ t.first k.0
+tops_some p a last t (y ∷ z ∷ ys) k h = kept_some _ t.first k.0
+
+pub first_there : {p : Plan} {a : Assignment} {last : ℕ → ℕ} {xs : List ℕ} {t : Top} → Ranks p a last xs t → 0 < length xs → is_some t.first ≡ true
+first_there {p} {a} {last} {xs} {t} r h = tops_some p a last t (ranked p a last xs) r.tops (rw length_ranked h)
 
 -- ---- those to choose from are variables of the plan
 

@@ -1,9 +1,9 @@
--- When Novelty+ draws a second number, as the code decides it.
+-- Whether the first of a ranking is the one most recently flipped, as the code decides it: where there is a second, Novelty+ then draws a number.
 -- Assumes nothing.
-use Rattle.std.specs.Prelude.{Bool, ltb, eqb}
+use Rattle.std.specs.Prelude.{ℕ, Bool, ltb, eqb}
 use Rattle.plpb.specs.Lists.{◌and◌}
-use Rattle.ranking.specs.declared.Top.{Top}
+use Rattle.ranking.specs.declared.Standing.{Standing}
 
--- There is a second, and the first is the one most recently flipped among all.
-unfoldable pub asks_noise : Top → Bool
-asks_noise t = ltb 1 t.count and (ltb 0 t.latest and eqb t.first.last t.latest)
+-- The first is the one most recently flipped among all, whose last flip has this number.
+unfoldable pub asks_noise : Standing → ℕ → Bool
+asks_noise first latest = ltb 0 latest and eqb first.last latest

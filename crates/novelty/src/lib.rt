@@ -1,7 +1,7 @@
 // The choice of a variable by Novelty+ (T-09). The marks, the list of numbers and how many of it are used stay parameters of their own, as in `skc`.
 #![tactic(auto)]
 
-ghost use Rattle.std.specs.Prelude.{◌≡◌, List, ℕ, ◌/◌, ◌≤◌, ◌<◌, T, length};
+ghost use Rattle.std.specs.Prelude.{◌≡◌, List, ℕ, ◌/◌, ◌≤◌, T, length, IsSome};
 ghost use Rattle.plpb.specs.Lists.{all};
 ghost use Rattle.plpb.specs.Plan.{Plan, Assignment, is_variable};
 ghost use Rattle.plpb.specs.Settings.{Settings as Set};
@@ -19,47 +19,42 @@ ghost use Rattle.novelty.specs.Noise.{asks_noise};
 use numbers::{Drawn, Short, pick};
 use picking::{Chosen, is_below};
 use picks::Choice;
-use ranking::{Top, rank_clause};
+use ranking::{Standing, Top, rank_clause};
 use settings::Settings;
 use skc::choose_any;
 
-// Whether noise decides: the first is not alone, and it is the one most recently flipped.
-fn asks_noise(top: Top) -> bool
-    ensures { result ≡ asks_noise top }
+// Whether the first is the one most recently flipped among all, whose last flip has the number `latest`: 0 where none was flipped.
+fn asks_noise(first: Standing, latest: u32) -> bool
+    ensures { result ≡ asks_noise first latest }
 {
-    let first = top.first;
-    if top.count < 2 {
-        return false;
-    }
-    if top.latest < 1 {
-        return false;
-    }
-    first.last == top.latest
+    let flipped = latest > 0;
+    flipped && first.last == latest
 }
 
 // "If the first is not the one most recently flipped in this try among them, or it is alone, flip it. Otherwise a number under noise takes the second,
 // else the first."
 fn choose_ranked(top: Top, numbers: &[u8], used: usize, noise: u32) -> Result<Chosen, Short>
-    requires { used ≤ length numbers.now / 4 }
-    ensures { (s : Set) (p : Plan) (a : Assignment) (last : ℕ → ℕ) (xs : List ℕ) → noise ≡ s.noise → Ranks p a last xs top → 0 < length xs
+    requires { (used ≤ length numbers.now / 4) × IsSome top.first }
+    ensures { (s : Set) (p : Plan) (a : Assignment) (last : ℕ → ℕ) (xs : List ℕ) → noise ≡ s.noise → Ranks p a last xs top
         → T (all (is_variable p) xs)
         → Chooses (ranked_choice s last xs (ranked p a last xs)) (numbers_of numbers.now) used p.variables result }
 {
-    let first = top.first;
-    let second = top.second;
-    if !asks_noise(top) {
-        return Ok(Drawn {
+    let first = top.first.unwrap();
+    match top.second {
+        Some(second) if asks_noise(first, top.latest) => {
+            let drawn = pick(numbers, used, 1000)?;
+            let second_taken = is_below(drawn.value, noise);
+            let taken = if second_taken { second } else { first };
+            Ok(Drawn {
+                value: taken.variable,
+                used: drawn.used,
+            })
+        }
+        _ => Ok(Drawn {
             value: first.variable,
             used,
-        });
+        }),
     }
-    let drawn = pick(numbers, used, 1000)?;
-    let second_taken = is_below(drawn.value, noise);
-    let taken = if second_taken { second } else { first };
-    Ok(Drawn {
-        value: taken.variable,
-        used: drawn.used,
-    })
 }
 
 // "One number under the walk chance, per 1,000, leads to a pick among the clause's unlocked variables. Otherwise rank them"

@@ -4,10 +4,12 @@ use Prim.Native.Nat.{ℕ, max, min, ◌+◌, ◌-◌, ◌≤◌}
 use native.Mathlib.Omega.{arith}
 use mathlib.Core.Bool.{true, false}
 use mathlib.Core.List.{List, [], ◌∷◌}
-use mathlib.Core.Path.{◌≡◌, refl, sym, ap, ap₂, ◌∙◌}
+use mathlib.Core.Path.{◌≡◌, sym, ap, ap₂, ◌∙◌}
 use lib.Dec.{ltb}
 use lib.IntN.{pos, ◌+ℤ◌, ◌-ℤ◌, +ℤ_assoc, +ℤ_comm, -ℤ-+ℤ_cancel, pos-+ℤ-pos}
 use lib.Signed.{lt_z}
+use Rattle.std.specs.Prelude.{Some, None}
+use Rattle.std.proofs.lemmas.Option.{none-some}
 use Rattle.plpb.specs.Plan.{Plan, Assignment}
 use Rattle.plpb.specs.Expansion.{break_count, make_count}
 use Rattle.plpb.specs.Count.{cap, given, capped, capped_break, capped_make}
@@ -61,41 +63,49 @@ module _ {p : Plan} {a : Assignment} {last : ℕ → ℕ} where
       rw (j.score, k.score, j.last_flip, k.last_flip, j.variable, k.variable, scores_stand p a y x, scores_stand p a x y)
 
   module _ {x : ℕ} {s : Standing} (h : Stands p a last x s) where
-    pub put_alone : (ys : List ℕ) (t : Top) (other : Standing) (l : ℕ) → Tops p a last ys t → t.count ≡ 0
-        → Tops p a last (placed p a last x ys) (record { count = 1; first = s; second = other; latest = l })
+    pub put_alone : (ys : List ℕ) (t : Top) (l : ℕ) → Tops p a last ys t → t.first ≡ None
+        → Tops p a last (placed p a last x ys) (record { first = Some s; second = t.second; latest = l })
     unfolding Tops placed
-    put_alone [] t o l k e = (refl, h)
-    put_alone (y ∷ []) t o l k e = absurd (omega (arith, k.0))
-    put_alone (y ∷ z ∷ ys) t o l k e = absurd (omega (arith, k.0))
+    put_alone [] t l k e = (h, k.1)
+    put_alone (y ∷ []) t l k e = absurd (rw e at k.0)
+    put_alone (y ∷ z ∷ ys) t l k e = absurd (rw e at k.0)
 
-    pub put_first : (ys : List ℕ) (t : Top) (l : ℕ) → Tops p a last ys t → (t.count ≡ 0 → ⊥) → comes_before t.first s ≡ false
-        → Tops p a last (placed p a last x ys) (record { count = 2; first = s; second = t.first; latest = l })
-    unfolding Tops placed
-    put_first [] t l k n e = absurd (n k)
-    put_first (y ∷ []) t l k n e = rw (sym (stands_before k.1 h) ∙ e) (refl, h, k.1)
-    put_first (y ∷ z ∷ ys) t l k n e = rw (sym (stands_before k.1 h) ∙ e) (refl, h, k.1)
-
-    pub put_behind : (ys : List ℕ) (t : Top) (l : ℕ) → Tops p a last ys t → t.count ≡ 1 → comes_before t.first s ≡ true
-        → Tops p a last (placed p a last x ys) (record { count = 2; first = t.first; second = s; latest = l })
-    unfolding Tops placed
-    put_behind [] t l k n e = absurd (omega (arith, k))
-    put_behind (y ∷ []) t l k n e = rw (sym (stands_before k.1 h) ∙ e) (refl, k.1, h)
-    put_behind (y ∷ z ∷ ys) t l k n e = absurd (omega (arith, k.0))
-
-    module _ (t : Top) (l : ℕ) (e : comes_before t.first s ≡ true) (many : t.count ≡ 0 → ⊥) (two : t.count ≡ 1 → ⊥) where
-      pub put_last : (ys : List ℕ) → Tops p a last ys t → comes_before t.second s ≡ true
-          → Tops p a last (placed p a last x ys) (record { count = 2; first = t.first; second = t.second; latest = l })
+    module _ (t : Top) (l : ℕ) {f : Standing} (there : t.first ≡ Some f) where
+      pub put_first : (ys : List ℕ) → Tops p a last ys t → comes_before f s ≡ false
+          → Tops p a last (placed p a last x ys) (record { first = Some s; second = Some f; latest = l })
       unfolding Tops placed
-      put_last [] k d = absurd (many k)
-      put_last (y ∷ []) k d = absurd (two k.0)
-      put_last (y ∷ z ∷ ys) k d = rw (sym (stands_before k.1 h) ∙ e, sym (stands_before k.2 h) ∙ d) (refl, k.1, k.2)
+      put_first [] k e = absurd (none-some f (sym k.0 ∙ there))
+      put_first (y ∷ []) k e = let w : Stands p a last y f = rw there at k.0 in rw (sym (stands_before w h) ∙ e) (h, w)
+      put_first (y ∷ z ∷ ys) k e = let w : Stands p a last y f = rw there at k.0 in rw (sym (stands_before w h) ∙ e) (h, w)
 
-      pub put_second : (ys : List ℕ) → Tops p a last ys t → comes_before t.second s ≡ false
-          → Tops p a last (placed p a last x ys) (record { count = 2; first = t.first; second = s; latest = l })
-      unfolding Tops placed
-      put_second [] k d = absurd (many k)
-      put_second (y ∷ []) k d = absurd (two k.0)
-      put_second (y ∷ z ∷ ys) k d = rw (sym (stands_before k.1 h) ∙ e, sym (stands_before k.2 h) ∙ d) (refl, k.1, h)
+      module _ (e : comes_before f s ≡ true) where
+        pub put_behind : (ys : List ℕ) → Tops p a last ys t → t.second ≡ None
+            → Tops p a last (placed p a last x ys) (record { first = t.first; second = Some s; latest = l })
+        unfolding Tops placed
+        put_behind [] k d = absurd (none-some f (sym k.0 ∙ there))
+        put_behind (y ∷ []) k d = let w : Stands p a last y f = rw there at k.0 in rw (sym (stands_before w h) ∙ e) (k.0, h)
+        put_behind (y ∷ z ∷ ys) k d = absurd (rw d at k.1)
+
+        module _ {g : Standing} (more : t.second ≡ Some g) where
+          pub put_last : (ys : List ℕ) → Tops p a last ys t → comes_before g s ≡ true
+              → Tops p a last (placed p a last x ys) (record { first = t.first; second = t.second; latest = l })
+          unfolding Tops placed
+          put_last [] k d = absurd (none-some g (sym k.1 ∙ more))
+          put_last (y ∷ []) k d = absurd (none-some g (sym k.1 ∙ more))
+          put_last (y ∷ z ∷ ys) k d =
+              let w : Stands p a last y f = rw there at k.0 in
+              let v : Stands p a last z g = rw more at k.1 in
+              rw (sym (stands_before w h) ∙ e, sym (stands_before v h) ∙ d) (k.0, k.1)
+
+          pub put_second : (ys : List ℕ) → Tops p a last ys t → comes_before g s ≡ false
+              → Tops p a last (placed p a last x ys) (record { first = t.first; second = Some s; latest = l })
+          unfolding Tops placed
+          put_second [] k d = absurd (none-some g (sym k.1 ∙ more))
+          put_second (y ∷ []) k d = absurd (none-some g (sym k.1 ∙ more))
+          put_second (y ∷ z ∷ ys) k d =
+              let w : Stands p a last y f = rw there at k.0 in
+              let v : Stands p a last z g = rw more at k.1 in
+              rw (sym (stands_before w h) ∙ e, sym (stands_before v h) ∙ d) (k.0, h)
 
     -- The list is ranked, and the last flip among all is known.
     pub ranks_more : {xs : List ℕ} {t u : Top} {l : ℕ} → Ranks p a last xs t → l ≡ max s.last t.latest → Tops p a last (placed p a last x (ranked p a last xs)) u → u.latest ≡ l
@@ -103,6 +113,6 @@ module _ {p : Plan} {a : Assignment} {last : ℕ → ℕ} where
     unfolding ranked latest
     ranks_more r e k d = record { tops = k; newest = d ∙ e ∙ ap₂ max h.last_flip r.newest }
 
-pub ranks_none : (p : Plan) (a : Assignment) (last : ℕ → ℕ) {xs : List ℕ} {t : Top} → xs ≡ [] → t.count ≡ 0 → t.latest ≡ 0 → Ranks p a last xs t
+pub ranks_none : (p : Plan) (a : Assignment) (last : ℕ → ℕ) {xs : List ℕ} {t : Top} → xs ≡ [] → t.first ≡ None → t.second ≡ None → t.latest ≡ 0 → Ranks p a last xs t
 unfolding Tops ranked latest
-ranks_none p a last e c l = rw e (record { tops = c; newest = l })
+ranks_none p a last e f g l = rw e (record { tops = (f, g); newest = l })

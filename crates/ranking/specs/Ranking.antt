@@ -1,6 +1,6 @@
 -- The first two of the ranked variables, as the code keeps them.
 -- Assumes nothing.
-use Rattle.std.specs.Prelude.{ℕ, ◌+◌, ◌-◌, ◌≡◌, Bool, not, List, [], ◌∷◌, ltb, eqb}
+use Rattle.std.specs.Prelude.{ℕ, ◌+◌, ◌-◌, ◌≡◌, Bool, not, List, [], ◌∷◌, ltb, eqb, None, IsSomeAnd}
 use Rattle.plpb.specs.Lists.{◌and◌, ◌or◌}
 use Rattle.plpb.specs.Plan.{Plan, Assignment}
 use Rattle.plpb.specs.Expansion.{break_count, make_count}
@@ -28,9 +28,9 @@ comes_before s t = ltb t.score s.score or (not (ltb s.score t.score) and older_t
 
 -- The first two of a list of variables.
 unfoldable pub Tops : Plan → Assignment → (ℕ → ℕ) → List ℕ → Top → Type 0
-Tops p a last [] t = t.count ≡ 0
-Tops p a last (x ∷ []) t = (t.count ≡ 1) × Stands p a last x t.first
-Tops p a last (x ∷ y ∷ ys) t = (t.count ≡ 2) × Stands p a last x t.first × Stands p a last y t.second
+Tops p a last [] t = (t.first ≡ None) × (t.second ≡ None)
+Tops p a last (x ∷ []) t = IsSomeAnd t.first (Stands p a last x) × (t.second ≡ None)
+Tops p a last (x ∷ y ∷ ys) t = IsSomeAnd t.first (Stands p a last x) × IsSomeAnd t.second (Stands p a last y)
 
 -- .. and of some variables once they are ranked, with the number of the last flip among them.
 pub record Ranks (p : Plan) (a : Assignment) (last : ℕ → ℕ) (xs : List ℕ) (t : Top) : Type 0 where

@@ -26,30 +26,18 @@ pub struct Standing {
     pub variable: u32,
 }
 
-// The first two of some ranked variables, how many of the two there are, and the number of the last flip among all of them. Where the choice is made there is
-// always a first: an `Option` of it would be opened with an answer for none. The second is no `Option` either: the count, 0 to 2, says which of the two stand,
-// as `Tops` reads it, and `choose_ranked` would open it behind `asks_noise` with an arm that is never taken.
+// The first two of some ranked variables, each where there is one, and the number of the last flip among all of them.
 #[derive(Clone, Copy)]
 pub struct Top {
-    pub count: u32,
-    pub first: Standing,
-    pub second: Standing,
+    pub first: Option<Standing>,
+    pub second: Option<Standing>,
     pub latest: u32,
-}
-
-impl Standing {
-    pub const NONE: Standing = Standing {
-        score: 0,
-        last: 0,
-        variable: 0,
-    };
 }
 
 impl Top {
     pub const NONE: Top = Top {
-        count: 0,
-        first: Standing::NONE,
-        second: Standing::NONE,
+        first: None,
+        second: None,
         latest: 0,
     };
 }
@@ -88,44 +76,28 @@ fn joined(top: Top, s: Standing) -> Top
     ensures { (p : Plan) (a : Assignment) (last : ℕ → ℕ) (x : ℕ) (xs : List ℕ) → Ranks p a last xs top → Stands p a last x s
         → Ranks p a last (x ∷ xs) result }
 {
-    let first = top.first;
     let latest = s.last.max(top.latest);
-    if top.count == 0 {
+    let Some(first) = top.first else {
         return Top {
-            count: 1,
-            first: s,
+            first: Some(s),
             latest,
             ..top
         };
-    }
+    };
     if !comes_before(first, s) {
         return Top {
-            count: 2,
-            first: s,
-            second: first,
+            first: Some(s),
+            second: Some(first),
             latest,
         };
     }
-    if top.count == 1 {
-        return Top {
-            count: 2,
-            first,
-            second: s,
-            latest,
-        };
-    }
-    if comes_before(top.second, s) {
-        return Top {
-            count: 2,
+    match top.second {
+        Some(second) if comes_before(second, s) => Top { latest, ..top },
+        _ => Top {
+            second: Some(s),
             latest,
             ..top
-        };
-    }
-    Top {
-        count: 2,
-        first,
-        second: s,
-        latest,
+        },
     }
 }
 

@@ -1,6 +1,6 @@
 // The choice of a variable of a clause (Algorithm 2, SKC) over the clause's list: among those whose flip breaks nothing, else by the noise among the least
-// counts or among all. Of the marks only hints and picks change: they come by themselves, since one part of them is read while another is written, which a
-// struct with them in it would not let be proved. The list of numbers and how many of it are used stay two parameters: the list is the caller's, and each
+// counts or among all. Of the marks only hints and picks change. The marks come by themselves, since one part of them is read while another is written, which
+// a struct with them in it would not let be proved. The list of numbers and how many of it are used stay two parameters: the list is the caller's, and each
 // choice answers how many are used then.
 #![tactic(auto)]
 

@@ -1,5 +1,5 @@
 // The numbers of the variables' last flips in a try, kept in words behind the marks of the choice (T-09): 0 for a variable that the try has not flipped.
-// 0 is not made an `Option`: the ranking takes never flipped first, which the number's own order says.
+// 0 is not made an `Option`: the documents' ranking compares these numbers (`is_older`, `latest`, `is_newest` of plpb), and 0 is the word that the marks keep.
 // Each function asks once that the marks have room. Their callers hold the marks as bytes, with facts of their own of which this is a part, so that a struct of
 // the bytes and their room would be made for each call.
 #![tactic(auto)]

@@ -28,7 +28,7 @@ pub loop-r-preserved : goal.loop-r-preserved
 loop-r-preserved c =
     let o = c.loop-r.invariant in
     let n = c.in-Some.ensures.steps.1 in
-    (rw n.2 (joined_next c.requires o.0 (omega (arith, n.0, o.1)) (rw n.1 at c.state_in-s.ensures) c.shares.ensures c.joined-shares.ensures (rw n.1 at c.past-i.ensures)), c.in-Some.ensures.steps.0 ∙ o.1)
+    (rw n.2 (joined_next c.requires o.0 (omega (arith, n.0, o.1)) (rw n.1 at c.state_in-s.ensures) c.with_rule-shares.ensures (rw n.1 at c.past-i.ensures)), c.in-Some.ensures.steps.0 ∙ o.1)
 
 pub rules_of-r-items-requires : goal.rules_of-r-items-requires
 rules_of-r-items-requires c = placed_readable c.requires

@@ -1,19 +1,14 @@
--- `asks_noise` meets its contract, test by test.
+-- `asks_noise` meets its contract, by whether any of them was flipped.
 -- Assumes nothing.
 use borrow.Author.Tests.{lt-ltb, le-ltb}
-use native.Mathlib.Omega.{arith}
 use Rattle.plpb.specs.Lists.{◌and◌}
 use Rattle.novelty.specs.Noise.{asks_noise}
 use Rattle.novelty.proofs.asks_noise.Goals as goal
 
-pub returns-then-top-lt2 : goal.returns-then-top-lt2
+pub returns-then-flipped : goal.returns-then-flipped
 unfolding asks_noise ◌and◌
-returns-then-top-lt2 c = rw (le-ltb 1 c.args.top.count (omega (arith, c.if-top-lt2.true)))
+returns-then-flipped c = rw (lt-ltb 0 c.args.latest c.if-flipped.true)
 
-pub returns-then-top-lt1 : goal.returns-then-top-lt1
+pub returns-else-flipped : goal.returns-else-flipped
 unfolding asks_noise ◌and◌
-returns-then-top-lt1 c = rw (lt-ltb 1 c.args.top.count (omega (arith, c.if-top-lt2.false)), le-ltb 0 c.args.top.latest (omega (arith, c.if-top-lt1.true)))
-
-pub returns : goal.returns
-unfolding asks_noise ◌and◌
-returns c = rw (lt-ltb 1 c.args.top.count (omega (arith, c.if-top-lt2.false)), lt-ltb 0 c.args.top.latest (omega (arith, c.if-top-lt1.false)))
+returns-else-flipped c = rw (le-ltb 0 c.args.latest c.if-flipped.false)

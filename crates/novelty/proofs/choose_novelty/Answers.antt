@@ -1,11 +1,10 @@
 -- `choose_novelty` meets its contract, by the number drawn for the walk chance.
 -- Assumes nothing.
-use native.Mathlib.Omega.{arith}
 use mathlib.Core.Path.{refl}
 use Rattle.picks.proofs.Noting.{noted_self}
 use Rattle.numbers.proofs.Taking.{handed_on}
 use Rattle.skc.proofs.Choosing.{still_to_choose, listed_after}
-use Rattle.novelty.proofs.Choosing.{by_walk, by_rank, chance_gone, list_within}
+use Rattle.novelty.proofs.Choosing.{by_walk, by_rank, chance_gone, first_there, list_within}
 use Rattle.novelty.proofs.choose_novelty.Goals as goal
 
 pub choose_any-requires : goal.choose_any-requires
@@ -14,7 +13,7 @@ choose_any-requires c =
 
 pub choose_ranked-requires : goal.choose_ranked-requires
 choose_ranked-requires c =
-    listed_after c.args.numbers.now c.args.used c.pick.ensures c.in_ok-drawn.was
+    (listed_after c.args.numbers.now c.args.used c.pick.ensures c.in_ok-drawn.was, first_there c.rank_clause.ensures c.requires.some)
 
 pub returns-then-is_below : goal.returns-then-is_below
 returns-then-is_below c =
@@ -23,7 +22,7 @@ returns-then-is_below c =
 pub returns : goal.returns
 returns c =
     by_rank _ _ _ _ _ c.args.numbers.now _ _ c.pick.ensures c.in_ok-drawn.was c.is_below.ensures c.if-is_below.false
-    (c.choose_ranked.ensures _ _ _ _ _ refl c.rank_clause.ensures c.requires.some (list_within _ _))
+    (c.choose_ranked.ensures _ _ _ _ _ refl c.rank_clause.ensures (list_within _ _))
 
 pub returns-in_err-drawn : goal.returns-in_err-drawn
 returns-in_err-drawn c =

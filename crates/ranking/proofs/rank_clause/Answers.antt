@@ -36,7 +36,7 @@ loop-i-init c =
     let k = c.args.choice.now.clause in
     let l = listed q k c.plan.ensures c.list_of-list.ensures in
     let all : c.list_of-list.result.end - list_start q k ≡ length (of_clause q k) = omega (arith, l.0, l.1) in
-    (omega (arith, l.0, l.1), omega (arith, l.0, l.1), ranks_none _ _ _ (ap (λ n. drop n (of_clause q k)) all ∙ drop-length (of_clause q k)) refl refl)
+    (omega (arith, l.0, l.1), omega (arith, l.0, l.1), ranks_none _ _ _ (ap (λ n. drop n (of_clause q k)) all ∙ drop-length (of_clause q k)) refl refl refl)
 
 pub word-requires : goal.word-requires
 word-requires c =

@@ -3,7 +3,7 @@ use native.Mathlib.Omega.{arith}
 use mathlib.Core.Path.{sym, ◌∙◌}
 use Rattle.effects.proofs.Runs.{run_inside}
 use Rattle.effects.proofs.Places.{place_few}
-use Rattle.groups.proofs.Runs.{opening, opened}
+use Rattle.groups.proofs.Runs.{opened}
 use Rattle.freely.proofs.Free.{single_spoils, single_group, unbroken}
 use Rattle.spoiling.proofs.Counting.{single_count, shares_break}
 use Rattle.spoiling.proofs.count_at.Goals as goal

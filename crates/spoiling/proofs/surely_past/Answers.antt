@@ -1,9 +1,7 @@
 -- `surely_past` meets its contract: equation (10) in each of its cases.
 -- Assumes nothing.
 use native.Mathlib.Omega.{arith}
-use mathlib.Core.Path.{sym}
 use Rattle.plpb.specs.Equations.{shares}
-use Rattle.plpb.proofs.Lists.{false_T}
 use Rattle.rules.specs.State.{shares_from}
 use Rattle.rules.proofs.States.{on_in_P, off_in_N}
 use Rattle.spoiling.proofs.surely_past.Goals as goal
