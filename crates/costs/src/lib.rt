@@ -31,15 +31,14 @@ fn share(tables: &[u8], assignment: &[u8], i: usize) -> i64
     chosen(assignment[i], coefficient(tables, i))
 }
 
-// What a coefficient counts in l(O) under the word of its variable's lock: 0 for free, where it counts if it is negative; 1 for locked at 0; 2 for locked at 1.
-// The word is matched here at once: an enum of the three would be made of it by the same match, only to be opened by another.
-fn least_by(lock: usize, weight: i64) -> i64
+// What a coefficient counts in l(O) under the word of its variable's lock: that of an unlocked one counts if it is negative.
+fn least_by(lock: u32, weight: i64) -> i64
     ensures { result ≡ least_by lock weight }
 {
-    match lock {
-        0 => weight.min(0),
-        1 => 0,
-        _ => weight,
+    match format::lock_of(lock) {
+        None => weight.min(0),
+        Some(true) => weight,
+        Some(false) => 0,
     }
 }
 
@@ -49,7 +48,7 @@ fn least(tables: &[u8], i: usize) -> i64
     ensures { result ≡ least_at tables.now i }
 {
     least_by(
-        words::index(tables, format::RULES_END + i),
+        words::word(tables, format::RULES_END + i),
         coefficient(tables, i),
     )
 }

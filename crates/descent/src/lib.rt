@@ -1,6 +1,6 @@
 // Calls with the added last clause O ≤ m, each find below the one before it.
 // The buffers to write come one by one: one is read while another is written, which a struct of them would not let be proved.
-// The numbers and the settings stay two: a struct of them would be made at the top only to be taken apart at the bottom.
+// Why numbers and settings stay two stands at the top of `walk`.
 #![tactic(auto)]
 
 ghost use Rattle.std.specs.Prelude.{◌≡◌, ◌≤◌, ◌<◌, nat_abs};
@@ -51,8 +51,8 @@ fn call_under(
     }
 }
 
-// Calls in one mode, each below the last find, until one fails or the floor is reached. The mode stays the number that the C interface takes, since it is
-// only handed on.
+// Calls in one mode, each below the last find, until one fails or the floor is reached. Why the mode stays any number stands at `progress::bound_for`, which
+// asks what it means.
 pub fn descend(
     tables: &mut [u8],
     terms: &[u8],

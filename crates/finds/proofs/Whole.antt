@@ -1,24 +1,24 @@
 -- Laws of the whole search: the copied tables hold the plan, the first call decides, and from a first find the tightening goes on; what is handed out satisfies the plan.
 -- Assumes nothing.
-use Prim.Native.Nat.{ℕ, zero, suc, ◌+◌, ◌-◌, ◌≤◌, ◌<◌}
+use Prim.Native.Nat.{ℕ, zero, suc, ◌≤◌, ◌<◌}
 use native.Mathlib.Omega.{arith}
 use mathlib.Core.Path.{◌≡◌, refl, sym, ap, ap₂, ◌∙◌, subst}
 use mathlib.Core.Bool.{true, false}
 use mathlib.Core.List.{List, [], ◌∷◌, ◌++◌}
 use lib.Dec.{T}
-use lib.IntN.{ℤ, nat_abs}
+use lib.IntN.{ℤ, pos, nat_abs}
 use lib.ListN.{length, take, drop, length-append}
 use lib.Seq.{length-take-le, drop_at}
 use lib.Signed.{le_z}
 use mir.Facts.{to_z-of_z}
 use mir.Syntax.{w64}
 use mir.Val.{to_z, of_z, SFits}
-use Rattle.plpb.specs.Lists.{◌and◌, ◌or◌, is_empty}
+use Rattle.plpb.specs.Lists.{◌and◌, is_empty}
 use Rattle.plpb.specs.Plan.{Plan, Assignment, obeys, cost, floor_cost}
 use Rattle.plpb.proofs.Soundness.{call_obeys}
-use Rattle.plpb.specs.Walk.{Mark, ends, short, run}
+use Rattle.plpb.specs.Walk.{Mark, ends, run}
 use Rattle.plpb.specs.Settings.{Mode, linear, lbs, Settings}
-use Rattle.plpb.specs.Search.{Reached, failed, reached, tightened, floor, none, at_floor, gap, linear_search, lbs_search, tighten, search_walk, last_find, cost_of, answer_of as answered, conclude, begin, search}
+use Rattle.plpb.specs.Search.{Reached, failed, reached, tightened, floor, at_floor, gap, linear_search, lbs_search, tighten, last_find, cost_of, answer_of as answered, conclude, begin, search}
 use Rattle.plpb.specs.Walk.{at}
 use Rattle.plpb.proofs.Costs.{floor_below}
 use Rattle.words.specs.Words.{word_bytes, word_at}
@@ -44,6 +44,7 @@ use Rattle.std.specs.Prelude.{Result, Ok, Err}
 use Rattle.tries.specs.declared.Spent.{Spent}
 use Rattle.moves.specs.declared.Stop.TheVariants as reason
 use Rattle.progress.specs.declared.Progress.{Progress}
+use Rattle.progress.specs.declared.Ending.{Ending as EndingOf}
 use Rattle.progress.specs.declared.Ending.TheVariants as code
 use Rattle.progress.specs.declared.Searched.{Searched}
 use Rattle.lending.specs.Work.{Work, Beyond}
@@ -263,26 +264,12 @@ nowhere a e = let z : ◌≡◌ {A = ℕ} 0 1 = cc in omega arith
 
 -- What a search answers where it found nothing.
 module _ (s : Settings) (p : Plan) (numbers : List ℕ) (r : Searched) where
-  none_answer : {used flips : ℕ} → run (search_walk s p) (numbers_of numbers) begin ≡ ends none (at used flips []) → Unfound code.None used flips r
+  unfound : {e : EndingOf} {used flips : ℕ}
+      → search s p (numbers_of numbers) ≡ record { ending = ending_of e; cost = pos 0; finds = 0; flips = flips; used = used; assignment = failed } → Unfound e used flips r
       → search s p (numbers_of numbers) ≡ answer_of r.ending r.progress failed
-  unfolding search conclude answered last_find cost_of answer_of ending_of
-  none_answer e k =
-      ap (conclude p) e
-      ∙ (λ j. record {
-        ending = ending_of (sym k.ending j);
-        cost = sym k.cost j;
-        finds = sym k.finds j;
-        flips = sym k.flips_made j;
-        used = sym k.numbers_used j;
-        assignment = failed;
-      })
-
-  short_answer : {used flips : ℕ} → run (search_walk s p) (numbers_of numbers) begin ≡ short (at used flips []) → Unfound code.ShortNone used flips r
-      → search s p (numbers_of numbers) ≡ answer_of r.ending r.progress failed
-  unfolding search conclude answered last_find cost_of answer_of ending_of is_empty
-  short_answer e k =
-      ap (conclude p) e
-      ∙ (λ j. record {
+  unfolding answer_of
+  unfound e k =
+      e ∙ (λ j. record {
         ending = ending_of (sym k.ending j);
         cost = sym k.cost j;
         finds = sym k.finds j;
@@ -358,13 +345,13 @@ module _ {s : Settings} {tables terms numbers : List ℕ} {t : Result Spent Unre
 
   -- It reached nothing.
   pub call_empty : {r : Searched} → (why : Unreached) → t ≡ Err why → Empty (Err why) r → Whole s (plan_of_tables tables terms) numbers r assignment assignment w w
-  unfolding tried_of begin Empty
+  unfolding tried_of search conclude answered last_find cost_of ending_of is_empty begin Empty
   call_empty {r} (reason.Failed d) e z =
       let k = told_as (Err (reason.Failed d)) e in
-      empty_whole s plan numbers r (none_answer s plan numbers r (search_none s plan (numbers_of numbers) begin (k.outcome [])) z) unchanged
+      empty_whole s plan numbers r (unfound s plan numbers r (ap (conclude plan) (search_none s plan (numbers_of numbers) begin (k.outcome []))) z) unchanged
   call_empty {r} (reason.Short d) e z =
       let k = told_as (Err (reason.Short d)) e in
-      empty_whole s plan numbers r (short_answer s plan numbers r (search_short s plan (numbers_of numbers) begin (k.outcome [])) z) unchanged
+      empty_whole s plan numbers r (unfound s plan numbers r (ap (conclude plan) (search_short s plan (numbers_of numbers) begin (k.outcome []))) z) unchanged
 
 -- The work tables hold the plan once it is copied.
 module _ {plan planTerms tables terms : List ℕ} {w : Work} (h : Copyable plan planTerms tables terms w) {tables' terms' : List ℕ}

@@ -30,7 +30,8 @@ fn without(why: Unreached) -> Searched
     }
 }
 
-// The answer of a first call that found nothing. The whole result comes as the parameter: a reason alone would be a narrower type, which asks more of callers.
+// The answer of a first call that found nothing. The whole result comes as the parameter, because the promise of this public function is over it; a reason
+// alone would ask more of callers.
 pub fn nothing(t: Result<Spent, Unreached>) -> Searched
     ensures { Empty t result }
 {

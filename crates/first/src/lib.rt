@@ -1,7 +1,7 @@
 // The first call of a search, with the plan alone.
 // The buffers to write come one by one: one is read while another is written, which a struct of them would not let be proved.
 // What is only read comes one by one as well, as C hands it over (see `search`).
-// The numbers and the settings stay two: a struct of them would be made at the top only to be taken apart at the bottom.
+// Why numbers and settings stay two stands at the top of `walk`.
 #![tactic(auto)]
 
 ghost use Rattle.settings.specs.Settings.{settings_of};

@@ -56,7 +56,7 @@ impl Lent<'_> {
         self.work_marks.len() < columns::COLUMNS
     }
 
-    // The number of the first test that fails, 0 for none: the C interface gives it out as it is.
+    // The number of the first test that fails, 0 for none: the C interface gives it out as it is. Why it is no enum stands at `settings::settings_refusal`.
     pub fn refusal(&self, s: Settings) -> u32
         ensures { result ≡ search_refusal (lent_in self.now) s }
     {
@@ -74,7 +74,7 @@ impl Lent<'_> {
 }
 
 // Fills the first n bytes with 0. A count goes with the slice, because what stands behind them is lent too. It is a function for its
-// clause, which `clear_work` cites five times.
+// clause, which `clear_work` cites five times, and `reports` calls it twice.
 pub fn clear_first(s: &mut [u8], n: usize)
     requires { n ≤ length s.old }
     ensures { s.new ≡ replicate n 0 ++ drop n s.old }

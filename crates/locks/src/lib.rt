@@ -6,25 +6,23 @@ ghost use Rattle.format.specs.Limits.{max_variables};
 ghost use Rattle.format.specs.Layout.{table_size};
 ghost use Rattle.locks.specs.Held.{held_by, held_bytes};
 
-// A byte under the word of its variable's lock: 0 for free, 1 for locked at 0, 2 for locked at 1, as the tables have it. The word is matched here at once: an
-// enum of the three would be made of it by the same match, only to be opened by another.
-fn held(lock: usize, byte: u8) -> u8
+// A byte under the word of its variable's lock.
+fn held(lock: u32, byte: u8) -> u8
     ensures { result ≡ held_by lock byte }
 {
-    match lock {
-        0 => byte,
-        1 => 0,
-        _ => 1,
+    match format::lock_of(lock) {
+        None => byte,
+        Some(value) => u8::from(value),
     }
 }
 
 // Gives each locked one of n variables its value. n goes with the bytes, because what follows them is lent too and stays as it was. With a sub-slice from the
-// caller, it and not this clause would have to say that the rest stays.
+// caller, it and not this clause would have to say that the rest stays. Why it shares no loop with a try's start stands at `numbers::write_start`.
 pub fn hold_locks(tables: &[u8], n: usize, assignment: &mut [u8])
     requires { (n ≤ max_variables) × (n ≤ length assignment.old) × (table_size ≤ length tables.now) }
     ensures { assignment.new ≡ held_bytes tables.now n assignment.old }
 {
     for (i, byte) in assignment[..n].iter_mut().enumerate() {
-        *byte = held(words::index(tables, format::RULES_END + i), *byte);
+        *byte = held(words::word(tables, format::RULES_END + i), *byte);
     }
 }

@@ -39,8 +39,8 @@ impl From<Short> for Stop<usize> {
     }
 }
 
-// "choose a variable of it; flip"; how many numbers are used after it. It is the flip behind so many of this try, and its number is kept as that of the
-// variable's last flip.
+// "choose a variable of it; flip". It answers how many numbers are used after it. `turn` flips of this try stand before it, and its number, turn + 1, is kept
+// as that of the variable's last flip.
 fn flip_in(
     t: &Tables<'_>,
     numbers: &[u8],
@@ -75,7 +75,7 @@ fn flip_in(
     Ok(chosen.used)
 }
 
-// "pick an unsatisfied clause": the tallies say how many there are and which. How many numbers are used after the flip.
+// "pick an unsatisfied clause": the tallies say how many there are and which. It answers how many numbers are used after the flip.
 pub fn make_move(
     t: &Tables<'_>,
     numbers: &[u8],

@@ -1,6 +1,6 @@
 // The search from its first find on.
 // The buffers to write come one by one: one is read while another is written, which a struct of them would not let be proved.
-// The numbers and the settings stay two: a struct of them would be made at the top only to be taken apart at the bottom.
+// Why numbers and settings stay two stands at the top of `walk`.
 #![tactic(auto)]
 
 ghost use Rattle.std.specs.Prelude.{◌≡◌, drop};

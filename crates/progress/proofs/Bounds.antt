@@ -42,7 +42,7 @@ use Rattle.moves.specs.declared.Stop.TheVariants as stop
 use Rattle.progress.specs.declared.Progress.{Progress}
 use Rattle.lending.specs.Work.{Work, Beyond}
 use Rattle.tries.specs.Steps.{Unreached, Startable, tried_of, spent_by, used_by, flips_by, IfReached, Finds, Tries}
-use Rattle.progress.specs.Bounds.{untightened, basis, Bounded, Tracks, Room, Leaves, called_of, progress_in, FindOr, CallsUnder}
+use Rattle.progress.specs.Bounds.{Halt, untightened, basis, Bounded, Tracks, Room, Leaves, called_of, progress_in, FindOr, CallsUnder}
 use Rattle.format.specs.Layout.{rule_room}
 
 -- ---- a plan with an added clause, and without it
@@ -178,10 +178,6 @@ module _ {p : Plan} {tables terms assignment : List ℕ} {w : Work} (room : Room
       under_beyond : {r : Result Spent Unreached} → TriesUnder s after terms numbers from w v r → Beyond p.variables w v
       under_beyond t = rw (← bounded_variables under_bounded) t.beyond
 
-      still_leaves : {r : Result Spent Unreached} → TriesUnder s after terms numbers from w v r → Leaves p tables terms after assignment assignment w v
-      still_leaves t =
-          record { bounded = under_bounded; table = ap (drop table_size) e ∙ rebound_beyond room.bounded m within; find = refl; beyond = under_beyond t }
-
       module _ {r : Result Spent Unreached} {d : Spent} where
         -- A find.
         module _ (k : r ≡ Ok d) (t : TriesUnder s after terms numbers from w v r) (long : p.variables ≤ length v.assignment) {z : ℤ} {exit : List ℕ}
@@ -250,41 +246,37 @@ module _ {p : Plan} {tables terms assignment : List ℕ} {w : Work} (room : Room
 
         -- None.
         module _ (t : TriesUnder s after terms numbers from w v r) where
-          still_tracks : spent_by r ≡ d → Tracks p numbers assignment (record { cost = to_z w64 (of_z w64 from.cost); finds = from.finds; spent = d })
-          still_tracks k =
+          -- The assignment stays, and only what is spent changes.
+          unreached : {h : Halt} → spent_by r ≡ d → progress_in (Err h) ≡ record { cost = to_z w64 (of_z w64 from.cost); finds = from.finds; spent = d }
+              → FindOr (tightened p m) from.finds assignment assignment (Err h)
+              → ((fs : List Assignment) → tried_of r (bits_of p.variables v.assignment) fs ≡ called_of (Err h) (bits_of p.variables assignment) fs)
+              → CallsUnder s p m numbers from (Err h) assignment assignment × Leaves p tables terms after assignment assignment w v
+          unreached k g f o =
               let l : used_by r ≡ d.used = ap (λ (q : Spent). q.used) k in
-              let m : flips_by r ≡ d.flips = ap (λ (q : Spent). q.flips) k in
-              record {
-                bits = st.bits;
-                obeyed = st.obeyed;
-                costs = to_z-of_z (cost_fits room.bounded st) ∙ st.costs;
-                finds = omega (arith, st.finds, t.uses);
-                flips = omega (arith, t.flipped);
-                within = omega (arith, t.within);
-              }
+              let n : flips_by r ≡ d.flips = ap (λ (q : Spent). q.flips) k in (
+                record {
+                  outcome = λ fs. under_outcome t fs ∙ o fs;
+                  find = f;
+                  tracks = rw g (record {
+                    bits = st.bits;
+                    obeyed = st.obeyed;
+                    costs = to_z-of_z (cost_fits room.bounded st) ∙ st.costs;
+                    finds = omega (arith, st.finds, t.uses);
+                    flips = omega (arith, t.flipped);
+                    within = omega (arith, t.within);
+                  });
+                },
+                record { bounded = under_bounded; table = ap (drop table_size) e ∙ rebound_beyond room.bounded m within; find = refl; beyond = under_beyond t },
+              )
 
           pub called_failed : r ≡ Err (stop.Failed d) →
               CallsUnder s p m numbers from (Err (stop.Failed (record { cost = to_z w64 (of_z w64 from.cost); finds = from.finds; spent = d }))) assignment assignment
               × Leaves p tables terms after assignment assignment w v
           unfolding tried_of called_of progress_in FindOr spent_by
-          called_failed k = (
-            record {
-              outcome = λ fs. under_outcome t fs ∙ ap (λ q. tried_of q (bits_of p.variables v.assignment) fs) k;
-              find = (refl, refl);
-              tracks = still_tracks (ap spent_by k);
-            },
-            still_leaves t,
-          )
+          called_failed k = unreached (ap spent_by k) refl (refl, refl) (λ fs. ap (λ q. tried_of q (bits_of p.variables v.assignment) fs) k)
 
           pub called_short : r ≡ Err (stop.Short d) →
               CallsUnder s p m numbers from (Err (stop.Short (record { cost = to_z w64 (of_z w64 from.cost); finds = from.finds; spent = d }))) assignment assignment
               × Leaves p tables terms after assignment assignment w v
           unfolding tried_of called_of progress_in FindOr spent_by
-          called_short k = (
-            record {
-              outcome = λ fs. under_outcome t fs ∙ ap (λ q. tried_of q (bits_of p.variables v.assignment) fs) k;
-              find = (refl, refl);
-              tracks = still_tracks (ap spent_by k);
-            },
-            still_leaves t,
-          )
+          called_short k = unreached (ap spent_by k) refl (refl, refl) (λ fs. ap (λ q. tried_of q (bits_of p.variables v.assignment) fs) k)

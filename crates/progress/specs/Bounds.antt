@@ -96,6 +96,14 @@ ending_of code.None = none
 ending_of code.ShortFound = short_found
 ending_of code.ShortNone = short_none
 
+-- The endings by number; 0 stands for a search that was refused.
+unfoldable pub ending_number : Ending → ℕ
+ending_number floor = 1
+ending_number ended = 2
+ending_number none = 3
+ending_number short_found = 4
+ending_number short_none = 5
+
 -- The answer that the code gives, with the assignment that it leaves.
 unfoldable pub answer_of : EndingOf → Progress → Reached → Answer
 answer_of e t b =

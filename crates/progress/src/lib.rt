@@ -7,7 +7,7 @@ ghost use Rattle.words.specs.Words.{word_at};
 ghost use Rattle.format.specs.Assignment.{bits_of};
 ghost use Rattle.costs.specs.Sums.{Summable, cost_in};
 ghost use Rattle.settings.specs.Settings.{mode_of};
-ghost use Rattle.progress.specs.Bounds.{StoppedAt};
+ghost use Rattle.progress.specs.Bounds.{ending_of, ending_number, StoppedAt};
 
 use costs::cost;
 use counting::tightening::{lbs_bound, linear_bound};
@@ -36,6 +36,15 @@ pub enum Ending {
     None = 3,
     ShortFound = 4,
     ShortNone = 5,
+}
+
+// Its number, as the C interface hands it out.
+impl From<Ending> for u32 {
+    ghost from_gives = { λ ending n. n ≡ ending_number (ending_of ending) };
+
+    fn from(ending: Ending) -> u32 {
+        ending as u32
+    }
 }
 
 // What a search answers. Without a find cost and finds are 0, as the answer to C has them; the ending says which.
@@ -77,7 +86,8 @@ pub fn stopped(end: Result<Progress, Halt>) -> Searched
     }
 }
 
-// The bound that a find of this cost gives the next call. The mode comes as the number that the C interface takes: callers hand it on, and it is a kind here.
+// The bound that a find of this cost gives the next call. The mode stays any number in the public functions that take one, since a type with two values would
+// ask more of their callers. It becomes a kind where it is asked, by `Tightening::from`.
 pub fn bound_for(mode: u32, least: i64, cost: i64) -> i64
     requires { (nat_abs least < 4294967296) × (nat_abs cost < 4294967296) }
     ensures { result ≡ bound_in (mode_of mode) least cost }

@@ -36,7 +36,7 @@ impl From<u32> for Tightening {
     }
 }
 
-// The chance is judged under either choice. Its number is one of those that the C interface gives out.
+// The chance is judged under either choice. The number of the refusal is one that the C interface gives out.
 fn choice_refusal(s: Settings) -> u32
     ensures { result ≡ choice_refusal s }
 {
@@ -49,7 +49,9 @@ fn choice_refusal(s: Settings) -> u32
     0
 }
 
-// The number of the first setting out of its range, 0 for none: the C interface gives it out as it is.
+// The number of the first setting out of its range, 0 for none: the C interface gives it out as it is. The tests of three crates come one after another
+// (`settings`, `lending`, `trials`): an enum of each would hold that of the one below and be opened into the same number at the edge. `calls` has one enum for
+// all its tests.
 pub fn settings_refusal(s: Settings) -> u32
     ensures { result ≡ settings_refusal s }
 {

@@ -1,6 +1,6 @@
 // The tightening (paper 000): calls with the added last clause O ≤ m, each find below the one before it.
 // The buffers to write come one by one: one is read while another is written, which a struct of them would not let be proved.
-// The numbers and the settings stay two: a struct of them would be made at the top only to be taken apart at the bottom.
+// Why numbers and settings stay two stands at the top of `walk`.
 #![tactic(auto)]
 
 ghost use Rattle.std.specs.Prelude.{◌≡◌, ◌≤◌};
@@ -14,8 +14,8 @@ use moves::Stop;
 use progress::{Progress, Searched, stopped};
 use settings::{Settings, Tightening};
 
-// From a first find on: linear ends at its first failure, LBS "at the first failure goes over to linear". The second call takes the 0 that the C interface has
-// for linear, as `descend` takes the mode.
+// From a first find on: linear ends at its first failure, LBS "at the first failure goes over to linear". Why the mode stays any number until it is asked here
+// stands at `progress::bound_for`.
 pub fn tighten(
     tables: &mut [u8],
     terms: &[u8],
@@ -47,6 +47,7 @@ pub fn tighten(
         Err(Stop::Short(_)) => return stopped(first),
         Err(Stop::Failed(at)) => at,
     };
+    // 0 is the mode of linear, as `descend` takes any number.
     let second = descend(
         tables, terms, numbers, s, 0, floor, at, assignment, tried, tallies, marks,
     );

@@ -34,7 +34,7 @@ use Rattle.moves.specs.declared.Stop.TheVariants as stop
 use Rattle.tries.specs.declared.Spent.{Spent}
 use Rattle.lending.specs.Work.{Work, Beyond}
 use Rattle.moves.specs.Moves.{Unmoved, bits_in, try_in, Prepared, Walking, moved_of, used_in, IfMade, Moves}
-use Rattle.tries.specs.Steps.{Unreached, Startable, tried_of, stopped_at, spent_by, IfReached, Tries}
+use Rattle.tries.specs.Steps.{Unreached, Startable, tried_of, stopped_at, spent_by, used_by, flips_by, IfReached, Tries}
 use Rattle.moves.proofs.Moving.{unsatisfied_word}
 use Rattle.format.specs.Layout.{table_size, unsatisfied_at, mark_size}
 use Rattle.stamps.specs.Stamps.{Stamped, unstamped}
@@ -143,34 +143,34 @@ module _ {s : Settings} {tables terms numbers : List ℕ} {begun : Spent} {w : W
           beyond = beyond_on i.beyond same.beyond;
         }
 
-    -- No flip was made: the try is stuck, or the numbers are gone.
+    -- No flip was made, and what is spent then says how the try ends.
+    stopped : {r : Result ℕ Unmoved} {u : Work} → Moves s tables terms numbers spent.used turn r v u → (e : Unreached) → used_by (Err e) ≡ used_in r → flips_by (Err e) ≡ spent.flips
+        → ((fs : List Assignment) → run (flipping s p s.flips (try_in tables terms [] w)) (numbers_of numbers) (at begun.used begun.flips fs) ≡ tried_of (Err e) (bits_in tables terms u) fs)
+        → Tries (flipping s p s.flips (try_in tables terms [] w)) tables terms numbers begun.used begun.flips begun.used (Err e) w u
+    unfolding IfReached
+    stopped m e q f o =
+        record {
+          outcome = o;
+          finds = tt;
+          uses = omega (arith, i.uses, m.uses, q);
+          within = omega (arith, m.within, q);
+          flipped = omega (arith, i.flipped, m.uses, q, f);
+          prepared = m.prepared;
+          beyond = beyond_on i.beyond m.beyond;
+        }
+
+    -- The try is stuck, or the numbers are gone.
     pub flips_stopped : {r : Result ℕ Unmoved} (why : Unmoved) {u : Work} → r ≡ Err why → Moves s tables terms numbers spent.used turn r v u
         → Tries (flipping s p s.flips (try_in tables terms [] w)) tables terms numbers begun.used begun.flips begun.used (Err (stopped_at why spent.flips)) w u
-    unfolding stopped_at moved_of used_in IfMade tried_of spent_by IfReached
-    flips_stopped {r} (stop.Failed after) {u} e' n =
+    unfolding stopped_at moved_of used_in tried_of spent_by
+    flips_stopped (stop.Failed after) {u} e' n =
         let m = subst (λ q. Moves s tables terms numbers spent.used turn q v u) e' n in
         let on-from = m.reaches i.flips i.stamped i.counted in
-        record {
-          outcome = λ fs. on fs ∙ flipping_stuck s p (numbers_of numbers) (try_in tables terms i.flips v) (at spent.used spent.flips fs) (s.flips - (turn + 1)) (look_false i.walking e) (on-from.outcome spent.flips fs);
-          finds = tt;
-          uses = omega (arith, i.uses, m.uses);
-          within = m.within;
-          flipped = omega (arith, i.flipped, m.uses);
-          prepared = m.prepared;
-          beyond = beyond_on i.beyond m.beyond;
-        }
-    flips_stopped {r} (stop.Short after) {u} e' n =
+        stopped m _ refl refl (λ fs. on fs ∙ flipping_stuck s p (numbers_of numbers) (try_in tables terms i.flips v) (at spent.used spent.flips fs) (s.flips - (turn + 1)) (look_false i.walking e) (on-from.outcome spent.flips fs))
+    flips_stopped (stop.Short after) {u} e' n =
         let m = subst (λ q. Moves s tables terms numbers spent.used turn q v u) e' n in
         let on-from = m.reaches i.flips i.stamped i.counted in
-        record {
-          outcome = λ fs. on fs ∙ flipping_short s p (numbers_of numbers) (try_in tables terms i.flips v) (at spent.used spent.flips fs) (s.flips - (turn + 1)) (look_false i.walking e) (on-from.outcome spent.flips fs);
-          finds = tt;
-          uses = omega (arith, i.uses, m.uses);
-          within = m.within;
-          flipped = omega (arith, i.flipped, m.uses);
-          prepared = m.prepared;
-          beyond = beyond_on i.beyond m.beyond;
-        }
+        stopped m _ refl refl (λ fs. on fs ∙ flipping_short s p (numbers_of numbers) (try_in tables terms i.flips v) (at spent.used spent.flips fs) (s.flips - (turn + 1)) (look_false i.walking e) (on-from.outcome spent.flips fs))
 
   pub flips_end : s.flips ≤ turn → Tries (flipping s p s.flips (try_in tables terms [] w)) tables terms numbers begun.used begun.flips begun.used (Err (stop.Failed spent)) w v
   unfolding tried_of spent_by IfReached
@@ -193,6 +193,22 @@ if_reached : (r : Result Spent Unreached) {A B : Type 0} → (A → B) → IfRea
 unfolding IfReached
 if_reached (Ok t) f a = f a
 if_reached (Err e) f a = tt
+
+-- A walk that ends as another does, which begins with no fewer numbers used, comes to what the other comes to.
+ends_as : {walk on : Walk Reached} {tables terms numbers : List ℕ} {used flips least used' flips' least' : ℕ} {r : Result Spent Unreached} {w v u : Work}
+    → Tries on tables terms numbers used' flips' least' r v u → used ≤ used' → least ≤ least' → Beyond (plan_of_tables tables terms).variables w v
+    → ((fs : List Assignment) → run walk (numbers_of numbers) (at used flips fs) ≡ tried_of r (bits_in tables terms u) fs)
+    → Tries walk tables terms numbers used flips least r w u
+ends_as {r = r} g low fewer b o =
+    record {
+      outcome = o;
+      finds = if_reached r (λ f. record { bits = f.bits; satisfied = f.satisfied; uses = omega (arith, f.uses) }) g.finds;
+      uses = omega (arith, g.uses);
+      within = g.within;
+      flipped = g.flipped;
+      prepared = g.prepared;
+      beyond = beyond_on b g.beyond;
+    }
 
 -- Where too few are left, none is taken.
 few_left : (b : Bool) (ws : List ℕ) (w : ℕ) {u v : ℕ} → cond b (taken ws w) (too_few u) ≡ too_few v → u ≡ v
@@ -281,22 +297,14 @@ module _ {tables terms : List ℕ} (numbers : List ℕ) {used made : ℕ} {w : W
             → Tries (try s q) tables terms numbers used made (used + 1) t w v
         unfolding beginning
         tried_once s {t} {v} g =
-            let u = started_uses in
-            record {
-              outcome = λ fs. try_started s q (numbers_of numbers) (at used made fs) (ap (λ m. take_words (start_words m) (numbers_of numbers) used) (sym named) ∙ drew.1)
-                  ∙ ap (λ a. run (flipping s q s.flips (record { bits = a; flips = [] })) (numbers_of numbers) (at after made fs)) (sym started_bits)
-                  ∙ g.outcome fs;
-              finds = if_reached t (λ f. record { bits = f.bits; satisfied = f.satisfied; uses = omega (arith, f.uses, u.0) }) g.finds;
-              uses = omega (arith, g.uses, u.0);
-              within = g.within;
-              flipped = g.flipped;
-              prepared = g.prepared;
-              beyond = beyond_on (record {
-                assignment = rw (← named, held_start) (drop_bytes n begin (drop n w.assignment) begin_size);
-                tallies = y.beyond;
-                marks = dropped_more mark_size column_size w.marks marks (omega arith) (cleared_beyond w.marks (omega (arith, k.columns)) z);
-              }) g.beyond;
-            }
+            ends_as g (omega (arith, started_uses.0)) started_uses.0 (record {
+              assignment = rw (← named, held_start) (drop_bytes n begin (drop n w.assignment) begin_size);
+              tallies = y.beyond;
+              marks = dropped_more mark_size column_size w.marks marks (omega arith) (cleared_beyond w.marks (omega (arith, k.columns)) z);
+            })
+            (λ fs. try_started s q (numbers_of numbers) (at used made fs) (ap (λ m. take_words (start_words m) (numbers_of numbers) used) (sym named) ∙ drew.1)
+            ∙ ap (λ a. run (flipping s q s.flips (record { bits = a; flips = [] })) (numbers_of numbers) (at after made fs)) (sym started_bits)
+            ∙ g.outcome fs)
 
   pub no_start : (s : Settings) {gone : Short} {v : Work} → used ≤ length numbers / 4 → r ≡ Err gone
       → v.assignment ≡ bytes → v.tallies ≡ w.tallies → v.marks ≡ w.marks
@@ -379,33 +387,17 @@ module _ {s : Settings} {tables terms numbers : List ℕ} {begun : Spent} {w : W
           }
 
       pub calls_found : {found : Spent} → t ≡ Ok found → Tries (call s o) tables terms numbers begun.used begun.flips (begun.used + 1) (Ok found) w u
-      unfolding tried_of spent_by IfReached
+      unfolding tried_of
       calls_found e =
           let g = told e in
-          record {
-            outcome = λ fs. again fs ∙ trying_found s o (numbers_of numbers) (at spent.used spent.flips fs) (s.tries - (turn + 1)) (g.outcome fs);
-            finds = record { bits = g.finds.bits; satisfied = g.finds.satisfied; uses = omega (arith, g.finds.uses, i.uses) };
-            uses = omega (arith, i.uses, g.uses);
-            within = g.within;
-            flipped = g.flipped;
-            prepared = g.prepared;
-            beyond = beyond_on i.beyond g.beyond;
-          }
+          ends_as g i.uses (omega (arith, i.uses)) i.beyond (λ fs. again fs ∙ trying_found s o (numbers_of numbers) (at spent.used spent.flips fs) (s.tries - (turn + 1)) (g.outcome fs))
 
       pub calls_gone : {gone : Spent} → t ≡ Err (stop.Short gone)
           → Tries (call s o) tables terms numbers begun.used begun.flips (begun.used + 1) (Err (stop.Short gone)) w u
-      unfolding tried_of spent_by IfReached
+      unfolding tried_of
       calls_gone e =
           let g = told e in
-          record {
-            outcome = λ fs. again fs ∙ trying_short s o (numbers_of numbers) (at spent.used spent.flips fs) (s.tries - (turn + 1)) (g.outcome fs);
-            finds = tt;
-            uses = omega (arith, i.uses, g.uses);
-            within = g.within;
-            flipped = g.flipped;
-            prepared = g.prepared;
-            beyond = beyond_on i.beyond g.beyond;
-          }
+          ends_as g i.uses (omega (arith, i.uses)) i.beyond (λ fs. again fs ∙ trying_short s o (numbers_of numbers) (at spent.used spent.flips fs) (s.tries - (turn + 1)) (g.outcome fs))
 
   pub calls_end : s.tries ≤ turn → Tries (call s o) tables terms numbers begun.used begun.flips (begun.used + 1) (Err (stop.Failed spent)) w v
   unfolding tried_of spent_by IfReached
@@ -436,16 +428,8 @@ module _ {tables terms : List ℕ} {w : Work} (k : Startable tables terms w) {ta
       → Tries walk tables terms numbers used flips least r (record { assignment = w.assignment; tallies = tallies; marks = marks }) v
       → Tries walk tables terms numbers used flips least r w v
   tried_prepared t =
-      record {
-        outcome = t.outcome;
-        finds = t.finds;
-        uses = t.uses;
-        within = t.within;
-        flipped = t.flipped;
-        prepared = t.prepared;
-        beyond = beyond_on (record {
-          assignment = refl;
-          tallies = g.3.beyond kept_size (omega arith) k.room;
-          marks = g.4.beyond column_size (omega arith) k.columns;
-        }) t.beyond;
-      }
+      ends_as t (omega arith) (omega arith) (record {
+        assignment = refl;
+        tallies = g.3.beyond kept_size (omega arith) k.room;
+        marks = g.4.beyond column_size (omega arith) k.columns;
+      }) t.outcome

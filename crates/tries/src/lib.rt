@@ -33,8 +33,8 @@ pub struct Spent {
 // Why a try or a call reached no assignment, with what is spent then.
 pub type Unreached = Stop<Spent>;
 
-// How a try ends where no flip was made: stuck, it fails; else too few numbers were left. A `map` over a closure would carry the two reasons on; its clause
-// would be told of the closure, here it is told of the two arms.
+// How a try ends where no flip was made: it fails where the clause has no variable to choose, and else too few numbers were left. A `map` over a closure would
+// carry the two reasons on; its clause would be told of the closure, here it is told of the two arms.
 fn stopped(why: Unmoved, flips: usize) -> Unreached
     ensures { result ≡ stopped_at why flips }
 {

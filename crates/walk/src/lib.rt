@@ -1,7 +1,8 @@
 // The search of tables that are known to fit: the first call with the plan alone, then the tightening.
 // The buffers to write come one by one: one is read while another is written, which a struct of them would not let be proved.
 // What is only read comes one by one as well, as C hands it over (see `search`).
-// The numbers and the settings stay two: a struct of them would be made at the top only to be taken apart at the bottom.
+// Numbers and settings stay two: no fact ties them, and each contract speaks of them apart (`numbers.now`, `settings_of s`), so that a struct would only
+// lengthen it.
 #![tactic(auto)]
 
 ghost use Rattle.std.specs.Prelude.{◌≡◌, drop};
@@ -17,8 +18,7 @@ use progress::Searched;
 use settings::Settings;
 use tries::{Spent, Unreached};
 
-// From the first call on: it found nothing, or the search goes on from its find. `nothing` takes the whole result, since a reason alone would be a narrower
-// type, which asks more of callers.
+// From the first call on: it found nothing, or the search goes on from its find. Why `nothing` takes the whole result stands there.
 fn from_call(
     t: Result<Spent, Unreached>,
     numbers: &[u8],

@@ -10,8 +10,8 @@ use Rattle.costs.proofs.least.Goals as goal
 pub overflow_add-i : goal.overflow_add-i
 overflow_add-i c = omega (arith, c.requires.0)
 
-pub index-requires : goal.index-requires
-index-requires c = omega (arith, c.requires.0, c.requires.1)
+pub word-requires : goal.word-requires
+word-requires c = omega (arith, c.requires.0, c.requires.1)
 
 pub coefficient-requires : goal.coefficient-requires
 coefficient-requires c = omega (arith, c.requires.0, c.requires.1)
@@ -21,4 +21,4 @@ unfolding least_at
 returns c =
     to_z-of_z {w = w64} (record { sfits = c.least_by.type_inv })
     ∙ c.least_by.ensures
-    ∙ ap₂ least_by c.index.ensures (to_z-of_z {w = w64} (record { sfits = c.coefficient.type_inv }) ∙ c.coefficient.ensures)
+    ∙ ap₂ least_by c.word.ensures (to_z-of_z {w = w64} (record { sfits = c.coefficient.type_inv }) ∙ c.coefficient.ensures)

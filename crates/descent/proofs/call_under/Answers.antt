@@ -26,10 +26,6 @@ keep_find-requires c =
     let u = under_bounded c.requires.0 c.args.bound c.requires.2 c.set_bound.ensures in
     (bounded_summable u, omega (arith, bounded_word u, c.requires.0.tried, c.call.auto.assignment), omega (arith, bounded_word u, c.requires.0.find))
 
-pub overflow_add-result : goal.overflow_add-result
-overflow_add-result c =
-    omega (arith, c.requires.1.finds, c.requires.1.within, c.well_formed.1.1.0)
-
 pub returns-in-Ok : goal.returns-in-Ok
 returns-in-Ok c =
     called_found c.requires.0 c.args.bound c.requires.2 c.set_bound.ensures _ c.requires.1

@@ -1,9 +1,6 @@
 -- The goals that the search leaves.
-use Rattle.progress.proofs.Concluding.{cost_low, floor_low, test_above, test_floor, bound_read, bound_small, since_first, room_here, tracks_here, descent_ends, descent_falls, descent_again, descent_stops, handed_on}
+use Rattle.progress.proofs.Concluding.{cost_low, floor_low, test_above, test_floor, bound_read, bound_small, room_here, tracks_here, descent_ends, descent_falls, descent_again, descent_stops, handed_on}
 use Rattle.descent.proofs.descend.Goals as goal
-
-pub loop-at-init : goal.loop-at-init
-loop-at-init c = since_first c.requires.0 c.requires.1
 
 pub bound_for-requires : goal.bound_for-requires
 bound_for-requires c =

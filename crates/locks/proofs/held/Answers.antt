@@ -1,22 +1,20 @@
--- `held` meets its contract, by the three words of a lock.
+-- `held` meets its contract, by the lock that the word tells.
 -- Assumes nothing.
-use native.Mathlib.Omega.{arith}
-use mathlib.Core.Path.{◌≡◌, refl}
-use borrow.Author.Tests.{ne_eqb}
+use mathlib.Core.Bool.{Bool, true, false, cond}
+use mathlib.Core.Path.{◌≡◌, refl, ◌∙◌}
+use mir.Val.{bool_byte}
+use Rattle.format.proofs.LockTold.{told}
 use Rattle.locks.specs.Held.{held_by}
 use Rattle.locks.proofs.held.Goals as goal
 
-pub returns-in-0 : goal.returns-in-0
-unfolding held_by
-returns-in-0 c = rw c.in-0.is refl
+bit : (b : Bool) → bool_byte b ≡ cond b 1 0
+bit true = refl
+bit false = refl
 
-pub returns-in-1 : goal.returns-in-1
+pub returns-in-None : goal.returns-in-None
 unfolding held_by
-returns-in-1 c = rw c.in-1.is refl
+returns-in-None c = told c.args.byte 0 1 c.args.lock c.lock_of.ensures c.in-None.is
 
-pub returns-in_default : goal.returns-in_default
+pub returns-in-Some : goal.returns-in-Some
 unfolding held_by
-returns-in_default c =
-    let free : c.args.lock ≡ 0 → ⊥ = λ e. omega arith in
-    let low : c.args.lock ≡ 1 → ⊥ = λ e. omega arith in
-    rw (ne_eqb _ _ free, ne_eqb _ _ low)
+returns-in-Some c = c.from.ensures ∙ bit _ ∙ told c.args.byte 0 1 c.args.lock c.lock_of.ensures c.in-Some.is

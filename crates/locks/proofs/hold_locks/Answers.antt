@@ -23,7 +23,7 @@ loop-i-preserved c =
     ap (λ (s : List ℕ). get_or s loop.i 0) loop.invariant ∙ not_yet xs (take n bytes) loop.i (omega arith) (omega arith) ∙ get_or-take n bytes loop.i 0 l in
     ap (λ (s : List ℕ). set s loop.i c.held.result) loop.invariant
     ∙ write_more xs (take n bytes) loop.i c.held.result (omega arith) (omega arith)
-    (c.held.ensures ∙ ap₂ held_by c.index.ensures read ∙ sym (held_at c.args.tables.now n bytes loop.i l))
+    (c.held.ensures ∙ ap₂ held_by c.word.ensures read ∙ sym (held_at c.args.tables.now n bytes loop.i l))
 
 pub returns : goal.returns
 unfolding held_bytes

@@ -21,11 +21,6 @@ choose_in-requires c =
     let k = c.requires.0.prepared in
     to_choose k.weighed k.listed c.requires.1 c.index-some.ensures c.if-some-eq0.false c.requires.2
 
-pub invariant_of-footing : goal.invariant_of-footing
-invariant_of-footing c =
-    let k = c.requires.0 in
-    record { ready = k.ready; bits = k.bits; fresh = k.fresh; sized = k.prepared.sized; needed = k.needed }
-
 pub flip_kept-requires : goal.flip_kept-requires
 flip_kept-requires c =
     keepable c.requires.0 (chosen_among c.choose_in.ensures.0 c.in_ok-chosen.was) c.choose_in.ensures.1

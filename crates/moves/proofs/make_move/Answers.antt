@@ -6,9 +6,6 @@ use Rattle.recount.proofs.Laid.{tables_long, clauses_few}
 use Rattle.moves.proofs.Moving.{tally_room, unsatisfied_few, picked_there, picked_within, picked_uses, picked_moves, gone_moves, told_on}
 use Rattle.moves.proofs.make_move.Goals as goal
 
-pub index-unsatisfied-requires : goal.index-unsatisfied-requires
-index-unsatisfied-requires c = tally_room c.requires.0
-
 pub pick-requires : goal.pick-requires
 pick-requires c =
     (omega (arith, c.requires.1, c.index-unsatisfied.ensures), omega (arith, unsatisfied_few c.requires.0, c.index-unsatisfied.ensures), c.requires.2)

@@ -5,9 +5,6 @@ use Rattle.numbers.proofs.Taking.{handed_on}
 use Rattle.picking.proofs.Picking.{place_found, word_picked, words_gone}
 use Rattle.picking.proofs.pick_listed.Goals as goal
 
-pub pick-requires : goal.pick-requires
-pick-requires c = let y = c.requires in (y.some, omega (arith, y.few), y.listed)
-
 pub overflow_add-at : goal.overflow_add-at
 overflow_add-at c = let y = c.requires in omega (arith, y.inside, place_found y c.pick.ensures c.in_ok-drawn.was)
 

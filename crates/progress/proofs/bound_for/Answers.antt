@@ -8,16 +8,10 @@ use Rattle.settings.specs.Settings.{mode_in}
 use Rattle.progress.proofs.Concluding.{bound_linear, bound_lbs}
 use Rattle.progress.proofs.bound_for.Goals as goal
 
-pub linear_bound-requires : goal.linear_bound-requires
-linear_bound-requires c = rw (to_z-of_z c.ranges.cost) c.requires.1
-
 pub returns-in-Linear : goal.returns-in-Linear
 returns-in-Linear c =
     to_z-of_z {w = w64} (record { sfits = c.linear_bound.type_inv }) ∙ c.linear_bound.ensures ∙ ap linear_bound (to_z-of_z c.ranges.cost) ∙ bound_linear c.args.least c.args.cost
     ∙ ap (λ m. bound_in m c.args.least c.args.cost) (sym (ap mode_in c.in-Linear.is) ∙ c.from.ensures)
-
-pub lbs_bound-requires : goal.lbs_bound-requires
-lbs_bound-requires c = rw (to_z-of_z c.ranges.cost, to_z-of_z c.ranges.least) c.requires
 
 pub returns-in-Lbs : goal.returns-in-Lbs
 returns-in-Lbs c =

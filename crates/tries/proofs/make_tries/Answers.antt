@@ -5,10 +5,6 @@ use Rattle.tries.proofs.make_tries.Goals as goal
 pub loop-try-init : goal.loop-try-init
 loop-try-init c = calls_begin _ c.requires.0 c.requires.1 c.requires.2 c.requires.3
 
-pub try_once-requires : goal.try_once-requires
-try_once-requires c =
-    (c.loop-try.invariant.startable, c.loop-try.invariant.within, c.loop-try.invariant.flipped, c.loop-try.invariant.prepared)
-
 pub returns-in-Ok : goal.returns-in-Ok
 returns-in-Ok c = calls_found c.loop-try.invariant c.loop-try-test.true c.try_once.ensures c.in-Ok.is
 

@@ -3,7 +3,7 @@
 use native.Mathlib.Omega.{arith}
 use mathlib.Core.Path.{refl}
 use Rattle.recount.proofs.Laid.{tables_long, variables_word}
-use Rattle.tries.proofs.Trying.{started_uses, started_holdable, started_ready, started_stamps, started_walking, tried_once, no_start}
+use Rattle.tries.proofs.Trying.{started_uses, started_holdable, started_stamps, started_walking, tried_once, no_start}
 use Rattle.tries.proofs.try_once.Goals as goal
 
 pub index-n-requires : goal.index-n-requires
@@ -20,16 +20,6 @@ returns-in_default c =
 pub hold_locks-requires : goal.hold_locks-requires
 hold_locks-requires c =
     started_holdable _ c.requires.0 c.requires.2 c.requires.3 c.index-n.ensures c.start.ensures c.in-Ok.is c.assignment-1.given
-
-pub open_kept-requires : goal.open_kept-requires
-open_kept-requires c = (
-  (started_ready _ c.requires.0 c.requires.2 c.requires.3 c.index-n.ensures c.start.ensures c.in-Ok.is c.hold_locks.ensures c.assignment-2-1.given
-      c.assignment-1.given).bytes,
-  c.requires.3.sized,
-)
-
-pub clear_stamps-requires : goal.clear_stamps-requires
-clear_stamps-requires c = omega (arith, c.requires.0.columns)
 
 pub make_flips-requires : goal.make_flips-requires
 make_flips-requires c =

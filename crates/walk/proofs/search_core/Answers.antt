@@ -15,6 +15,3 @@ returns c =
     let f = c.first_call-t.ensures in
     let k = c.from_call.ensures in
     (first_whole h f k.0, k.1 ∙ first_table h f, k.2 ∙ first_terms h f)
-
-pub first_call-t-requires : goal.first_call-t-requires
-first_call-t-requires c = searchable_copy c.requires
