@@ -21,13 +21,14 @@ pub fn minus(a: i32, b: i32) -> i32
     a - b
 }
 
-// A weight where it is negative, else 0; and where it is not.
+// This is a weight where it is negative, else 0.
 pub fn negative(weight: i32) -> i32
     ensures { result ≡ negative_part weight }
 {
     weight.min(0)
 }
 
+// This is a weight where it is not negative, else 0.
 pub fn positive(weight: i32) -> i32
     ensures { result ≡ positive_part weight }
 {

@@ -81,7 +81,8 @@ impl Entries<'_> {
     }
 }
 
-// How many of n words behind an index are not 0.
+// How many of n words behind an index are not 0. The library has a law of what a chain over `a..b` yields, and none for `a..=b`: with `1..=n` the count did not
+// follow from it.
 pub fn some_words(tables: &[u8], base: usize, n: usize) -> usize
     requires { (4 * (base + n) + 4 ≤ length tables.now) × (n < 4_294_967_296) }
     ensures { (result ≡ length (sparse (λ x. signed (word_at tables.now (base + x))) 0 n)) × (result ≤ n) }

@@ -19,18 +19,13 @@ use Rattle.format.proofs.Bools.{and_left, and_right, and_join}
 use Rattle.format.proofs.Lawful.{LawfulPlan, clause_lawful, clause_whole, terms_parts, plan_whole}
 use Rattle.statements.specs.Grammar.{is_comment, is_objective, is_constraint, sum_from, sum_at, sum_end, has_terms, is_bounded, constraint_formed, terms_in, is_exact, bound_at, rule_at}
 use Rattle.opb_lines.specs.ReadText.{variables_in, constraints_in, first_formed, starts, objective_of, plan_of_text, objective_fault, constraint_fault, fault, judging, read_text}
-use Rattle.opb_judge.proofs.Faults.{met_none, constraint_few}
+use Rattle.opb_judge.proofs.Faults.{met_none, refused_zero, constraint_few}
 
 refused_accepted : {A : Type 0} {n o : ℕ} {p : Plan} → ◌≡◌ {A = Reading Plan} (refused n o) (accepted p) → A
 refused_accepted e = absurd (let z : ◌≡◌ {A = ℕ} 0 1 = cc in omega arith)
 
 plan_same : {p q : Plan} → ◌≡◌ {A = Reading Plan} (accepted p) (accepted q) → q ≡ p
 plan_same e = cc
-
-refuse_zero : (b : Bool) (x : ℕ) → refuse b 31 x ≡ 0 → (b ≡ false) × (x ≡ 0)
-unfolding refuse
-refuse_zero true x h = absurd (omega arith)
-refuse_zero false x h = (refl, h)
 
 -- A constraint has a sum and a bound.
 abbrev pub stated : List ℕ → ℕ → Bool
@@ -40,7 +35,7 @@ stated s at = has_terms s at and is_bounded s (sum_end s at)
 module _ (s : List ℕ) (free : Bool) (c t at : ℕ) (h : fault (variables_in s) s free c t at ≡ 0) (k : is_comment s at ≡ false) where
   two : (is_empty (terms_in s at) ≡ false) × (cond (is_objective s at) (objective_fault (variables_in s) s free at) (constraint_fault (variables_in s) s c t at) ≡ 0)
   unfolding fault
-  two = refuse_zero _ _ (ap (λ b. cond b 0 (refuse (is_empty (terms_in s at)) 31 (cond (is_objective s at) (objective_fault (variables_in s) s free at) (constraint_fault (variables_in s) s c t at)))) (sym k) ∙ (refuse_zero _ _ h).1)
+  two = refused_zero _ _ (ap (λ b. cond b 0 (refuse (is_empty (terms_in s at)) 31 (cond (is_objective s at) (objective_fault (variables_in s) s free at) (constraint_fault (variables_in s) s c t at)))) (sym k) ∙ (refused_zero _ _ h).1)
 
   objective_lawful : is_objective s at ≡ true → terms_lawful (variables_in s) (terms_in s at) ≡ true
   unfolding objective_fault

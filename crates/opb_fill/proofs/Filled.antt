@@ -135,6 +135,10 @@ pub first_behind :
     {such : List ℕ → ℕ → Bool} {s : List ℕ} {at : ℕ} {u v : Text} → Behind next_line s at u → Reads (FirstFrom such) u v → FirstFrom such s (next_line s at) v
 first_behind b r = rw (sym b.at, sym b.bytes) r
 
+-- What is reached from behind the first line of a text of which nothing is read yet.
+pub first_reached : {s : List ℕ} (t : Text) {u : Text} → (t.bytes.now ≡ s) × (t.at ≡ 0) → Reaches t.bytes.now (read next_line t) u → Reaches s (next_line s 0) u
+first_reached t (e, f) r = rw (sym e, sym f) r
+
 -- What is reached is in the text.
 pub reached : {s : List ℕ} {from : ℕ} {u : Text} → Reaches s from u → u.at ≤ length s
 reached {s} {from} {u} r = omega (arith, u.within, ap length r.bytes)

@@ -64,6 +64,7 @@ fn put_rule(t: Text<'_>, first: usize, out: &mut [u8]) -> usize
     ensures { (result ≡ length (read sum_at t.entry))
         × (out.new ≡ front (word_bytes (rule_entries first (read rule_at t.entry ∷ []))) out.old) }
 {
+    // The text was judged before, so that what `sum_at` judges by the way is not asked, and any number of variables serves.
     let sum = sum_at(t, 0).unwrap();
     let relation = relation_at(sum.rest).unwrap();
     let bound = signed_word(relation.bound);
@@ -127,7 +128,7 @@ fn put_coefficients(t: Text<'_>, out: &mut [u8])
 fn objective_begins(s: &[u8]) -> Text<'_>
     ensures { read sum_at result ≡ objective_of s.now (lines_from s.now (next_line s.now 0)) }
 {
-    let text = first_from(Kind::Objective, next_line(Text { bytes: s, at: 0 }));
+    let text = first_from(Kind::Objective, next_line(Text::from(s)));
     if text.at < text.bytes.len() {
         objective_sum(text)
     } else {
@@ -167,10 +168,7 @@ impl<'a> Lawful<'a> {
         ensures { (result.rules ≡ length (rules_of (plan_of_text self.entry.text.now))) × (result.terms ≡ term_count (plan_of_text self.entry.text.now))
             × (out.new ≡ word_bytes (rule_words (plan_of_text self.entry.text.now))) }
     {
-        let mut text = constraint_behind(Text {
-            bytes: self.text,
-            at: 0,
-        });
+        let mut text = constraint_behind(Text::from(self.text));
         let mut rules = 0;
         let mut first = 0;
         while text.at < text.bytes.len() {
@@ -193,10 +191,7 @@ impl<'a> Lawful<'a> {
         requires terms_len { length terms.old ≡ term_size }
         ensures { terms.new ≡ word_bytes (term_words (plan_of_text self.entry.text.now)) }
     {
-        let mut text = constraint_behind(Text {
-            bytes: self.text,
-            at: 0,
-        });
+        let mut text = constraint_behind(Text::from(self.text));
         let mut end = 0;
         while text.at < text.bytes.len() {
             end += put_sum(text, &mut terms[end..]);

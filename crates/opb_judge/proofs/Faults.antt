@@ -11,7 +11,7 @@ use lib.ListN.{length, get_or}
 use borrow.Author.Tests.{le-leb, lt-leb, leb-false, ltb-false}
 use Rattle.plpb.specs.Lists.{◌or◌, is_empty}
 use Rattle.format.specs.File.{refuse}
-use Rattle.std.specs.Prelude.{Option, Some, None, is_some}
+use Rattle.std.specs.Prelude.{Option, Some, None, is_some, MatchOption}
 use Rattle.tokens.specs.Tokens.{line_end, number_at, begins, word_end, seen}
 use Rattle.tokens.specs.declared.text.Text.{Text}
 use Rattle.tokens.specs.Found.{left, Reads, Behind, takes, Found}
@@ -22,6 +22,7 @@ use Rattle.statements.specs.Grammar.{unsigned_from, integer_at, bound_from, boun
 use Rattle.statements.specs.Parts.{behind_min, SumAt}
 use Rattle.statements.proofs.Parts.{size_signed}
 use Rattle.std.specs.Prelude.{Result, Ok, Err}
+use Rattle.std.specs.Option.{ok_or}
 use Rattle.opb_judge.specs.declared.Fault.{Fault}
 use Rattle.opb_judge.specs.declared.Fault.TheVariants.{TermsUnlawful}
 use Rattle.opb_judge.specs.Steps.{number_of, Finds, Unless}
@@ -91,9 +92,24 @@ unfolding first_met refuse
 lawful_last e h k l (Ok u) m = rw (h, k, l, m)
 lawful_last e h k l (Err f) (m, f_is) = rw (h, k, l, m, f_is)
 
+same_fault : {A E : Type 0} {f g : E} → ◌≡◌ {A = Result A E} (Err f) (Err g) → f ≡ g
+same_fault e = cc
+
+same_found : {A E : Type 0} {x y : A} → ◌≡◌ {A = Result A E} (Ok x) (Ok y) → x ≡ y
+same_found e = cc
+
 -- What is told of a statement is told of its line.
 pub told_on : {n m : ℕ} → n ≡ m → {f g : Fault} → g ≡ f → number_of f ≡ n → number_of g ≡ m
 told_on e p q = ap number_of p ∙ q ∙ e
+
+-- What is not there is the fault that stands for it, and what is there is found.
+pub not_there : {A E : Type 0} (r : Option A) (p : Type 0) (q : A → Type 0) → MatchOption r p q → {f e : E} → ◌≡◌ {A = Result A E} (Err f) (ok_or r e) → p × (f ≡ e)
+not_there None p q h e = (h, same_fault e)
+not_there (Some x) p q h e = cc
+
+pub there : {A E : Type 0} (r : Option A) (p : Type 0) (q : A → Type 0) (f : E) → MatchOption r p q → {x : A} → ◌≡◌ {A = Result A E} (Ok x) (ok_or r f) → q x
+there None p q f h e = cc
+there (Some y) p q f h e = rw (same_found e) h
 
 -- "min:" is there where its end is behind its place.
 pub named_is : (t : Text) (r : Option Text) → Found (begins min_word (left t)) (Reads (Behind (word_end min_word)) t) r → is_some r ≡ takes (word_end min_word) t

@@ -29,7 +29,7 @@ use Rattle.opb_lines.proofs.Lines.{lines_here, lines_none, lines_behind}
 use Rattle.opb_judge.specs.declared.Passed.{Passed}
 use Rattle.opb_judge.specs.declared.Fault.{Fault}
 use Rattle.opb_judge.specs.declared.Fault.TheVariants.{Malformed, VariableAbove, ConstraintsMiscounted, OutOfRange, TermsUnlawful, BoundWide}
-use Rattle.std.specs.Prelude.{Result, Ok, Err, Some}
+use Rattle.std.specs.Prelude.{Result, Ok, Err, Some, MatchResult}
 use Rattle.opb_judge.specs.Steps.{number_of, OnFault, Steps}
 use Rattle.opb_judge.proofs.Faults.{refused_zero, constraint_few}
 
@@ -100,6 +100,15 @@ module _ (s : List ℕ) (at : ℕ) (p : Passed) (step : Result Passed Fault) (h 
             ∙ ap (λ ats. outcome (judging s p.free p.constraints p.terms ats)) (sym (lines_here s at l)),
         g.1,
       )
+
+-- What `map_err` was given: the fault that it turned into a refusal, or the value that it kept.
+pub turned : {X E D : Type 0} (r : Result X E) (y : D) (Q : E → Type 0) → MatchResult r (λ x. ◌≡◌ {A = Result X D} (Err y) (Ok x)) Q → (e : E) × (r ≡ Err e) × Q e
+turned (Ok x) y Q h = cc
+turned (Err e) y Q h = (e, refl, h)
+
+pub kept : {X E : Type 0} (D : Type 0) (r : Result X E) (v : X) (Q : E → Type 0) → MatchResult r (λ x. ◌≡◌ {A = Result X D} (Ok v) (Ok x)) Q → ((e : E) → Q e → ⊥) → r ≡ Ok v
+kept D (Ok x) v Q h never = cc
+kept D (Err e) v Q h never = absurd (never e h)
 
 -- Behind the last line.
 module _ (s : List ℕ) (at : ℕ) (p : Passed) (h : length s ≤ at) (few : p.constraints ≤ 512) {m : ℕ} (e : m ≡ seen (constraints_in s)) where

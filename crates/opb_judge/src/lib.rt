@@ -6,14 +6,14 @@ ghost use Rattle.tokens.specs.Tokens.{line_end, seen};
 ghost use Rattle.tokens.specs.Found.{read};
 ghost use Rattle.statements.specs.Grammar.{is_objective, sum_from, closes, sum_at};
 ghost use Rattle.statements.specs.Parts.{SumAt};
-ghost use Rattle.verdict.specs.Answers.{Refused, outcome};
+ghost use Rattle.verdict.specs.Answers.{outcome};
 ghost use Rattle.opb_lines.specs.ReadText.{variables_in, constraints_in, starts, judging, read_text};
 ghost use Rattle.opb_judge.specs.Steps.{objective_line, constraint_line, number_of, Finds, Unless, OnFault, Steps};
 
 use faults::rules_full;
 use opb_lines::{first_line, next_line};
 use statements::{Kind, Sum, kind_at, objective_sum, relation_at, sum_at};
-use tokens::{Text, byte};
+use tokens::Text;
 use verdict::Refusal;
 
 // What the lines passed have: whether an objective may still stand, how many constraints there are, and how many terms these have.
@@ -67,7 +67,7 @@ pub struct Line<'a> {
 fn closed(t: Text<'_>, end: usize) -> bool
     ensures { result ≡ closes t.entry.bytes.now t.entry.at end }
 {
-    byte(t.bytes, t.at) == b';' && t.at + 1 == end
+    t.byte() == b';' && t.at + 1 == end
 }
 
 // A fault, where it is met.
@@ -77,16 +77,15 @@ fn fault_if(met: bool, fault: Fault) -> Result<(), Fault>
     if met { Err(fault) } else { Ok(()) }
 }
 
-// "32 for a variable above n, then 4 to 6 as in a plan": the first that a formed statement meets.
+// "32 for a variable above n, then 4 to 6 as in a plan": the first that a formed statement meets. Its three tests are joined by `&`, so that whether it is
+// formed is one fact of the proof and no way out.
 fn objective_fault(line: Line<'_>, sum: Sum<'_>, free: bool) -> Result<(), Fault>
     requires { SumAt line.text.bytes.now (read sum_from line.text) (variables_in line.text.bytes.now) sum }
     ensures { Finds (objective_line line.entry.text.bytes.now free line.entry.text.at) result }
 {
     let named = line.text.past_word(b"min:").is_some();
     let formed = free & (named & closed(sum.rest, line.end));
-    if !formed {
-        return Err(Fault::Malformed);
-    }
+    fault_if(!formed, Fault::Malformed)?;
     fault_if(sum.above, Fault::VariableAbove)?;
     fault_if(!sum.lawful, Fault::TermsUnlawful)
 }
@@ -95,12 +94,8 @@ fn constraint_fault(line: Line<'_>, sum: Sum<'_>, passed: Passed) -> Result<(), 
     requires { SumAt line.text.bytes.now line.text.at (variables_in line.text.bytes.now) sum × (read is_objective line.text ≡ false) }
     ensures { Finds (constraint_line line.entry.text.bytes.now passed.constraints passed.terms line.entry.text.at) result }
 {
-    let Some(relation) = relation_at(sum.rest) else {
-        return Err(Fault::Malformed);
-    };
-    if !closed(relation.rest, line.end) {
-        return Err(Fault::Malformed);
-    }
+    let relation = relation_at(sum.rest).ok_or(Fault::Malformed)?;
+    fault_if(!closed(relation.rest, line.end), Fault::Malformed)?;
     fault_if(sum.above, Fault::VariableAbove)?;
     // "4: [..] the 513th clause, [..] or a field that brings terms of rules above 6,000."
     let full = rules_full::<512>(passed.constraints, passed.terms, sum.count);
@@ -114,9 +109,7 @@ fn objective_step(line: Line<'_>, passed: Passed) -> Result<Passed, Fault>
     ensures { OnFault (objective_line line.entry.text.bytes.now passed.free line.entry.text.at)
         (record { free = false; constraints = passed.constraints; terms = passed.terms }) result }
 {
-    let Some(sum) = sum_at(objective_sum(line.text), line.n) else {
-        return Err(Fault::Malformed);
-    };
+    let sum = sum_at(objective_sum(line.text), line.n).ok_or(Fault::Malformed)?;
     objective_fault(line, sum, passed.free)?;
     Ok(Passed {
         free: false,
@@ -129,9 +122,7 @@ fn constraint_step(line: Line<'_>, passed: Passed) -> Result<Passed, Fault>
     ensures { OnFault (constraint_line line.entry.text.bytes.now passed.constraints passed.terms line.entry.text.at)
         (record { free = false; constraints = passed.constraints + 1; terms = passed.terms + length (read sum_at line.entry.text) }) result }
 {
-    let Some(sum) = sum_at(line.text, line.n) else {
-        return Err(Fault::Malformed);
-    };
+    let sum = sum_at(line.text, line.n).ok_or(Fault::Malformed)?;
     constraint_fault(line, sum, passed)?;
     Ok(Passed {
         free: false,
@@ -145,9 +136,7 @@ fn judge_line(text: Text<'_>, n: u32, passed: Passed) -> Result<Passed, Fault>
     ensures { Steps text.entry.bytes.now text.entry.at passed result }
 {
     let end = text.line_end().at;
-    if end == text.bytes.len() {
-        return Err(Fault::Malformed);
-    }
+    fault_if(end == text.bytes.len(), Fault::Malformed)?;
     let line = Line { text, end, n };
     match kind_at(text.bytes, text.at) {
         Kind::Comment => Ok(passed),
@@ -156,36 +145,33 @@ fn judge_line(text: Text<'_>, n: u32, passed: Passed) -> Result<Passed, Fault>
     }
 }
 
-fn refused(fault: Fault, at: usize) -> Result<(), Refusal>
-    ensures { result ≡ Refused (number_of fault) at }
+fn refusal(fault: Fault, at: usize) -> Refusal
+    ensures { result ≡ record { number = number_of fault; offset = at } }
 {
-    Err(Refusal {
+    Refusal {
         number: u32::from(fault),
         offset: at,
-    })
+    }
 }
 
 fn judge_lines(s: &[u8], n: u32, constraints: u32) -> Result<(), Refusal>
     requires { (n ≡ variables_in s.now) × (n ≤ 512) × (constraints ≡ seen (constraints_in s.now)) }
     ensures { result ≡ outcome (judging s.now true 0 0 (starts 0 s.now)) }
 {
-    let mut text = next_line(Text { bytes: s, at: 0 });
+    let mut text = next_line(Text::from(s));
     let mut passed = Passed {
         free: true,
         constraints: 0,
         terms: 0,
     };
     while text.at < s.len() {
-        match judge_line(text, n, passed) {
-            Ok(behind) => passed = behind,
-            Err(fault) => return refused(fault, text.at),
-        }
+        passed = judge_line(text, n, passed).map_err(|f| refusal(f, text.at))?;
         text = next_line(text);
     }
     if passed.constraints == constraints as usize {
         Ok(())
     } else {
-        refused(Fault::ConstraintsMiscounted, 0)
+        Err(refusal(Fault::ConstraintsMiscounted, 0))
     }
 }
 
@@ -193,11 +179,9 @@ fn judge_lines(s: &[u8], n: u32, constraints: u32) -> Result<(), Refusal>
 pub fn judge_text(s: &[u8]) -> Result<(), Refusal>
     ensures { result ≡ outcome (read_text s.now) }
 {
-    let Some(first) = first_line(s) else {
-        return refused(Fault::Malformed, 0);
-    };
+    let first = first_line(s).ok_or(refusal(Fault::Malformed, 0))?;
     if !(1..=512).contains(&first.variables) {
-        return refused(Fault::OutOfRange, 0);
+        return Err(refusal(Fault::OutOfRange, 0));
     }
     judge_lines(s, first.variables, first.constraints)
 }

@@ -29,7 +29,7 @@ pub struct First {
 pub fn first_line(s: &[u8]) -> Option<First>
     ensures { Found (first_formed s.now) (FirstOf s.now) result }
 {
-    let behind = Text { bytes: s, at: 0 }.past_word(b"*")?;
+    let behind = Text::from(s).past_word(b"*")?;
     let variables = named_at(behind.past_blanks(), b"#variable=")?;
     let second = variables.rest.past_some_blanks()?;
     let constraints = named_at(second, b"#constraint=")?;

@@ -68,10 +68,13 @@ free p x e = rw e (go (is_variable p x))
     go true = refl
     go false = refl
 
-pub no_locks : (s : List ℕ) → replicate 2_048 0 ≡ word_bytes (lock_words (plan_of_text s))
+no_locks : (s : List ℕ) → replicate 2_048 0 ≡ word_bytes (lock_words (plan_of_text s))
 unfolding lock_words placed coefficient unsigned rising rising_above all plan_of_text
 no_locks s =
     dense 0 [] (λ x. lock_word (lock_of (plan_of_text s) x)) (omega arith) (record { rise = refl; within = refl }) (λ x l. free (plan_of_text s) x refl)
+
+pub zeros_free : (s : List ℕ) {n : ℕ} {z : List ℕ} → z ≡ replicate n 0 → n ≡ 2_048 → z ≡ word_bytes (lock_words (plan_of_text s))
+zeros_free s e f = e ∙ ap (λ n. replicate n 0) f ∙ no_locks s
 
 module _ (s : List ℕ) (e : Says s) where
   accepted_tables : (t : List ℕ) → front (word_bytes (table_words (plan_of_text s))) t ≡ tables_of (read_text s) t

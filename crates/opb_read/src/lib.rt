@@ -5,7 +5,7 @@
 // The buffers to write come one by one: one is read while another is written, which a struct of them would not let be proved.
 #![tactic(auto)]
 
-ghost use Rattle.std.specs.Prelude.{◌≡◌, ◌≤◌, length, replicate};
+ghost use Rattle.std.specs.Prelude.{◌≡◌, ◌≤◌, length};
 ghost use Rattle.words.specs.Words.{word_bytes};
 ghost use Rattle.words.specs.Writes.{front};
 ghost use Rattle.format.specs.Tables.{base_words, term_words, table_size, term_size};
@@ -18,14 +18,6 @@ use opb_judge::judge_text;
 use opb_lines::first_line;
 use tables::entries::put_head;
 use verdict::Refusal;
-
-// No variable is locked. Written out at its one call, it would leave the part's length to be shown wherever what it wrote is used; here a clause states it.
-fn put_no_locks(out: &mut [u8])
-    requires { length out.old ≡ 2_048 }
-    ensures { out.new ≡ replicate 2_048 0 }
-{
-    out.fill(0);
-}
 
 // The table of counts, objective, clauses, rules and locks of an accepted text: all but the order of the terms.
 fn fill_tables(lawful: Lawful<'_>, tables: &mut [u8])
@@ -40,7 +32,8 @@ fn fill_tables(lawful: Lawful<'_>, tables: &mut [u8])
         &mut tables[format::CLAUSES_BYTE..format::RULES_BYTE],
     );
     let counted = lawful.rule_section(&mut tables[format::RULES_BYTE..format::LOCKS_BYTE]);
-    put_no_locks(&mut tables[format::LOCKS_BYTE..format::ENDS_BYTE]);
+    // No variable is locked.
+    tables[format::LOCKS_BYTE..format::ENDS_BYTE].fill(0);
     put_head(
         tables,
         first.variables,
@@ -65,10 +58,7 @@ pub fn read_opb(text: &[u8], tables: &mut [u8], terms: &mut [u8]) -> Result<(), 
     ensures terms_after { terms.new ≡ terms_read text.now tables.old terms.old }
 {
     if tables.len() < format::TABLES || terms.len() < format::TERMS {
-        return Err(Refusal {
-            number: 21,
-            offset: 0,
-        });
+        return Err(Refusal::TOO_SHORT);
     }
     judge_text(text)?;
     let lawful = Lawful { text };

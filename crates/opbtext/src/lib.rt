@@ -36,7 +36,9 @@ fn put_first(out: &mut [u8], at: usize, count: usize, lines: usize) -> usize
 
 impl Whole<'_> {
     // The objective's terms: a variable with the coefficient 0 has none. This loop and that of the locks have only their form in common: one function for both
-    // would take a closure that is lent the buffer anew at each call, whose clauses are all that the two loops say.
+    // would take a closure that is lent the buffer anew at each call, whose clauses are all that the two loops say. Both count from 0, as the definitions of
+    // what is put do (`dense_terms` and `lock_lines` have the variables above i): from 1 on, the clauses of a variable and both invariants would have x - 1 in
+    // place of i.
     fn put_coefficients(&self, out: &mut [u8], at: usize) -> usize
         requires { Room at (sum_bytes (coefficients self.now)) }
         ensures { Puts (sum_bytes (coefficients self.now)) at out.old out.new result }
@@ -64,8 +66,8 @@ impl Whole<'_> {
         put_bytes(out, b, b";\n")
     }
 
-    // The line of the variable above i, where it is locked. A lock is a word of the lent table, 0 for none, 1 or 2 for a value, as C sees it there. It goes no
-    // further than this function, so that an `Option` made of it would be opened in the next line.
+    // The line of the variable above i, where it is locked. A lock is a word of the lent table, 0 for none, 1 or 2 for a value, as the
+    // definition of the lines (`lock_lines`) asks it.
     fn put_locked(&self, out: &mut [u8], at: usize, i: usize) -> usize
         requires few { i < word_at self.now.tables.now 0 }
         requires room { Room at (lines_bytes (lock_lines self.now.tables.now i 1)) }

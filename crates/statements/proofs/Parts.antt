@@ -10,8 +10,8 @@ use lib.IntN.{ℤ, pos, nat_abs}
 use lib.ListN.{length, get_or, drop, drop_of_length-le, get_or-eq_default}
 use borrow.Author.Tests.{eq-eqb, ne_eqb, lt-ltb, lt-leb, leb-true, ltb-true, ltb-false}
 use Rattle.plpb.specs.Lists.{◌and◌, ◌or◌}
-use Rattle.plpb.proofs.Lists.{and_true, and_false}
-use Rattle.std.specs.Prelude.{Option, Some, None}
+use Rattle.plpb.proofs.Lists.{and_true, and_false, or_true}
+use Rattle.std.specs.Prelude.{Option, Some, None, is_some}
 use Rattle.format.proofs.Bools.{and_join}
 use Rattle.format.specs.Limits.{weight_lawful}
 use Rattle.bodies.specs.Terms.{term_lawful}
@@ -187,17 +187,22 @@ module _ (w : ℕ) (n : 0 < w) (t : Text) where
     unfolding word_end
     word_on = b.at ∙ rw there refl
 
+  -- It is there where the byte is.
+  pub byte_is : (r : Option Text) → Found (begins (w ∷ []) (left t)) (Reads (Behind (word_end (w ∷ []))) t) r → is_some r ≡ read (λ s at. eqb (get_or s at 0) w) t
+  byte_is None e = sym (no_word e)
+  byte_is (Some k) (e, b) = sym (word_of_one w t.bytes.now t.at n ∙ e)
+
 -- A sign is passed where one stands.
 pub sign_passed :
-    (t : Text) (plus minus : Option Text) → Found (begins (43 ∷ []) (left t)) (Reads (Behind (word_end (43 ∷ []))) t) plus
-    → Found (begins (45 ∷ []) (left t)) (Reads (Behind (word_end (45 ∷ []))) t) minus → Reads (Behind unsigned_from) t (unwrap_or (option_or plus minus) t)
+    (t : Text) (minus plus : Option Text) → Found (begins (45 ∷ []) (left t)) (Reads (Behind (word_end (45 ∷ []))) t) minus
+    → Found (begins (43 ∷ []) (left t)) (Reads (Behind (word_end (43 ∷ []))) t) plus → Reads (Behind unsigned_from) t (unwrap_or (option_or minus plus) t)
 unfolding unsigned_from ◌or◌
-sign_passed t None None p m = record { bytes = refl; at = rw (no_word 43 (omega arith) t p, no_word 45 (omega arith) t m) }
-sign_passed t None (Some k) p (m, b) = record {
+sign_passed t None None m p = record { bytes = refl; at = rw (no_word 43 (omega arith) t p, no_word 45 (omega arith) t m) }
+sign_passed t None (Some k) m (p, b) = record { bytes = b.bytes; at = rw (a_word 43 (omega arith) t p b) (word_on 43 (omega arith) t p b) }
+sign_passed t (Some k) plus (m, b) p = record {
   bytes = b.bytes;
-  at = rw (no_word 43 (omega arith) t p, a_word 45 (omega arith) t m b) (word_on 45 (omega arith) t m b);
+  at = rw (a_word 45 (omega arith) t m b, or_true (read (λ s at. eqb (get_or s at 0) 43) t)) (word_on 45 (omega arith) t m b);
 }
-sign_passed t (Some k) minus (p, b) m = record { bytes = b.bytes; at = rw (a_word 43 (omega arith) t p b) (word_on 43 (omega arith) t p b) }
 
 -- A relation is one of two words.
 pub relation_passed :
@@ -212,6 +217,12 @@ relation_passed t None (Some k) e (l, b) =
 relation_passed t (Some k) least (e, b) l =
     let is = a_word 61 (omega arith) t e b in
     (rw is (lt-ltb t.at (t.at + 1) (omega arith)), record { bytes = b.bytes; at = rw is (word_on 61 (omega arith) t e b) })
+
+pub relation_found :
+    (t : Text) (equal least : Option Text) {r : Option Text} → r ≡ option_or equal least → Found (begins (61 ∷ []) (left t)) (Reads (Behind (word_end (61 ∷ []))) t) equal
+    → Found (begins (62 ∷ 61 ∷ []) (left t)) (Reads (Behind (word_end (62 ∷ 61 ∷ []))) t) least
+    → Found (takes relation_end t) (Reads (Behind relation_end) t) r
+relation_found t equal least is e l = rw is (relation_passed t equal least e l)
 
 -- A number's size does not depend on its sign.
 pub size_signed : (b : Bool) (k : ℕ) → nat_abs (with_sign b k) ≡ k

@@ -2,14 +2,15 @@
 #![tactic(auto)]
 
 ghost use Rattle.std.specs.Prelude.{◌≡◌, ◌≤◌};
-ghost use Rattle.tokens.specs.Found.{read, Reads, takes, Behind, Found};
-ghost use Rattle.statements.specs.Grammar.{unsigned_from, is_integer, is_term, has_terms, relation_end, is_bounded};
+ghost use Rattle.tokens.specs.Found.{read, Reads, Behind, Found};
+ghost use Rattle.statements.specs.Grammar.{is_integer, is_term, has_terms, is_bounded};
 ghost use Rattle.statements.specs.Parts.{IsKind, behind_min, IntegerAt, WeightedAt, SumAt, RelationAt};
 
 use bodies::terms::term_fits;
 use tokens::{Text, byte};
 
-// What a line begins with tells its kind. Nothing is asked of the place where it begins, so that the place stays beside the text.
+// What a line begins with tells its kind. Nothing is asked of the place where it begins, so that the place stays beside the text: a `Text` would ask that it is
+// none beyond the end.
 #[derive(Clone, Copy, Debug, PartialEq, Eq)]
 pub enum Kind {
     Comment,
@@ -48,18 +49,13 @@ pub struct Integer<'a> {
     pub rest: Text<'a>,
 }
 
-fn past_sign(t: Text<'_>) -> Text<'_>
-    ensures { Reads (Behind unsigned_from) t.entry result }
-{
-    t.past_word(b"+").or(t.past_word(b"-")).unwrap_or(t)
-}
-
 pub fn integer_at(t: Text<'_>) -> Option<Integer<'_>>
     ensures { Found (read is_integer t.entry) (Reads IntegerAt t.entry) result }
 {
-    let number = past_sign(t).number()?;
+    let minus = t.past_word(b"-");
+    let number = minus.or(t.past_word(b"+")).unwrap_or(t).number()?;
     let value = Signed {
-        negative: byte(t.bytes, t.at) == b'-',
+        negative: minus.is_some(),
         size: number.value,
     };
     Some(Integer {
@@ -76,6 +72,7 @@ pub struct Weighted<'a> {
     pub rest: Text<'a>,
 }
 
+// An iterator of a sum's terms would need laws of what it yields, and `sum_at` needs the text behind the last term too.
 pub fn term_at(t: Text<'_>) -> Option<Weighted<'_>>
     ensures { Found (read is_term t.entry) (Reads WeightedAt t.entry) result }
 {
@@ -136,19 +133,14 @@ pub struct Relation<'a> {
     pub rest: Text<'a>,
 }
 
-fn past_relation(t: Text<'_>) -> Option<Text<'_>>
-    ensures { Found (takes relation_end t.entry) (Reads (Behind relation_end) t.entry) result }
-{
-    t.past_word(b"=").or(t.past_word(b">="))
-}
-
 pub fn relation_at(t: Text<'_>) -> Option<Relation<'_>>
     ensures { Found (read is_bounded t.entry) (Reads RelationAt t.entry) result }
 {
-    let behind = past_relation(t)?;
+    let equal = t.past_word(b"=");
+    let behind = equal.or(t.past_word(b">="))?;
     let bound = integer_at(behind.past_blanks())?;
     Some(Relation {
-        exact: byte(t.bytes, t.at) == b'=',
+        exact: equal.is_some(),
         bound: bound.value,
         rest: bound.rest.past_blanks(),
     })

@@ -119,6 +119,10 @@ unfolding word_end
 word_or word t None e = record { bytes = refl; at = rw e }
 word_or word t (Some k) (e, behind) = behind
 
+-- A text of which nothing is read yet.
+pub whole : {s : List ℕ} (t : Text) → (t.bytes.now ≡ s) × (t.at ≡ 0) → Behind (λ s at. at) s 0 t
+whole t (e, f) = record { bytes = e; at = f }
+
 -- What is read behind an item is read from where it ends, and what is behind an item behind another is behind both.
 module _ {end : List ℕ → ℕ → ℕ} {s : List ℕ} {at : ℕ} {u : Text} (b : Behind end s at u) where
   pub read_behind : {A : Type 0} (f : List ℕ → ℕ → A) → read f u ≡ f s (end s at)

@@ -9,7 +9,7 @@ ghost use Rattle.tokens.specs.Found.{left, Reads, Behind, takes, Found, NumberAt
 
 pub use text::Text;
 
-// The byte at a place, 0 beyond the end.
+// The byte at a place, 0 beyond the end: the definitions of the grammar read it so, and callers cite them.
 pub fn byte(s: &[u8], at: usize) -> u8
     ensures { result ≡ get_or s.now at 0 }
 {
@@ -35,6 +35,13 @@ pub struct Number<'a> {
 }
 
 impl<'a> Text<'a> {
+    // The first byte still to be read, 0 where none is.
+    pub fn byte(self) -> u8
+        ensures { result ≡ get_or self.entry.bytes.now self.entry.at 0 }
+    {
+        byte(self.bytes, self.at)
+    }
+
     // Behind the bytes that are such. The loop tells places of the whole text, which is what the clauses speak of: the library's `position` counts from the
     // part's start and lends each byte to its closure, so that both would be turned back.
     fn past_such<F: Fn(u8) -> bool>(self, such: F) -> Text<'a>

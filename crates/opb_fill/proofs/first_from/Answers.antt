@@ -34,13 +34,3 @@ returns-then-eq c =
       same = ap (λ s. those_from (of_kind c.args.kind) s text.text.at) (sym text.invariant.0) ∙ text.invariant.2;
       here = λ l. rw (sym text.invariant.0) (kind_tells _ _ _ c.args.kind c.kind_at.ensures ∙ sym c.eq.ensures ∙ c.if-eq.true);
     }
-
-pub returns : goal.returns
-returns c =
-    let text = c.loop-text in
-    record {
-      bytes = text.invariant.0;
-      behind = text.invariant.1;
-      same = ap (λ s. those_from (of_kind c.args.kind) s text.text.at) (sym text.invariant.0) ∙ text.invariant.2;
-      here = λ l. absurd (omega (arith, l, c.loop-text-test.false, ap length text.invariant.0));
-    }

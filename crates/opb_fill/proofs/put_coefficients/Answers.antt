@@ -2,13 +2,10 @@
 use native.Mathlib.Omega.{arith}
 use mathlib.Core.Path.{ap}
 use lib.ListN.{length}
-use Rattle.tables.proofs.Dense.{placing_start, place_range, placing_end}
+use Rattle.tables.proofs.Dense.{place_range, placing_end}
 use Rattle.statements.proofs.Sums.{sum_none, term_on}
 use Rattle.opb_fill.proofs.Terms.{here_and_rest, range_here, range_rest, variable_is, placed_more}
 use Rattle.opb_fill.proofs.put_coefficients.Goals as goal
-
-pub loop-term-init : goal.loop-term-init
-loop-term-init c = (c.requires.0, placing_start _ _ c.requires.1 c.requires.2)
 
 pub put_coefficient-requires : goal.put_coefficient-requires
 put_coefficient-requires c =

@@ -10,22 +10,11 @@ use Rattle.opb_fill.proofs.put_sum.Goals as goal
 pub loop-term-init : goal.loop-term-init
 loop-term-init c = written_start _ _ c.requires.0 c.requires.1 c.requires.2
 
-pub slice_bounds-put_term-count : goal.slice_bounds-put_term-count
-slice_bounds-put_term-count c =
-    let term = c.in-Some.ensures in
-    omega (arith, written_space c.loop-term.invariant _ term.0 term.1)
-
 pub put_term-requires : goal.put_term-requires
 put_term-requires c =
     let t = c.loop-term in
     let term = c.in-Some.ensures in
     omega (arith, lent_long t.end t.out, written_space t.invariant _ term.0 term.1)
-
-pub overflow_add-end : goal.overflow_add-end
-overflow_add-end c =
-    let inv = c.loop-term.invariant in
-    let term = c.in-Some.ensures in
-    omega (arith, written_space inv _ term.0 term.1, inv.same, inv.limit)
 
 pub loop-term-smaller : goal.loop-term-smaller
 loop-term-smaller c =

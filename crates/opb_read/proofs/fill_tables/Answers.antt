@@ -2,12 +2,10 @@
 -- Assumes nothing.
 use borrow.Author.Rules.{rules}
 use native.Mathlib.Omega.{arith}
-use mathlib.Core.Path.{ap, ◌∙◌}
-use lib.ListN.{length}
 use Rattle.std.proofs.lemmas.Option.{MatchOption-at_some}
-use Rattle.tables.proofs.Whole.{three_long, behind_long, tables_whole, base_size_lem}
+use Rattle.tables.proofs.Whole.{three_long, behind_long, tables_whole}
 use Rattle.opb_fill.proofs.Accepted.{formed, lawful_text}
-use Rattle.opb_read.proofs.Whole.{first_variables, first_constraints, no_locks}
+use Rattle.opb_read.proofs.Whole.{first_variables, first_constraints, zeros_free}
 use Rattle.opb_read.proofs.fill_tables.Goals as goal
 
 pub unwrap-first-requires : goal.unwrap-first-requires
@@ -17,8 +15,8 @@ pub clause_section-requires : goal.clause_section-requires
 clause_section-requires c =
     record { clauses_value = (first_constraints _ c.args.lawful.says _ (MatchOption-at_some _ _ _ c.unwrap-first.ensures c.first_line.ensures).1, search rules) }
 
-pub slice_bounds-put_no_locks-end : goal.slice_bounds-put_no_locks-end
-slice_bounds-put_no_locks-end c =
+pub slice_bounds-fill-end : goal.slice_bounds-fill-end
+slice_bounds-fill-end c =
     omega (
       arith,
       three_long _ (lawful_text _ _ c.args.lawful.says) c.args.tables.now _ _ _ c.requires.table_size_in_bounds
@@ -33,7 +31,7 @@ put_head-requires c =
       omega (
         arith,
         behind_long _ q c.args.tables.now _ _ _ c.requires.table_size_in_bounds
-            c.objective_section.ensures c.clause_section.ensures rules.2 _ (c.put_no_locks.ensures ∙ no_locks _),
+            c.objective_section.ensures c.clause_section.ensures rules.2 _ (zeros_free _ (c.fill.ensures.after (λ y h. search)) search),
         c.requires.table_size_in_bounds,
       ),
       omega (arith, first_constraints _ c.args.lawful.says _ (MatchOption-at_some _ _ _ c.unwrap-first.ensures c.first_line.ensures).1, q.clause_count),
@@ -46,10 +44,6 @@ returns c =
     let first = (MatchOption-at_some _ _ _ c.unwrap-first.ensures c.first_line.ensures).1 in
     let rules = c.rule_section-counted.ensures in
     tables_whole _ (lawful_text _ _ c.args.lawful.says) c.args.tables.now _ _ _ c.requires.table_size_in_bounds
-    c.objective_section.ensures c.clause_section.ensures rules.2 _ (c.put_no_locks.ensures ∙ no_locks _) _
+    c.objective_section.ensures c.clause_section.ensures rules.2 _ (zeros_free _ (c.fill.ensures.after (λ y h. search)) search) _
     (first_variables _ c.args.lawful.says _ first) (first_constraints _ c.args.lawful.says _ first)
     rules.0 rules.1 c.put_head.ensures
-
-pub shape_of-tables : goal.shape_of-tables
-shape_of-tables c =
-    ap length (returns c) ∙ base_size_lem _ (lawful_text _ _ c.args.lawful.says) c.args.tables.now c.requires.table_size_in_bounds

@@ -2,23 +2,15 @@
 use native.Mathlib.Omega.{arith}
 use mathlib.Core.Path.{refl}
 use Rattle.opb_fill.proofs.Accepted.{lawful_text}
-use Rattle.opb_fill.proofs.Filled.{clause_start, clause_same, clause_part, clause_more, clause_end}
+use Rattle.opb_fill.proofs.Filled.{clause_start, clause_more, clause_end}
 use Rattle.opb_fill.proofs.lawful.Lawful.clause_section.Goals as goal
 
 pub loop-c-init : goal.loop-c-init
 loop-c-init c =
     clause_start _ _ c.requires.clauses_value.1 (omega (arith, c.requires.clauses_value.0, (lawful_text _ _ c.args.self.says).clause_count))
 
-pub put_clause-requires : goal.put_clause-requires
-put_clause-requires c =
-    let inv = c.loop-c.invariant in
-    (clause_part inv c.loop-c-test.true, omega (arith, inv.few, inv.within), omega arith)
-
 pub loop-c-preserved : goal.loop-c-preserved
 loop-c-preserved c = clause_more c.loop-c.invariant c.loop-c-test.true _ c.put_clause.ensures
 
 pub returns : goal.returns
 returns c = clause_end c.loop-c.invariant _ c.requires.clauses_value.0 c.loop-c-test.false refl _ c.clear.ensures
-
-pub shape_of-out : goal.shape_of-out
-shape_of-out c = clause_same c.loop-c.invariant _ _ c.clear.ensures

@@ -1,12 +1,12 @@
 -- The goals that the search leaves.
 use native.Mathlib.Omega.{arith}
 use mathlib.Core.Path.{sym}
-use Rattle.opb_fill.proofs.Filled.{going_here, goes_on, rule_start, rule_few, rule_space, rule_first, rule_same, rule_part, rule_more_terms, rule_more, rule_count_lem, rule_terms, rule_end}
+use Rattle.opb_fill.proofs.Filled.{first_reached, going_here, goes_on, rule_start, rule_few, rule_space, rule_first, rule_part, rule_more_terms, rule_more, rule_count_lem, rule_terms, rule_end}
 use Rattle.opb_fill.proofs.lawful.Lawful.rule_section.Goals as goal
 
 pub loop-text-init : goal.loop-text-init
 loop-text-init c =
-    let first = c.constraint_behind-text.ensures in
+    let first = first_reached c.from.result c.from.ensures c.constraint_behind-text.ensures in
     let filled = rule_start _ _ c.args.self.says c.requires.out_len first in
     rw first.bytes (filled, rule_few filled, rule_space filled)
 
@@ -35,6 +35,3 @@ returns c =
     let inv = c.loop-text.invariant.0 in
     let l = c.loop-text-test.false in
     rw (sym inv.bytes) (rule_count_lem inv l, rule_terms inv l, rule_end inv l _ c.clear.ensures)
-
-pub shape_of-out : goal.shape_of-out
-shape_of-out c = rule_same c.loop-text.invariant.0 _ c.clear.ensures

@@ -1,12 +1,12 @@
 -- The goals that the search leaves.
 use native.Mathlib.Omega.{arith}
 use mathlib.Core.Path.{sym}
-use Rattle.opb_fill.proofs.Filled.{going_here, goes_on, term_start, term_space, term_same, term_part, term_limit, term_more_space, term_more, term_end_lem}
+use Rattle.opb_fill.proofs.Filled.{first_reached, going_here, goes_on, term_start, term_space, term_part, term_limit, term_more_space, term_more, term_end_lem}
 use Rattle.opb_fill.proofs.lawful.Lawful.term_section.Goals as goal
 
 pub loop-text-init : goal.loop-text-init
 loop-text-init c =
-    let first = c.constraint_behind-text.ensures in
+    let first = first_reached c.from.result c.from.ensures c.constraint_behind-text.ensures in
     let filled = term_start _ _ c.args.self.says c.requires.terms_len first in
     rw first.bytes (filled, term_space filled)
 
@@ -34,6 +34,3 @@ pub returns : goal.returns
 returns c =
     let inv = c.loop-text.invariant.0 in
     rw (sym inv.bytes) (term_end_lem inv c.loop-text-test.false _ c.clear.ensures)
-
-pub shape_of-terms : goal.shape_of-terms
-shape_of-terms c = term_same c.loop-text.invariant.0 _ c.clear.ensures
