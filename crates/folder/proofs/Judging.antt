@@ -1,6 +1,6 @@
 -- Laws that join the tests of the code, one after the other, to the definition of walk.bin.
 -- Assumes nothing.
-use Prim.Native.Nat.{ℕ, suc, ◌+◌, ◌≤◌, ◌<◌}
+use Prim.Native.Nat.{ℕ, ◌+◌, ◌≤◌, ◌<◌}
 use native.Mathlib.Omega.{arith}
 use mathlib.Core.Path.{◌≡◌, refl, sym, ap, ap₂, ◌∙◌}
 use mathlib.Core.Bool.{Bool, true, false}
@@ -11,6 +11,7 @@ use borrow.Author.Tests.{eq-eqb, ne_eqb, lt-ltb, le-ltb, ltb-false, eqb-true, no
 use Rattle.plpb.specs.Lists.{◌or◌}
 use Rattle.words.specs.Words.{num_at}
 use Rattle.format.specs.File.{refused, accepted, refuse, tag_at, length_at}
+use Rattle.format.proofs.Fields.{unrefused}
 use Rattle.settings.specs.declared.Settings.{Settings as Asked}
 use Rattle.settings.specs.Settings.{settings_refusal}
 use Rattle.folder.specs.Files.{may_measure, if_long, asked_in, walk_fault, judged, read_walk, refusal_number, refusal_offset}
@@ -74,11 +75,6 @@ sizes n e = at (eqb n 9) refl e
     at false h k = let z = eqb-true n 12 k in (omega arith, omega arith)
 
 -- A field that meets no condition has its bytes, as many as its length says.
-unrefused : (b : Bool) (k rest : ℕ) → refuse b (suc k) rest ≡ 0 → (b ≡ false) × (rest ≡ 0)
-unfolding refuse
-unrefused true k rest e = absurd (omega arith)
-unrefused false k rest e = (refl, e)
-
 pub room : (s : List ℕ) → walk_fault s ≡ 0 → (9 ≤ length_at s 0) × (length_at s 0 ≤ 12) × (3 + length_at s 0 ≤ length s)
 unfolding walk_fault
 room s e =

@@ -2,7 +2,8 @@
 ghost use Rattle.std.specs.Prelude.{◌≡◌, ◌+◌, ◌-◌, length, MatchResult};
 ghost use Rattle.plpb.specs.Lists.{◌or◌};
 ghost use Rattle.words.specs.Words.{num_at};
-ghost use Rattle.folder.specs.Files.{may_measure, if_long, walk_fault, judged, read_walk, reading, Refuses, numbers_refusal, too_long};
+ghost use Rattle.folder.specs.Files.{may_measure, if_long, walk_fault, judged, read_walk, refusal_number, refusal_offset, reading};
+ghost use Rattle.folder.specs.Files.{Refuses, numbers_refusal, too_long};
 
 use settings::{Settings, settings_refusal};
 
@@ -19,6 +20,23 @@ pub enum Refusal {
     Behind(usize),
     Setting(u32),
     Numbers,
+}
+
+// The same in two numbers, as a plan's refusal has them: offset 0 but for bytes behind the field.
+impl From<Refusal> for verdict::Refusal {
+    ghost from_gives = { λ refusal told. (told.number ≡ refusal_number refusal) × (told.offset ≡ refusal_offset refusal) };
+
+    fn from(refusal: Refusal) -> verdict::Refusal {
+        let (number, offset) = match refusal {
+            Refusal::Short => (1, 0),
+            Refusal::Tag => (2, 0),
+            Refusal::Length => (3, 0),
+            Refusal::Behind(offset) => (7, offset),
+            Refusal::Numbers => (8, 0),
+            Refusal::Setting(number) => (number, 0),
+        };
+        verdict::Refusal { number, offset }
+    }
 }
 
 // The lengths that the field may have.
@@ -101,8 +119,8 @@ pub fn judge_numbers(file: &[u8]) -> Result<(), Refusal>
     }
 }
 
-// "Any of them above 65,536 bytes": `more` says that one of the files has bytes behind those given. It is one flag for the three, and no option beside each:
-// which of them is longer is not told.
+// "Any of them above 65,536 bytes": `more` says that one of the files has bytes behind those given. The promise of all that is printed, in `respond` (`output
+// more plan walk numbers`), has one flag and three lists of bytes, and it stays.
 pub fn any_too_long(more: bool, plan: &[u8], walk: &[u8], numbers: &[u8]) -> bool
     ensures { result ≡ (more or too_long plan.now or too_long walk.now or too_long numbers.now) }
 {

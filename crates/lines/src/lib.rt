@@ -94,8 +94,8 @@ fn bit_digit(b: u8) -> u8
     b'0' + u8::from(b != 0)
 }
 
-// After a loop over a `zip` of `iter_mut` with the bits the library says nothing of what the buffer holds, and with `enumerate` the bits would go by the
-// index: so the buffer does.
+// One of the two has to go by the index. After a loop over `iter_mut` with a `zip` the library says nothing of what the buffer holds, so the loop is over the
+// bits and the buffer goes by the index.
 fn put_bits(out: &mut [u8], bits: &[u8])
     requires { length bits.now ≤ length out.old }
     ensures { out.new ≡ front (map (λ b. cond (eqb b 0) (digitOf 0) (digitOf 1)) bits.now) out.old }

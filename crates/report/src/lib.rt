@@ -9,8 +9,8 @@ ghost use Rattle.format.specs.File.{accepted};
 ghost use Rattle.format.specs.Tables.{table_size, term_size, plan_of_tables, is_loaded};
 ghost use Rattle.numbers.specs.Numbers.{numbers_of};
 ghost use Rattle.settings.specs.Settings.{settings_refusal, settings_of};
-ghost use Rattle.folder.specs.Files.{read_walk, numbers_refusal, refusal_number, refusal_offset};
-ghost use Rattle.lines.specs.Text.{answer_text, refusal_line};
+ghost use Rattle.folder.specs.Files.{read_walk, numbers_refusal};
+ghost use Rattle.lines.specs.Text.{answer_text};
 ghost use Rattle.report.specs.Report.{with_settings, Turns};
 
 use answers::write_answer;
@@ -51,22 +51,6 @@ fn search_plan(tables: &[u8], terms: &[u8], numbers: &[u8], s: Settings, out: &m
     write_answer(tables, &assignment, r, out)
 }
 
-// A refusal's line: its number, and the offset of the bytes behind a field.
-fn refuse(out: &mut [u8], refusal: Refusal) -> usize
-    requires { 2_048 ≤ length out.old }
-    ensures { (out.new ≡ front (refusal_line (refusal_number refusal) (refusal_offset refusal)) out.old)
-        × (result ≡ length (refusal_line (refusal_number refusal) (refusal_offset refusal))) }
-{
-    match refusal {
-        Refusal::Short => refusal_line(out, 1, 0),
-        Refusal::Tag => refusal_line(out, 2, 0),
-        Refusal::Length => refusal_line(out, 3, 0),
-        Refusal::Behind(offset) => refusal_line(out, 7, offset),
-        Refusal::Numbers => refusal_line(out, 8, 0),
-        Refusal::Setting(number) => refusal_line(out, number, 0),
-    }
-}
-
 // The settings of walk.bin where neither that nor the list of numbers is turned away: the list is judged last.
 fn judge_both(walk: &[u8], numbers: &[u8]) -> Result<Settings, Refusal>
     ensures { MatchResult result (λ k. (accepted k ≡ read_walk walk.now) × (numbers_refusal numbers.now ≡ 0)) (Turns walk.now numbers.now) }
@@ -93,6 +77,9 @@ pub fn respond_loaded(
 {
     match judge_both(walk, numbers) {
         Ok(settings) => search_plan(tables, terms, numbers, settings, out),
-        Err(refusal) => refuse(out, refusal),
+        Err(refusal) => {
+            let told = verdict::Refusal::from(refusal);
+            refusal_line(out, told.number, told.offset)
+        }
     }
 }

@@ -1,12 +1,10 @@
 -- With no refusal all that the runs need is there; with one nothing has changed.
 -- Assumes nothing.
-use Prim.Native.Nat.{ℕ, zero, suc, ◌≤◌, ◌<◌}
-use native.Mathlib.Omega.{arith}
+use Prim.Native.Nat.{ℕ, zero, suc, ◌≤◌}
 use mathlib.Core.Path.{◌≡◌, refl, sym}
-use mathlib.Core.Bool.{Bool, true, false}
 use lib.Dec.{eqb-suc-zero}
 use borrow.Author.Tests.{ltb-false}
-use Rattle.format.specs.File.{refuse}
+use Rattle.format.proofs.Fields.{unrefused}
 use Rattle.lending.specs.Lent.{Lent}
 use Rattle.search.proofs.Refusing.{accepted}
 use Rattle.figures.specs.declared.Figures.{Figures}
@@ -19,11 +17,6 @@ use Rattle.reports.specs.Calls.{reported, zeroed, Reports}
 
 -- ---- none fails
 
-refuse_none : (b : Bool) (n m : ℕ) → 0 < n → refuse b n m ≡ 0 → (b ≡ false) × (m ≡ 0)
-unfolding refuse
-refuse_none true n m h e = absurd (omega arith)
-refuse_none false n m h e = (refl, e)
-
 pub record Passed (l : Lent) (t : Trial) : Type 0 where
   pub ready : Ready l
   pub some : 1 ≤ t.runs
@@ -33,10 +26,10 @@ pub record Passed (l : Lent) (t : Trial) : Type 0 where
 pub passed : (l : Lent) (t : Trial) → runs_refusal l t ≡ 0 → Passed l t
 unfolding runs_refusal
 passed l t e =
-    let a = refuse_none _ 41 _ (omega arith) e in
-    let b = refuse_none _ 42 _ (omega arith) a.1 in
-    let c = refuse_none _ 43 _ (omega arith) b.1 in
-    let d = refuse_none _ 21 _ (omega arith) c.1 in
+    let a = unrefused _ 40 _ e in
+    let b = unrefused _ 41 _ a.1 in
+    let c = unrefused _ 42 _ b.1 in
+    let d = unrefused _ 20 _ c.1 in
     let runs = inside 1_000 t.runs b.0 in
     record {
       ready = record { searchable = accepted l t.settings d.1; numbers = ltb-false _ _ d.0 };

@@ -9,12 +9,12 @@ ghost use Rattle.lending.specs.Lent.{lent_all};
 ghost use Rattle.trials.specs.Trials.{runs_refusal};
 ghost use Rattle.reports.specs.Calls.{Reports};
 
-use figures::{Figures, figures_of, refused};
+use figures::Figures;
 use lending::{Lent, clear_first, clear_work};
 use runs::repeat_runs;
 use trials::{Trial, runs_refusal};
 
-// The runs of what passed its tests. How many numbers a run takes stands beside them, because what stands behind those in the buffer is lent too.
+// The runs of what passed its tests.
 fn reported(
     tables: &[u8],
     terms: &[u8],
@@ -40,10 +40,7 @@ fn reported(
     let sums = repeat_runs(
         tables,
         terms,
-        t.state,
-        t.runs as usize,
-        t.count as usize,
-        t.settings,
+        t,
         numbers,
         assignment,
         work_tables,
@@ -61,7 +58,7 @@ fn reported(
         work_tallies,
         work_marks,
     );
-    figures_of(u64::from(t.runs), sums)
+    sums.figures(u64::from(t.runs))
 }
 
 // The refusal is a number, as C sees it among the figures.
@@ -97,7 +94,7 @@ pub fn report(
     };
     let refusal = runs_refusal(&lent, t);
     if refusal != 0 {
-        return refused(refusal);
+        return Figures::refused(refusal);
     }
     reported(
         tables,

@@ -12,8 +12,8 @@ use lines::refusal_line;
 use report::respond_loaded;
 use tables::load;
 
-// What is printed, whole: it is written into `out` from its front. `more` says that one of the files has bytes behind those given. It is one flag for the
-// three, since what is printed does not tell which of them that is: an option beside each file would be opened only to be joined to it.
+// What is printed, whole: it is written into `out` from its front. `more` says that one of the files has bytes behind those given. The promise (`output more
+// plan walk numbers`) has one flag and three lists of bytes, and it stays.
 pub fn respond(
     plan: &[u8],
     walk: &[u8],

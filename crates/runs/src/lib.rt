@@ -9,8 +9,9 @@ ghost use Rattle.lending.specs.Lent.{lent_all};
 ghost use Rattle.figures.specs.Figures.{AtMost};
 ghost use Rattle.runs.specs.Repeating.{Ready, RunsOnce, Repeats};
 
-use figures::{Sums, add};
+use figures::Sums;
 use settings::Settings;
+use trials::Trial;
 use walk::search_core;
 use xorwow::{Xorwow, fill};
 
@@ -61,19 +62,15 @@ fn run_once(
         work_marks,
     );
     let p = r.progress;
-    let sums = add(from.sums, p.finds as u64, p.spent.flips as u64, p.cost);
+    let sums = from.sums.with(p.finds as u64, p.spent.flips as u64, p.cost);
     Ran { state, sums }
 }
 
-// So many runs from a state. What is asked comes one by one: a `Trial` has 32 bits for the runs and for the numbers of each, as C hands them over untested,
-// where runs and numbers are counted in words of the machine here.
+// The runs that are asked for.
 pub fn repeat_runs(
     tables: &[u8],
     terms: &[u8],
-    g: Xorwow,
-    runs: usize,
-    count: usize,
-    s: Settings,
+    t: Trial,
     numbers: &mut [u8],
     assignment: &mut [u8],
     work_tables: &mut [u8],
@@ -84,29 +81,29 @@ pub fn repeat_runs(
 ) -> Sums
     requires { Ready
         (lent_all tables.now terms.now numbers.old assignment.old work_tables.old work_terms.old work_assignment.old
-        work_tallies.old work_marks.old) × (runs ≤ 1_000) × (count ≤ 16_384) }
+        work_tallies.old work_marks.old) × (t.runs ≤ 1_000) × (t.count ≤ 16_384) }
     ensures { Repeats
         (lent_all tables.now terms.now numbers.old assignment.old work_tables.old
         work_terms.old work_assignment.old work_tallies.old work_marks.old)
-        s count runs g result
+        t.settings t.count t.runs t.state result
         (lent_all tables.now terms.now numbers.new assignment.new work_tables.new
         work_terms.new work_assignment.new work_tallies.new work_marks.new) }
 {
     let mut ran = Ran {
-        state: g,
+        state: t.state,
         sums: Sums {
             found: 0,
             flips: 0,
             cost: 0,
         },
     };
-    for _run in 0..runs {
+    for _run in 0..t.runs {
         ran = run_once(
             tables,
             terms,
             ran,
-            count,
-            s,
+            t.count as usize,
+            t.settings,
             numbers,
             assignment,
             work_tables,

@@ -10,7 +10,7 @@ use lib.ListN.{drop, replicate}
 use mir.Facts.{to_z-of_z}
 use mir.Syntax.{w64}
 use mir.Val.{to_z, of_z, SFits}
-use Rattle.plpb.specs.Lists.{◌and◌, ◌or◌, all, is_empty}
+use Rattle.plpb.specs.Lists.{◌or◌, all, is_empty}
 use Rattle.plpb.specs.Plan.{Plan, Assignment, obeys, satisfies, cost}
 use Rattle.plpb.specs.Settings.{Settings}
 use Rattle.plpb.specs.Search.{reached, Ending, floor, ended, none, short_found, short_none, last_find, cost_of, search}

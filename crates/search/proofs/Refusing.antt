@@ -1,6 +1,6 @@
 -- With no refusal all that the search needs was tested; with one nothing was answered and nothing has changed.
 -- Assumes nothing.
-use Prim.Native.Nat.{ℕ, zero, suc, ◌≤◌, ◌<◌}
+use Prim.Native.Nat.{ℕ, zero, suc, ◌≤◌}
 use native.Mathlib.Omega.{arith}
 use mathlib.Core.Path.{◌≡◌, refl, sym}
 use mathlib.Core.Bool.{Bool, true, false}
@@ -8,10 +8,10 @@ use mathlib.Core.List.{List}
 use lib.Dec.{eqb-suc-zero}
 use lib.IntN.{pos}
 use borrow.Author.Tests.{ltb-false, not-false}
-use Rattle.plpb.specs.Lists.{◌and◌, ◌or◌}
+use Rattle.plpb.specs.Lists.{◌or◌}
 use Rattle.plpb.proofs.Lists.{T_true}
-use Rattle.format.specs.File.{refuse}
 use Rattle.format.specs.Tables.{is_loaded}
+use Rattle.format.proofs.Fields.{unrefused}
 use Rattle.settings.specs.declared.Settings.{Settings as Asked}
 use Rattle.lending.specs.Lent.{Lent, too_small, search_refusal}
 use Rattle.search.specs.Calls.{search_assignment, cleared, unless, Searches, HandsOut}
@@ -23,19 +23,14 @@ unfolding ◌or◌
 or_parts true b e = absurd (let z : ◌≡◌ {A = ℕ} 0 1 = cc in omega arith)
 or_parts false b e = (refl, e)
 
-refuse_none : (b : Bool) (n m : ℕ) → 0 < n → refuse b n m ≡ 0 → (b ≡ false) × (m ≡ 0)
-unfolding refuse
-refuse_none true n m h e = absurd (omega arith)
-refuse_none false n m h e = (refl, e)
-
 -- All that the search needs was tested.
 pub accepted : (l : Lent) (k : Asked) → search_refusal l k ≡ 0
     → Searchable l.tables l.terms l.assignment l.work_tables l.work_terms
     (record { assignment = l.work_assignment; tallies = l.work_tallies; marks = l.work_marks })
 unfolding search_refusal too_small
 accepted l k e =
-    let a = refuse_none _ 21 _ (omega arith) e in
-    let b = refuse_none _ 22 _ (omega arith) a.1 in
+    let a = unrefused _ 20 _ e in
+    let b = unrefused _ 21 _ a.1 in
     let m = or_parts _ _ a.0 in
     let t = or_parts _ _ m.0 in
     let w = or_parts _ _ t.0 in

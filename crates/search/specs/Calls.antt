@@ -2,7 +2,7 @@
 -- Assumes nothing.
 use Rattle.std.specs.Prelude.{ℕ, ◌≡◌, cond, List, ◌++◌, T, eqb, pos, drop, replicate}
 use Rattle.plpb.specs.Plan.{obeys, satisfies, cost}
-use Rattle.plpb.specs.Search.{Ending, floor, ended, none, short_found, short_none, Answer, search}
+use Rattle.plpb.specs.Search.{Answer, search}
 use Rattle.format.specs.Tables.{table_size, term_size, plan_of_tables}
 use Rattle.columns.specs.Layout.{column_size, kept_size}
 use Rattle.format.specs.Assignment.{assignment_size, bits_of}
@@ -11,6 +11,8 @@ use Rattle.numbers.specs.Numbers.{numbers_of}
 use Rattle.settings.specs.declared.Settings.{Settings as Asked}
 use Rattle.settings.specs.Settings.{settings_of}
 use Rattle.lending.specs.Lent.{Lent, search_refusal}
+-- The endings by number; 0 stands for a search that was refused.
+unfoldable pub use Rattle.progress.specs.Bounds.{ending_number}
 use Rattle.answers.specs.Found.{has_plan}
 use Rattle.answers.specs.declared.Answer.{Answer as Answered}
 
@@ -27,14 +29,6 @@ search_assignment l k =
 -- "The work tables end filled with 0.", and are as they were past the full limits, and with a refusal.
 unfoldable pub cleared : Lent → Asked → ℕ → List ℕ → List ℕ
 cleared l k size bytes = cond (eqb (search_refusal l k) 0) (replicate size 0 ++ drop size bytes) bytes
-
--- The endings by number; 0 stands for a search that was refused.
-unfoldable pub ending_number : Ending → ℕ
-ending_number floor = 1
-ending_number ended = 2
-ending_number none = 3
-ending_number short_found = 4
-ending_number short_none = 5
 
 -- What is answered where nothing is refused, and what else.
 unfoldable pub unless : {A : Type 0} → Lent → Asked → A → A → A

@@ -5,23 +5,13 @@
 #![tactic(auto)]
 
 ghost use Rattle.std.specs.Prelude.{◌≡◌};
-ghost use Rattle.progress.specs.Bounds.{ending_of};
-ghost use Rattle.search.specs.Calls.{ending_number, Searches, HandsOut};
+ghost use Rattle.search.specs.Calls.{Searches, HandsOut};
 ghost use Rattle.lending.specs.Lent.{lent_all, search_refusal};
 
 use answers::Answer;
 use lending::{Lent, clear_work};
-use progress::Ending;
 use settings::Settings;
 use walk::search_core;
-
-// The number that C sees of an ending, a word of the answer. A `From` would have to stand beside the enum in `progress`, which lies below the definition of
-// these numbers that its clause needs.
-fn number_of(ending: Ending) -> u32
-    ensures { result ≡ ending_number (ending_of ending) }
-{
-    ending as u32
-}
 
 // The search of what passed its tests.
 fn searched(
@@ -69,10 +59,9 @@ fn searched(
         work_tallies,
         work_marks,
     );
-    let ending = r.ending;
     Answer {
         refusal: 0,
-        ending: number_of(ending),
+        ending: u32::from(r.ending),
         cost: r.progress.cost,
         finds: r.progress.finds,
         flips: r.progress.spent.flips,

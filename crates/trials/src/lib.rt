@@ -28,8 +28,8 @@ fn all_zero(g: Xorwow) -> bool
     [g.x, g.y, g.z, g.w, g.v] == [0; 5]
 }
 
-// The C interface gives a refusal out as its number, and so `lending` gives the search's own, which comes last: an enum would be made of that number to be a
-// number again in the caller. This is the first refusal, 0 for none.
+// The number of the first refusal, 0 for none: the C interface gives it out as it is. The search's own come last, as `lending` gives them. Why it is no enum
+// stands at `settings::settings_refusal`.
 pub fn runs_refusal(lent: &Lent<'_>, t: Trial) -> u32
     ensures { result ≡ runs_refusal (lent_in lent.now) t }
 {

@@ -65,27 +65,6 @@ loop-i-preserved c =
       k.work_marks ∙ l.invariant.7,
     )
 
-pub shape_of-assignments : goal.shape_of-assignments
-shape_of-assignments c = c.loop-i.invariant.1
-
-pub shape_of-answers : goal.shape_of-answers
-shape_of-answers c = c.loop-i.invariant.2
-
-pub shape_of-work_tables : goal.shape_of-work_tables
-shape_of-work_tables c = c.loop-i.invariant.3
-
-pub shape_of-work_terms : goal.shape_of-work_terms
-shape_of-work_terms c = c.loop-i.invariant.4
-
-pub shape_of-work_assignment : goal.shape_of-work_assignment
-shape_of-work_assignment c = c.loop-i.invariant.5
-
-pub shape_of-work_tallies : goal.shape_of-work_tallies
-shape_of-work_tallies c = c.loop-i.invariant.6
-
-pub shape_of-work_marks : goal.shape_of-work_marks
-shape_of-work_marks c = c.loop-i.invariant.7
-
 pub returns : goal.returns
 returns c =
     let a = c.args in

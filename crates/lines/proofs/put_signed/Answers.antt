@@ -4,16 +4,9 @@ use native.Mathlib.Omega.{arith}
 use mathlib.Core.Path.{ap, ◌∙◌}
 use lib.IntN.{nat_abs}
 use mir.Facts.{to_z-of_z}
-use lib.ListN.{length-set}
 use Rattle.lines.proofs.Signs.{negative, natural}
 use Rattle.lines.proofs.Items.{signed_negative, signed_natural}
 use Rattle.lines.proofs.put_signed.Goals as goal
-
-pub put_number-requires : goal.put_number-requires
-put_number-requires c = simp length-set (omega arith)
-
-pub shape_of-out-then-v-lt0 : goal.shape_of-out-then-v-lt0
-shape_of-out-then-v-lt0 c = let a = c.args in c.put_number.auto.out ∙ length-set a.out.now a.at _
 
 pub returns-then-v-lt0 : goal.returns-then-v-lt0
 returns-then-v-lt0 c =

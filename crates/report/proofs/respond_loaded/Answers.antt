@@ -4,11 +4,6 @@ use Rattle.format.specs.Tables.{plan_of_tables}
 use Rattle.report.proofs.Reporting.{written, settings_lawful, numbers_accepted}
 use Rattle.report.proofs.respond_loaded.Goals as goal
 
-pub returns-in-Err : goal.returns-in-Err
-returns-in-Err c =
-    let a = c.args in
-    written a.out.now c.refuse.ensures (c.in-Err.ensures (plan_of_tables a.tables.now a.terms.now))
-
 pub search_plan-requires : goal.search_plan-requires
 search_plan-requires c =
     let a = c.args in (

@@ -1,14 +1,7 @@
 -- `report` meets its contract: it is refused as its tests say, or the runs are made.
 -- Assumes nothing.
-use mathlib.Core.Path.{sym, ◌∙◌}
 use Rattle.reports.proofs.Refusing.{refusing}
 use Rattle.reports.proofs.report.Goals as goal
 
 pub returns-then-refusal-ne0 : goal.returns-then-refusal-ne0
 returns-then-refusal-ne0 c = refusing _ _ _ c.runs_refusal-refusal.ensures c.if-refusal-ne0.true c.refused.ensures
-
-pub reported-requires : goal.reported-requires
-reported-requires c = sym c.runs_refusal-refusal.ensures ∙ c.if-refusal-ne0.false
-
-pub returns : goal.returns
-returns c = c.reported.ensures

@@ -1,7 +1,6 @@
 -- `reported` meets its contract: all that the runs need has been tested, and each buffer is cleared to its limit.
 -- Assumes nothing.
 use native.Mathlib.Omega.{arith}
-use mathlib.Core.Path.{◌∙◌}
 use Rattle.reports.proofs.Refusing.{passed}
 use Rattle.reports.proofs.Reporting.{reporting}
 use Rattle.reports.proofs.reported.Goals as goal
@@ -31,8 +30,8 @@ clear_work-requires c =
       omega (arith, s.work.marks, c.work_marks-1.given),
     )
 
-pub figures_of-requires : goal.figures_of-requires
-figures_of-requires c =
+pub figures-requires : goal.figures-requires
+figures-requires c =
     let p = passed _ _ c.requires in
     (omega (arith, p.some, c.from.ensures), c.repeat_runs-sums.ensures.most)
 
@@ -41,7 +40,7 @@ returns c =
     let q = c.clear_work.ensures in
     reporting _ _ c.requires c.from.ensures
     c.repeat_runs-sums.ensures
-    c.figures_of.ensures
+    c.figures.ensures
     c.clear_first.ensures
     c.clear_first-2.ensures
     q.tables_after
@@ -49,24 +48,3 @@ returns c =
     q.tried_after
     q.tallies_after
     q.marks_after
-
-pub shape_of-numbers : goal.shape_of-numbers
-shape_of-numbers c = c.numbers-2-1.given ∙ c.numbers-1.given
-
-pub shape_of-assignment : goal.shape_of-assignment
-shape_of-assignment c = c.assignment-2-1.given ∙ c.assignment-1.given
-
-pub shape_of-work_tables : goal.shape_of-work_tables
-shape_of-work_tables c = c.work_tables-2-1.given ∙ c.work_tables-1.given
-
-pub shape_of-work_terms : goal.shape_of-work_terms
-shape_of-work_terms c = c.work_terms-2-1.given ∙ c.work_terms-1.given
-
-pub shape_of-work_assignment : goal.shape_of-work_assignment
-shape_of-work_assignment c = c.work_assignment-2-1.given ∙ c.work_assignment-1.given
-
-pub shape_of-work_tallies : goal.shape_of-work_tallies
-shape_of-work_tallies c = c.work_tallies-2-1.given ∙ c.work_tallies-1.given
-
-pub shape_of-work_marks : goal.shape_of-work_marks
-shape_of-work_marks c = c.work_marks-2-1.given ∙ c.work_marks-1.given

@@ -14,7 +14,7 @@ use Rattle.runs.proofs.repeat_runs.Given as goal
 abbrev pub invariant-loop-run : goal.invariant-loop-run
 invariant-loop-run l =
     AtMost l._run l.ran.sums
-    × (total l.ran.sums (answers (settings_of l.s) (plan_of_tables l.tables l.terms) l.count (l.runs - l._run) l.ran.state)
-    ≡ total l.initial.ran.sums (answers (settings_of l.s) (plan_of_tables l.tables l.terms) l.count l.runs l.initial.ran.state))
+    × (total l.ran.sums (answers (settings_of l.t.settings) (plan_of_tables l.tables l.terms) l.t.count (l.t.runs - l._run) l.ran.state)
+    ≡ total l.initial.ran.sums (answers (settings_of l.t.settings) (plan_of_tables l.tables l.terms) l.t.count l.t.runs l.initial.ran.state))
     × WithinLimits (lent_all l.tables l.terms l.initial.numbers l.initial.assignment l.initial.work_tables l.initial.work_terms l.initial.work_assignment l.initial.work_tallies l.initial.work_marks)
     (lent_all l.tables l.terms l.numbers l.assignment l.work_tables l.work_terms l.work_assignment l.work_tallies l.work_marks)

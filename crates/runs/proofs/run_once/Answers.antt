@@ -1,18 +1,10 @@
 -- `run_once` meets its contract: the search reads the numbers just written, and its answer is added.
 -- Assumes nothing.
-use native.Mathlib.Omega.{arith}
-use mathlib.Core.Path.{sym}
-use lib.Seq.{length-take-le}
 use Rattle.runs.proofs.Once.{numbers_read, numbers_past, flips_few, cost_small, run_added, assignment_past, tried_past, marks_past}
 use Rattle.runs.proofs.run_once.Goals as goal
 
-pub slice_bounds-search_core-end-2 : goal.slice_bounds-search_core-end-2
-slice_bounds-search_core-end-2 c =
-    let long = c.requires.0.numbers in
-    sym (length-take-le _ _ (omega (arith, long, c.requires.1, c.numbers-1.given)))
-
-pub add-sums-requires : goal.add-sums-requires
-add-sums-requires c =
+pub with-sums-requires : goal.with-sums-requires
+with-sums-requires c =
     let fill = c.fill-state.ensures in
     let core = c.search_core-r.ensures.0 in
     let loaded = c.requires.0.searchable.loaded in
@@ -33,7 +25,7 @@ returns c =
     let read = numbers_read count g c.args.numbers.now fill.1 in
     record {
       state = fill.0;
-      sums = run_added _ _ _ c.args.s count g loaded few read core.0 c.args.from.sums c.add-sums.ensures;
+      sums = run_added _ _ _ c.args.s count g loaded few read core.0 c.args.from.sums c.with-sums.ensures;
       within =
           record {
             numbers = record { size = c.numbers-1.given; beyond = numbers_past count g c.args.numbers.now fill.1 few c.requires.0.numbers };

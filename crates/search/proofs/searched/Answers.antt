@@ -26,13 +26,13 @@ returns c =
     let q = c.clear_work.ensures in
     let x = c.search_core-r.ensures in
     let fits : SFits w64 c.search_core-r.result.progress.cost = record { sfits = c.struct_told-1.given.1.0.1.1.0.1 } in record {
-      searches = searched _ _ z x.0 c.number_of.ensures fits
+      searches = searched _ _ z x.0 c.from.ensures fits
           (q.tables_after ∙ ap (λ s. replicate table_size 0 ++ s) x.1)
           (q.terms_after ∙ ap (λ s. replicate term_size 0 ++ s) x.2)
           q.tried_after
           q.tallies_after
           q.marks_after;
-      hands_out = hands _ _ z x.0 c.number_of.ensures fits;
+      hands_out = hands _ _ z x.0 c.from.ensures fits;
     }
 
 pub search_core-r-requires : goal.search_core-r-requires
