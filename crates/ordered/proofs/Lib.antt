@@ -1,3 +1,3 @@
 -- Why the test of the order's words is that of its definition.
-pub mod Places
+pub mod Words
 pub mod Runs

@@ -31,6 +31,10 @@ module _ (f g : ℕ → ℕ) (x least k to : ℕ) where
     unfolding entries_from
     entries_refused n = rw (left_of k to l, ← e) (sym (and_stop _ _ (sym h ∙ not-true b n)))
 
+  pub entries_below : {w : ℕ} → k < to → w ≡ f (entry_at k) → false ≡ entry_good f g x least w → false ≡ entries_from f g x least k (to - k)
+  unfolding entries_from
+  entries_below l e h = rw (left_of k to l, ← e) (sym (and_stop _ _ (sym h)))
+
   pub entries_end : to ≤ k → entries_from f g x least k (to - k) ≡ true
   unfolding entries_from
   entries_end h = let z : to - k ≡ 0 = omega arith in rw z refl

@@ -1,2 +1,3 @@
 -- What the test of the order needs.
 pub mod Ready
+pub mod Stands

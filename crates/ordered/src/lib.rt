@@ -4,15 +4,17 @@
 
 ghost use Rattle.std.specs.Prelude.{◌≡◌, true, ◌-◌, ◌≤◌, ◌<◌};
 ghost use Rattle.words.specs.Words.{word_at};
-ghost use Rattle.format.specs.Good.{every_from, place_good, word_good, entry_good, entries_from, run_good, order_good};
-ghost use Rattle.places.specs.Places.{place_of};
+ghost use Rattle.order.specs.Order.{word_place};
+ghost use Rattle.format.specs.Good.{every_from, entry_good, entries_from, run_good, order_good};
 ghost use Rattle.format.specs.Layout.{end_at};
 ghost use Rattle.ordered.specs.Ready.{Ready};
+ghost use Rattle.ordered.specs.Stands.{rule_stands, term_stands};
 
 use format::{CLAUSE_COUNT, CLAUSES, ENDS, ORDER, RULE_COUNT, RULES, TABLE_WORDS};
-use places::parts::Place;
-use places::{is_negative_word, rule_in};
+use places::{SEVERAL, clause_in, rule_in, term_in};
 use words::{index, word, zeros};
+
+const NEGATIVE: u32 = 2147483648; // the words of negative coefficients begin here
 
 // Tables whose base has passed its test, and the terms beside them.
 #[derive(Clone, Copy)]
@@ -23,50 +25,57 @@ struct Base<'a> {
 }
 
 impl<'a> Base<'a> {
-    // A place that there is.
-    #[tactic(auto, using(crate::proofs::Places::clause_fits))]
-    fn place_good(self, place: Place) -> bool
-        ensures { result ≡ place_good (word_at self.entry.tables.now) (place_of place) }
+    // The clause of a word is there, the rule is one of the clause's, and the word's mark says whether the clause has more than one. Where it says no, the rule
+    // is the first. Where it says yes, a rule below the first wraps around to one far behind the last.
+    #[tactic(auto, using(crate::proofs::Words::clause_small))]
+    fn rule_stands(self, w: u32) -> bool
+        ensures { result ≡ rule_stands (word_at self.entry.tables.now) w }
     {
-        let c = place.clause;
-        let r = place.rule;
+        let c = clause_in(w);
         if index(self.tables, 1) <= c {
             return false;
         }
-        let first = index(self.tables, CLAUSES + 2 * c);
+        let r = rule_in(w);
+        if w < SEVERAL {
+            return index(self.tables, CLAUSES + 2 * c) == r
+                && index(self.tables, CLAUSE_COUNT + 2 * c) == 1;
+        }
         let count = index(self.tables, CLAUSE_COUNT + 2 * c);
-        if !(first..first + count).contains(&r) {
-            return false;
-        }
-        place.term < index(self.tables, RULE_COUNT + 5 * r)
+        1 < count && r.wrapping_sub(index(self.tables, CLAUSES + 2 * c)) < count
     }
 
-    // The word of such a place in the run of x, where rules from `least` on may stand.
-    #[tactic(auto, using(crate::proofs::Places::there, crate::proofs::Places::term_fits))]
-    fn word_good(self, x: u32, least: usize, w: u32, place: Place) -> bool
-        requires { place_good (word_at self.tables.now) (place_of place) ≡ true }
-        ensures { result ≡ word_good (word_at self.entry.tables.now) (word_at self.entry.terms.now) x least w (place_of place) }
+    // The term of such a word is there and names x, and its coefficient has the sign that the word says: the word's lowest bit, added where the sign stands,
+    // leaves 0 there.
+    #[tactic(auto, using(crate::proofs::Words::rule_small))]
+    fn term_stands(self, x: u32, w: u32, r: usize) -> bool
+        requires { (rule_stands (word_at self.tables.now) w ≡ true) × (r ≡ (word_place w).rule) }
+        ensures { result ≡ term_stands (word_at self.entry.tables.now) (word_at self.entry.terms.now) x w }
     {
-        let c = place.clause;
-        let r = place.rule;
-        let k = index(self.tables, RULES + 5 * r) + place.term;
-        let several = 1 < index(self.tables, CLAUSE_COUNT + 2 * c);
-        let negated = is_negative_word(word(self.terms, 2 * k + 1));
-        word(self.terms, 2 * k) == x && least <= r && w == place.spell(several, negated)
-    }
-
-    fn entry_good(self, x: u32, least: usize, w: u32) -> bool
-        ensures { result ≡ entry_good (word_at self.entry.tables.now) (word_at self.entry.terms.now) x least w }
-    {
-        let place = Place::of(w);
-        if !self.place_good(place) {
+        let i = term_in(w);
+        if index(self.tables, RULE_COUNT + 5 * r) <= i {
             return false;
         }
-        self.word_good(x, least, w, place)
+        let k = index(self.tables, RULES + 5 * r) + i;
+        if word(self.terms, 2 * k) != x {
+            return false;
+        }
+        let sign = NEGATIVE * (w % 2);
+        sign.wrapping_add(word(self.terms, 2 * k + 1)) < NEGATIVE
+    }
+
+    // The word of an entry of x and its rule, whatever the rules before it are.
+    fn entry_good(self, x: u32, w: u32, r: usize) -> bool
+        requires { r ≡ (word_place w).rule }
+        ensures { result ≡ entry_good (word_at self.entry.tables.now) (word_at self.entry.terms.now) x 0 w }
+    {
+        if !self.rule_stands(w) {
+            return false;
+        }
+        self.term_stands(x, w, r)
     }
 
     // The entries of x from one on and before another: their rules rise.
-    #[tactic(auto, using(crate::proofs::Places::few_terms))]
+    #[tactic(auto, using(crate::proofs::Words::few_terms, crate::proofs::Words::rule_small))]
     fn entries_good(self, x: u32, from: usize, to: usize) -> bool
         requires { (from ≤ to) × (to ≤ word_at self.tables.now 3) }
         ensures { result ≡ entries_from (word_at self.entry.tables.now) (word_at self.entry.terms.now) x 0 from (to - from) }
@@ -74,10 +83,14 @@ impl<'a> Base<'a> {
         let mut least = 0;
         for k in from..to {
             let w = word(self.tables, ORDER + k);
-            if !self.entry_good(x, least, w) {
+            let r = rule_in(w);
+            if r < least {
                 return false;
             }
-            least = rule_in(w) + 1;
+            least = r + 1;
+            if !self.entry_good(x, w, r) {
+                return false;
+            }
         }
         true
     }
@@ -108,7 +121,7 @@ impl<'a> Base<'a> {
 }
 
 // The order: the first run begins at 0, the last ends where the terms do; unused entries 0.
-#[tactic(auto, using(crate::proofs::Places::few_variables, crate::proofs::Places::few_terms))]
+#[tactic(auto, using(crate::proofs::Words::few_variables, crate::proofs::Words::few_terms))]
 pub fn order_good(tables: &[u8], terms: &[u8]) -> bool
     requires { Ready tables.now terms.now }
     ensures { result ≡ order_good (word_at tables.now) (word_at terms.now) }

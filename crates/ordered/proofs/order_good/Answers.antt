@@ -6,7 +6,7 @@ use mathlib.Core.Path.{◌≡◌, sym, ap, ◌∙◌, subst}
 use mathlib.Core.Bool.{Bool, true, false, not}
 use lib.Dec.{T}
 use native.Mathlib.Omega.{arith}
-use Rattle.ordered.proofs.Places.{sound}
+use Rattle.ordered.proofs.Words.{sound}
 use Rattle.ordered.proofs.Runs.{order_begins, order_runs, order_last, order_gap, order_told}
 use Rattle.ordered.proofs.order_good.Goals.{then-index-total, else-index-total}
 use Rattle.ordered.proofs.order_good.Goals as goal
