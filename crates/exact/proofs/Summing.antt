@@ -4,10 +4,12 @@ use Prim.Native.Nat.{ℕ, ◌+◌, ◌-◌, ◌≤◌, ◌<◌}
 use native.Mathlib.Nat.{add-zero, zero-add}
 use native.Mathlib.Omega.{arith}
 use mathlib.Core.Path.{◌≡◌, refl, sym, ap, ◌∙◌}
-use mathlib.Core.Bool.{false}
-use mathlib.Core.List.{List, map}
+use mathlib.Core.Bool.{Bool, true, false}
+use mathlib.Core.List.{List, [], ◌∷◌, map}
 use lib.ListN.{length, take}
-use Rattle.plpb.specs.Lists.{sum_by, row}
+use lib.Dec.{eqb}
+use borrow.Author.Tests.{eqb-true}
+use Rattle.plpb.specs.Lists.{◌and◌, sum_by, row}
 use Rattle.plpb.specs.Plan.{Clause, Assignment, names}
 use Rattle.plpb.specs.Count.{capped, capped_break, capped_make}
 use Rattle.plpb.specs.Equations.{shares_of, clause_break, clause_make, break_sum, make_sum}
@@ -15,7 +17,8 @@ use Rattle.plpb.specs.Equations.{Shares as SharesOf}
 use Rattle.plpb.proofs.Equations.{break_formula, make_formula}
 use Rattle.plpb.proofs.Capped.{capped_zero, capped_twice, sum_step}
 use Rattle.counting.specs.Shares.{capped_shares, start_shares, joined_shares, joined_along}
-use Rattle.counting.proofs.Joining.{capped_stays, capped_start, joined_step, clause_shares_lem}
+use Rattle.counting.proofs.Joining.{same_shares, capped_stays, capped_start, joined_step, clause_shares_lem}
+use Rattle.format.proofs.Bools.{and_left, and_right}
 use Rattle.words.specs.Words.{word_at}
 use Rattle.format.specs.Tables.{rule_of, clause_of, plan_in, plan_of_tables}
 use Rattle.rules.specs.Terms.{bits_in}
@@ -37,10 +40,10 @@ use Rattle.format.specs.Layout.{clause_count_at, clause_first_at, rule_first_at}
 
 -- ---- a rule
 
-pub rule_joined : (f g : ℕ → ℕ) (a : Assignment) (r x : ℕ) {s : State} (before rule after : SharesOf) → StateOf a x (rule_at f g (rule_first_at r)) s → rule ≡ capped_shares (shares_from s) → after ≡ capped_shares (joined_shares before rule) → after ≡ capped_shares (joined_shares before (capped_shares (shares_of a x (rule_of f g r))))
-rule_joined f g a r x {s} before rule after h k e =
+pub rule_joined : (f g : ℕ → ℕ) (a : Assignment) (r x : ℕ) {s : State} (before after : SharesOf) → StateOf a x (rule_at f g (rule_first_at r)) s → after ≡ capped_shares (joined_shares before (capped_shares (shares_from s))) → after ≡ capped_shares (joined_shares before (capped_shares (shares_of a x (rule_of f g r))))
+rule_joined f g a r x {s} before after h e =
     let here : StateOf a x (rule_of f g r) s = rw (rule_at_lem f g r) at h in
-    e ∙ ap (λ t. capped_shares (joined_shares before t)) (k ∙ ap capped_shares (shares_rule here))
+    e ∙ ap (λ t. capped_shares (joined_shares before (capped_shares t))) (shares_rule here)
 
 -- ---- the rules of a clause
 
@@ -50,6 +53,32 @@ pub record SharesDone (f g : ℕ → ℕ) (a : Assignment) (c x end r : ℕ) (s 
   pub high : r ≤ end
   pub stays : capped_shares s ≡ s
   pub along : capped_shares (joined_along (shares_of a x) s (map (rule_of f g) (row r (end - r)))) ≡ capped_shares (joined_along (shares_of a x) start_shares (clause_of f g c))
+
+-- No part is spoiled, mended or left.
+unfoldable none : SharesOf
+none = record { e = 0; f = 0; g = 0 }
+
+none_left : (s : SharesOf) → (eqb s.e 0 and eqb s.f 0 and eqb s.g 0) ≡ true → s ≡ none
+unfolding none
+none_left s h =
+    let two = and_left _ _ h in
+    same_shares (eqb-true _ _ (and_left _ _ two)) (eqb-true _ _ (and_right _ _ two)) (eqb-true _ _ (and_right _ _ h))
+
+none_joined : (t : SharesOf) → joined_shares none t ≡ none
+unfolding none joined_shares
+none_joined t = same_shares (omega arith) (omega arith) (omega arith)
+
+none_along : {A : Type 0} (h : A → SharesOf) (rs : List A) → joined_along h none rs ≡ none
+unfolding joined_along
+none_along h [] = refl
+none_along h (r ∷ rs) = ap (λ s. joined_along h s rs) (none_joined (h r)) ∙ none_along h rs
+
+none_capped : capped_shares none ≡ none
+unfolding none capped_shares
+none_capped = same_shares capped_zero capped_zero capped_zero
+
+all_settled : {A : Type 0} (h : A → SharesOf) (s : SharesOf) (rs : List A) → s ≡ none → s ≡ capped_shares (joined_along h s rs)
+all_settled h s rs e = rw e (sym (ap capped_shares (none_along h rs) ∙ none_capped))
 
 module _ (f g : ℕ → ℕ) (a : Assignment) (c x : ℕ) where
   pub shares_start : (first end : ℕ) (s : SharesOf) → first ≡ f (clause_first_at c) → end ≡ f (clause_first_at c) + f (clause_count_at c) → s ≡ start_shares → SharesDone f g a c x end first s
@@ -75,6 +104,10 @@ module _ (f g : ℕ → ℕ) (a : Assignment) (c x : ℕ) where
     pub shares_end : end ≤ r → s ≡ capped_shares (joined_along (shares_of a x) start_shares (clause_of f g c))
     unfolding joined_along
     shares_end h = sym d.stays ∙ rw (along_end (rule_of f g) r end h) at d.along
+
+    -- Where no part is left, the rules behind leave none.
+    pub shares_settled : {b : Bool} → b ≡ (eqb s.e 0 and eqb s.f 0 and eqb s.g 0) → b ≡ true → s ≡ capped_shares (joined_along (shares_of a x) start_shares (clause_of f g c))
+    shares_settled k t = all_settled _ s (map (rule_of f g) (row r (end - r))) (none_left s (sym k ∙ t)) ∙ d.along
 
 -- ---- a clause
 

@@ -1,7 +1,8 @@
 // Counts: how many clauses of the expansion a variable's flip would spoil, and how many it would mend.
 #![tactic(auto)]
 
-ghost use Rattle.std.specs.Prelude.{◌≡◌, ◌+◌, ◌*◌, ◌≤◌, ◌<◌, length};
+ghost use Rattle.std.specs.Prelude.{◌≡◌, ◌+◌, ◌*◌, ◌≤◌, ◌<◌, eqb, length};
+ghost use Rattle.plpb.specs.Lists.{◌and◌};
 ghost use Rattle.plpb.specs.Count.{capped, capped_break, capped_make};
 ghost use Rattle.plpb.specs.Equations.{shares_of, clause_break, clause_make, break_sum, make_sum};
 ghost use Rattle.counting.specs.Count.{number};
@@ -48,6 +49,13 @@ impl Add for Counts {
     }
 }
 
+// Whether no part is spoiled, mended or left unsatisfied: then some rule so far holds before the flip and after it, and no rule behind it changes that.
+fn settled(shares: Shares) -> bool
+    ensures { result ≡ (eqb (number shares.e) 0 and eqb (number shares.f) 0 and eqb (number shares.g) 0) }
+{
+    (shares.e.rank() == 0) & (shares.f.rank() == 0) & (shares.g.rank() == 0)
+}
+
 // What is lent, and the variable that is asked about.
 #[derive(Drop)]
 struct Asked<'a> {
@@ -70,10 +78,10 @@ impl Asked<'_> {
             format::RULES + 5 * r,
             self.x,
         );
-        shares.joined(s.shares())
+        s.join(shares)
     }
 
-    // The shares of all rules of a clause. The loop goes from one end to the other and not over the range, so that the rule's number is its own
+    // The shares of all rules of a clause, as far as they are not settled: of a long clause most often some rule holds whatever the variable does. The loop goes from one end to the other and not over the range, so that the rule's number is its own
     // variable, of which the invariant speaks (see `recount::clause::rules_of`).
     fn clause_shares(&self, c: usize) -> Shares
         requires { c < word_at self.now.lent.plan.tables.now 1 }
@@ -84,6 +92,9 @@ impl Asked<'_> {
         let mut shares = Shares::START;
         for r in rules.start..rules.end {
             shares = self.join_rule(shares, r);
+            if settled(shares) {
+                return shares;
+            }
         }
         shares
     }

@@ -1,6 +1,8 @@
 -- Laws of a rule's state: the rule holds, has its shares and is turned over as its state says.
 -- Assumes nothing.
 use Prim.Native.Nat.{ℕ, ◌+◌, ◌*◌, ◌-◌, ◌≤◌, ◌<◌}
+use native.Mathlib.Nat.{zero-add}
+use native.Mathlib.Numerals.{unary_clauses}
 use native.Mathlib.Omega.{arith}
 use mathlib.Core.Path.{◌≡◌, refl, sym, ap, ap₂, ◌∙◌}
 use mathlib.Core.Bool.{Bool, true, false, not, cond}
@@ -11,10 +13,15 @@ use borrow.Author.Tests.{eqb-true}
 use Rattle.plpb.specs.Lists.{◌and◌}
 use Rattle.plpb.specs.Plan.{Term, Rule, Assignment, flip, rule_holds, named_in}
 use Rattle.plpb.specs.Normal.{literal, literal_true, size, rise, K, P, N, below_size}
-use Rattle.plpb.specs.Equations.{out, on, off, standing, shares_of, lost, gained}
+use Rattle.plpb.specs.Count.{capped}
+use Rattle.plpb.specs.Equations.{out, on, off, standing, shares, shares_of, lost, gained}
+use Rattle.plpb.specs.Equations.{Shares as SharesOf}
+use Rattle.plpb.proofs.Capped.{capped_zero}
 use Rattle.plpb.proofs.Normal.{N_and_P, lower_by_size, upper_by_size}
 use Rattle.plpb.proofs.Flip.{flip_literal_same}
 use Rattle.counting.specs.Bound.{bound_of}
+use Rattle.counting.specs.Shares.{capped_shares, joined_shares}
+use Rattle.counting.proofs.Joining.{same_shares}
 use Rattle.words.specs.Words.{word_at}
 use Rattle.format.proofs.Bools.{and_first, and_stop}
 use Rattle.rules.specs.declared.entry.Entry.{Entry}
@@ -26,7 +33,7 @@ use Rattle.rules.specs.Terms.{bits_in, terms_at, Readable}
 use Rattle.rules.specs.Sums.{Summed}
 use Rattle.rules.specs.Places.{standing_in}
 use Rattle.rules.specs.Rules.{EntryAt, rule_at, RuleInside, RuleReadable, lower_size, upper_size}
-use Rattle.rules.specs.State.{Balanced, StateOf, Made, Seen, holds_in, shares_from, opposite, Turned}
+use Rattle.rules.specs.State.{Balanced, StateOf, Made, Seen, holds_in, shares_from, untouched, opposite, Turned}
 use Rattle.rules.proofs.Summing.{summed_small}
 use Rattle.rules.proofs.Finding.{lost_in_P, gained_beside_P, stands_zero}
 use Rattle.rules.proofs.Sizes.{rule_lower, rule_upper}
@@ -147,6 +154,22 @@ standing_turned a x (t ∷ ts) low high = at (eqb t.variable x) refl (standing_t
     at false e ih = ih
 
 -- What the code makes of a state whose variable does not occur, or whose literal is true or false.
+-- ---- its shares joined with those before
+
+-- One number of shares joined with those of a rule that does not name the variable.
+left_one : (s k g : ℕ) {r : ℕ} → r ≡ capped (s * g) → r ≡ capped (s * (0 + g) + k * 0)
+left_one s k g e = simp unary_clauses (e ∙ ap (λ z. capped (s * z)) (sym (zero-add g)))
+
+pub narrowed_is : (s : SharesOf) (g : ℕ) {e f h : ℕ} → e ≡ capped (s.e * g) → f ≡ capped (s.f * g) → h ≡ capped (s.g * g) → ◌≡◌ {A = SharesOf} (record { e = e; f = f; g = h }) (capped_shares (joined_shares s (untouched g)))
+unfolding capped_shares joined_shares untouched
+narrowed_is s g p q r = same_shares (left_one s.e s.g g p) (left_one s.f s.g g q) r
+
+pub untouched_out : (s : State) {g : ℕ} → s.stands ≡ Out → g ≡ (capped_shares (shares_from s)).g → untouched g ≡ capped_shares (shares_from s)
+unfolding untouched shares_from shares capped_shares
+untouched_out s h k = rw h (same_shares (sym capped_zero) (sym capped_zero) (rw h at k))
+
+-- ---- turned over
+
 module _ (s : State) (b : Balanced s) where
   pub on_in_P : (w : ℕ) → s.stands ≡ On w → w ≤ s.p
   unfolding lost

@@ -1,24 +1,25 @@
 -- Laws of the sums of a rule's terms: they are made term by term from the last to the first, and none is larger than K.
 -- Assumes nothing.
-use Prim.Native.Nat.{ℕ, suc, ◌+◌, ◌*◌, ◌-◌, ◌≤◌, ◌<◌, zero-le}
+use Prim.Native.Nat.{ℕ, suc, ◌+◌, ◌*◌, ◌-◌, ◌%◌, ◌≤◌, ◌<◌, zero-le}
 use native.Mathlib.Nat.{add-zero, sub-zero}
 use native.Mathlib.Omega.{arith}
-use mathlib.Core.Path.{◌≡◌, refl, ap, ap₂, ◌∙◌}
+use mathlib.Core.Path.{◌≡◌, refl, sym, ap, ◌∙◌}
 use mathlib.Core.Bool.{Bool, true, false, not, cond}
 use mathlib.Core.List.{List, [], ◌∷◌}
-use lib.Dec.{T}
+use lib.Dec.{T, ltb}
+use lib.IntN.{pos, negsuc, nat_abs}
 use lib.ListN.{length}
 use Rattle.plpb.specs.Lists.{all, sum_by}
 use Rattle.plpb.specs.Plan.{Term, Assignment, value}
 use Rattle.plpb.specs.Normal.{literal, literal_true, is_negative, size, rise, K, P}
 use Rattle.plpb.proofs.Lists.{and_left, and_right, sum_by_each}
 use Rattle.plpb.proofs.Normal.{P_at_most_K}
-use Rattle.words.specs.Words.{word_at}
+use Rattle.words.specs.Words.{word_at, signed}
 use Rattle.format.specs.Tables.{term_of}
 use Rattle.rules.specs.declared.sums.Sums.{Sums}
-use Rattle.rules.specs.declared.term.Literal.{Literal}
-use Rattle.rules.specs.Terms.{LiteralOf, terms_at, Readable}
-use Rattle.rules.specs.Sums.{Summed, Room, Added, AddedTerm}
+use Rattle.rules.specs.declared.sums.Running.{Running}
+use Rattle.rules.specs.Terms.{terms_at, Readable}
+use Rattle.rules.specs.Sums.{Summed, Room, AddedTerm, AddedWeight, held_in}
 use Rattle.rules.proofs.Terms.{term_legal, lawful_legal, legal_high, legal_weight, legal_at, legal_rest, terms_none, terms_next, length_terms}
 
 -- ---- bounds
@@ -39,18 +40,46 @@ K_at_most n (t ∷ ts) l = omega (arith, legal_weight n t (and_left _ _ l), K_at
 
 -- ---- term by term
 
--- A literal added is its term added.
-pub literal_added : {a : Assignment} {t : Term} {l : Literal} {s r : Sums} → LiteralOf a t l → Added l s r → AddedTerm a t s r
-literal_added {s = s} h d =
-    record {
-      whole = d.whole ∙ ap (λ n. n + s.k) h.sized;
-      rises = d.rises ∙ ap₂ (λ b n. cond b n 0 + s.rise) h.negates h.sized;
-      trues = d.trues ∙ ap₂ (λ b n. cond b n 0 + s.p) h.truth h.sized;
-    }
+-- A weight's word: its size, and what it takes from a sum of words where it is negative.
+weight_word : (w : ℕ) → w < 4_294_967_296 → nat_abs (signed w) ≡ cond (is_negative (signed w)) (4_294_967_296 - w) w
+unfolding signed is_negative
+weight_word w h = at (ltb w 2_147_483_648) refl
+  where
+    at : (b : Bool) → ltb w 2_147_483_648 ≡ b → nat_abs (cond b (pos w) (negsuc (4_294_967_295 - w))) ≡ cond (is_negative (cond b (pos w) (negsuc (4_294_967_295 - w)))) (4_294_967_296 - w) w
+    at true e = refl
+    at false e = omega arith
 
--- .. and it fits where its term does.
-pub literal_room : {a : Assignment} {t : Term} {l : Literal} {s : Sums} → LiteralOf a t l → Room (size t) s → Room l.size s
-literal_room h r = rw h.sized r
+-- Added to the sums as they are kept, it is added to those that they come to.
+module _ (w m rise k p : ℕ) (fits : w < 4_294_967_296) where
+  whole_held : (b : Bool) (weights : ℕ) → m ≡ cond b (4_294_967_296 - w) w → k ≡ (weights + rise + rise) % 4_294_967_296 → m + k < 4_294_967_296
+      → ((weights + w) % 4_294_967_296 + (cond b m 0 + rise) + (cond b m 0 + rise)) % 4_294_967_296 ≡ m + k
+  whole_held true weights e h r = omega arith
+  whole_held false weights e h r = omega arith
+
+  trues_held : (b v : Bool) (trues : ℕ) → m ≡ cond b (4_294_967_296 - w) w → p ≡ (trues + rise) % 4_294_967_296 → m + p < 4_294_967_296
+      → ((trues + cond v w 0) % 4_294_967_296 + (cond b m 0 + rise)) % 4_294_967_296 ≡ cond (cond b (not v) v) m 0 + p
+  trues_held true true trues e h r = omega arith
+  trues_held true false trues e h r = omega arith
+  trues_held false true trues e h r = omega arith
+  trues_held false false trues e h r = omega arith
+
+module _ (g : ℕ → ℕ) (i : ℕ) (s : Running) {w : ℕ} (e : w ≡ g (2 * i + 1)) (room : Room (size (term_of g i)) (held_in s)) where
+  pub weight_room : nat_abs (signed w) + s.rise < 4_294_967_296
+  unfolding size term_of
+  weight_room = rw e (omega (arith, room.whole, room.rises))
+
+  pub weight_added : {a : Assignment} {r : Running} {b : Bool} → w < 4_294_967_296 → b ≡ value a (g (2 * i)) → AddedWeight w b s r → AddedTerm a (term_of g i) (held_in s) (held_in r)
+  unfolding size term_of literal literal_true
+  weight_added {a} {r} {b} fits h d =
+      let small = rw (sym e) at room in
+      let n = is_negative (signed w) in
+      let same : AddedTerm a (record { variable = g (2 * i); weight = signed w }) (held_in s) (held_in r) =
+      record {
+        whole = rw (d.weights, d.rises) (whole_held w _ s.rise _ 0 fits n s.weights (weight_word w fits) refl small.whole);
+        rises = d.rises;
+        trues = rw (d.trues, d.rises, h) (trues_held w _ s.rise 0 _ fits n (value a (g (2 * i))) s.trues (weight_word w fits) refl (omega (arith, small.whole, small.trues)));
+      } in
+      rw e at same
 
 module _ (a : Assignment) where
   none_summed : Summed a [] (record { k = 0; rise = 0; p = 0 })

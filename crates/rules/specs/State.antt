@@ -53,6 +53,10 @@ holds_in s = below_size s.n (bound_of s.a) and below_size s.p (bound_of s.b)
 unfoldable pub shares_from : State → SharesOf
 shares_from s = shares (standing_in s.stands) s.n s.p (bound_of s.a) (bound_of s.b)
 
+-- Those of a rule that does not name the variable: a flip spoils and mends no part of it, and g of them stay unsatisfied.
+unfoldable pub untouched : ℕ → SharesOf
+untouched g = record { e = 0; f = 0; g = g }
+
 unfoldable pub opposite : Standing → Standing
 opposite out = out
 opposite (on w) = off w

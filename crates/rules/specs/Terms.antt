@@ -4,7 +4,7 @@ use Rattle.std.specs.Prelude.{ℕ, ◌+◌, ◌*◌, ◌≤◌, ◌<◌, ◌≡�
 use Rattle.plpb.specs.Lists.{row}
 use Rattle.plpb.specs.Plan.{Assignment}
 use Rattle.plpb.specs.Plan.{Term as TermOf}
-use Rattle.plpb.specs.Normal.{is_negative, literal, literal_true, size}
+use Rattle.plpb.specs.Normal.{literal, literal_true, size}
 use Rattle.words.specs.Words.{word_at}
 unfoldable pub use Rattle.format.specs.Assignment.{bits_in}
 use Rattle.format.specs.Limits.{terms_lawful}
@@ -19,7 +19,6 @@ term_in t = record { variable = t.variable; weight = t.weight }
 -- The literal of a term under an assignment.
 pub record LiteralOf (a : Assignment) (t : TermOf) (l : Literal) : Type 0 where
   pub sized : l.size ≡ size t
-  pub negates : l.negated ≡ is_negative t.weight
   pub truth : l.truth ≡ literal_true a (literal t)
 
 -- k terms of a table of words, the first of them term i.

@@ -4,16 +4,18 @@ ghost use Rattle.std.specs.Prelude.{◌≡◌, ◌≤◌};
 ghost use Rattle.plpb.specs.Plan.{named_in};
 ghost use Rattle.plpb.specs.Normal.{below_size};
 ghost use Rattle.counting.specs.Bound.{bound_of};
-ghost use Rattle.counting.specs.Shares.{shares_in, capped_shares};
+ghost use Rattle.counting.specs.Count.{number};
+ghost use Rattle.counting.specs.Shares.{shares_in, capped_shares, joined_shares};
 ghost use Rattle.words.specs.Words.{word_at};
 ghost use Rattle.rules.specs.Terms.{bits_in};
 ghost use Rattle.rules.specs.Rules.{rule_at, RuleInside, RuleReadable};
-ghost use Rattle.rules.specs.State.{Balanced, StateOf, Made, Seen, holds_in, shares_from, Turned};
+ghost use Rattle.rules.specs.State.{Balanced, StateOf, Made, Seen, holds_in, shares_from, untouched, Turned};
 
 use crate::entry::{Entry, read_entry};
 use crate::place::{Stands, stands_at};
 use crate::size::{lower_size, upper_size};
 use crate::sums::Sums;
+use counting::count::Count;
 use counting::shares::{Shares, literal_absent, literal_false, literal_true};
 
 // N, P, how the variable stands, and the sizes A and B. That it is balanced is no field of it: it may be seen from a variable that stands in any way, or held
@@ -32,6 +34,17 @@ fn below(n: u32, size: Option<u64>) -> bool
     ensures { result ≡ below_size n (bound_of size) }
 {
     size.is_none_or(|k| u64::from(n) < k)
+}
+
+// The shares of some rules joined with those of one of which no part is spoiled or mended, and g of them stay unsatisfied.
+fn narrowed(shares: Shares, g: Count) -> Shares
+    ensures { shares_in result ≡ capped_shares (joined_shares (shares_in shares) (untouched (number g))) }
+{
+    Shares {
+        e: shares.e * g,
+        f: shares.f * g,
+        g: shares.g * g,
+    }
 }
 
 impl State {
@@ -75,6 +88,18 @@ impl State {
             Stands::Out => literal_absent(n, p, self.a, self.b),
             Stands::On(w) => literal_true(w as u64, n, p, self.a, self.b),
             Stands::Off(w) => literal_false(w as u64, n, p, self.a, self.b),
+        }
+    }
+
+    // The shares of some rules joined with those of this one. Most rules of a long clause do not name the variable: no part of such a rule is spoiled or mended,
+    // and three products do for the five products and four sums of `Shares::joined`.
+    pub fn join(self, shares: Shares) -> Shares
+        requires { Balanced self }
+        ensures { shares_in result ≡ capped_shares (joined_shares (shares_in shares) (capped_shares (shares_from self))) }
+    {
+        match self.stands {
+            Stands::Out => narrowed(shares, self.shares().g),
+            Stands::On(_) | Stands::Off(_) => shares.joined(self.shares()),
         }
     }
 

@@ -1,11 +1,12 @@
 // The sums of a rule's terms under an assignment, in one pass over them.
-ghost use Rattle.std.specs.Prelude.{◌≡◌, cond, ◌+◌, ◌<◌};
-ghost use Rattle.words.specs.Words.{word_at};
+ghost use Rattle.std.specs.Prelude.{◌≡◌, cond, ◌+◌, ◌<◌, nat_abs};
+ghost use Rattle.words.specs.Words.{word_at, signed};
 ghost use Rattle.rules.specs.Terms.{bits_in, terms_at, Readable};
-ghost use Rattle.rules.specs.Sums.{Summed, Room, Added};
+ghost use Rattle.rules.specs.Sums.{Summed, AddedWeight, held_in};
 
 use crate::entry::Entry;
-use crate::term::{Literal, read_literal};
+use crate::term::value_of;
+use words::{magnitude, to_signed, word};
 
 // K, what the bounds rise by, and P.
 #[derive(Clone, Copy)]
@@ -15,31 +16,52 @@ pub struct Sums {
     pub p: u32,
 }
 
-// A weight goes into a sum where its literal is of the kind that is summed. The test is a fact of the literal, as the definition's `cond` has it.
-fn plus_if(test: bool, w: u32, n: u32) -> u32
-    requires { w + n < 4294967296 }
-    ensures { result ≡ cond test w 0 + n }
-{
-    if test { w + n } else { n }
+// The three as they are kept over the terms: the sum of all weights, that of the negative ones' sizes, and that of the weights of true variables. The first and
+// the last are sums of words as they stand in the table, and wrap where a weight is negative. So a term costs three additions, and neither the size of its weight
+// nor whether its literal is true is asked: what a negative weight takes too much from K and P, the rise gives back at the end.
+#[derive(Clone, Copy)]
+struct Running {
+    weights: u32,
+    rise: u32,
+    trues: u32,
 }
 
-impl Sums {
+// A number where a test holds, else 0. The test is a fact of the term, as the definition's `cond` has it.
+fn only_if(test: bool, n: u32) -> u32
+    ensures { result ≡ cond test n 0 }
+{
+    if test { n } else { 0 }
+}
+
+impl Running {
     // Those of no terms.
-    pub const NONE: Sums = Sums {
-        k: 0,
+    const NONE: Running = Running {
+        weights: 0,
         rise: 0,
-        p: 0,
+        trues: 0,
     };
 
-    // Those with one more literal in front.
-    fn with(self, l: Literal) -> Sums
-        requires { Room l.size self }
-        ensures { Added l self result }
+    // Those with one more term in front, of which these are the weight's word and the variable's value.
+    fn with(self, weight: u32, value: bool) -> Running
+        requires { nat_abs (signed weight) + self.rise < 4294967296 }
+        ensures { AddedWeight weight value self result }
+    {
+        let w = to_signed(weight);
+        Running {
+            weights: self.weights.wrapping_add(weight),
+            rise: only_if(w.is_negative(), magnitude(w)) + self.rise,
+            trues: self.trues.wrapping_add(only_if(value, weight)),
+        }
+    }
+
+    // What they come to.
+    fn sums(self) -> Sums
+        ensures { result ≡ held_in self }
     {
         Sums {
-            k: l.size + self.k,
-            rise: plus_if(l.negated, l.size, self.rise),
-            p: plus_if(l.truth, l.size, self.p),
+            k: self.weights.wrapping_add(self.rise).wrapping_add(self.rise),
+            rise: self.rise,
+            p: self.trues.wrapping_add(self.rise),
         }
     }
 }
@@ -51,10 +73,12 @@ impl Entry {
         requires { Readable terms.now assignment.now self.first self.count }
         ensures { Summed (bits_in assignment.now) (terms_at (word_at terms.now) self.first self.count) result }
     {
-        let mut sums = Sums::NONE;
+        let mut running = Running::NONE;
         for k in (0..self.count).rev() {
-            sums = sums.with(read_literal(terms, assignment, self.first + k));
+            let i = self.first + k;
+            let value = value_of(assignment, word(terms, 2 * i));
+            running = running.with(word(terms, 2 * i + 1), value);
         }
-        sums
+        running.sums()
     }
 }

@@ -28,7 +28,7 @@ fn byte_of(variable: u32) -> usize
     requires { 0 < variable }
     ensures { result + 1 ≡ variable }
 {
-    (variable - 1) as usize
+    variable as usize - 1
 }
 
 pub fn value_of(assignment: &[u8], variable: u32) -> bool
@@ -39,11 +39,10 @@ pub fn value_of(assignment: &[u8], variable: u32) -> bool
     assignment[i] == 1
 }
 
-// A term's literal: its positive weight, whether it is negated, and whether it is true. They are two facts, for each of which weights are summed.
+// A term's literal: its positive weight, and whether it is true.
 #[derive(Clone, Copy)]
 pub struct Literal {
     pub size: u32,
-    pub negated: bool,
     pub truth: bool,
 }
 
@@ -52,11 +51,9 @@ pub fn read_literal(terms: &[u8], assignment: &[u8], i: usize) -> Literal
     ensures { LiteralOf (bits_in assignment.now) (term_of (word_at terms.now) i) result }
 {
     let t = read_term(terms, i);
-    let negated = t.weight.is_negative();
     let value = value_of(assignment, t.variable);
     Literal {
         size: magnitude(t.weight),
-        negated,
-        truth: value != negated,
+        truth: value != t.weight.is_negative(),
     }
 }

@@ -3,7 +3,7 @@ use native.Mathlib.Omega.{arith}
 use mathlib.Core.Path.{refl}
 use Rattle.counting.specs.Shares.{start_shares}
 use Rattle.recount.proofs.Laid.{run_readable, rules_inside}
-use Rattle.exact.proofs.Summing.{shares_start, shares_step, shares_end}
+use Rattle.exact.proofs.Summing.{shares_start, shares_step, shares_settled, shares_end}
 use Rattle.exact.proofs.Asked.clause_shares.Goals as goal
 
 pub rules_of-rules-requires : goal.rules_of-rules-requires
@@ -19,6 +19,11 @@ join_rule-shares-requires c =
 
 pub loop-r-preserved : goal.loop-r-preserved
 loop-r-preserved c = shares_step _ _ _ _ _ _ _ _ c.loop-r.invariant _ c.loop-r-test.true c.join_rule-shares.ensures
+
+pub returns-then-settled : goal.returns-then-settled
+returns-then-settled c =
+    let next = shares_step _ _ _ _ _ _ _ _ c.loop-r.invariant _ c.loop-r-test.true c.join_rule-shares.ensures in
+    shares_settled _ _ _ _ _ _ _ _ next c.settled.ensures c.if-settled.true
 
 pub returns : goal.returns
 returns c = shares_end _ _ _ _ _ _ _ _ c.loop-r.invariant c.loop-r-test.false

@@ -15,4 +15,4 @@ pub read_state_from-s-requires : goal.read_state_from-s-requires
 read_state_from-s-requires c = rule_ready _ _ _ (record { laid = c.args.self.now.lent.plan.laid; bytes = c.args.self.now.lent.bytes }) _ c.requires
 
 pub returns : goal.returns
-returns c = rule_joined _ _ _ _ _ _ _ _ c.read_state_from-s.ensures c.shares.ensures c.joined.ensures
+returns c = rule_joined _ _ _ _ _ _ _ c.read_state_from-s.ensures c.join.ensures

@@ -29,9 +29,8 @@ returns c =
     let read = c.read_term-t.ensures in
     let fits : SFits w32 t.weight = search rules in
     let back = to_z-of_z fits in
-    let negated = c.is_negative-negated.ensures ∙ ap signed_below back ∙ signs _ ∙ ap (λ (u : Term). is_negative u.weight) read in
+    let negated = c.is_negative.ensures ∙ ap signed_below back ∙ signs _ ∙ ap (λ (u : Term). is_negative u.weight) read in
     record {
       sized = c.magnitude.ensures ∙ ap nat_abs back ∙ ap (λ (u : Term). nat_abs u.weight) read;
-      negates = negated;
       truth = differs _ _ refl ∙ ap₂ (λ b v. cond b (not v) v) negated (c.value_of-value.ensures ∙ ap (λ (u : Term). value bits u.variable) read);
     }

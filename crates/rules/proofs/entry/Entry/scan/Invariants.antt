@@ -3,8 +3,8 @@
 use Prim.Native.Nat.{◌+◌, ◌-◌}
 use Rattle.words.specs.Words.{word_at}
 use Rattle.rules.specs.Terms.{bits_in, terms_at}
-use Rattle.rules.specs.Sums.{Summed}
+use Rattle.rules.specs.Sums.{Summed, held_in}
 use Rattle.rules.proofs.entry.Entry.scan.Given as goal
 
 abbrev pub invariant-loop-k : goal.invariant-loop-k
-invariant-loop-k l = Summed (bits_in l.assignment) (terms_at (word_at l.terms) (l.self.first + l.k) (l.self.count - l.k)) l.sums
+invariant-loop-k l = Summed (bits_in l.assignment) (terms_at (word_at l.terms) (l.self.first + l.k) (l.self.count - l.k)) (held_in l.running)
