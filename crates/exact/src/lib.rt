@@ -81,8 +81,9 @@ impl Asked<'_> {
         s.join(shares)
     }
 
-    // The shares of all rules of a clause, as far as they are not settled: of a long clause most often some rule holds whatever the variable does. The loop goes from one end to the other and not over the range, so that the rule's number is its own
-    // variable, of which the invariant speaks (see `recount::clause::rules_of`).
+    // The shares of all rules of a clause. It stops where they are settled: most long clauses have a rule that holds whatever the variable does. The loop
+    // goes from one end to the other and not over the range, so that the rule's number is its own variable, of which the invariant speaks (see
+    // `recount::clause::rules_of`).
     fn clause_shares(&self, c: usize) -> Shares
         requires { c < word_at self.now.lent.plan.tables.now 1 }
         ensures { shares_in result

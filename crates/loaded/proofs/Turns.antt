@@ -1,6 +1,6 @@
 -- One turn of each loop of the test: what has been tested, and what is left. Each follows from its definition's clause for one place more.
 -- Assumes nothing.
-use Prim.Native.Nat.{ℕ, suc, ◌+◌, ◌*◌, ◌-◌, ◌<◌, ◌≤◌}
+use Prim.Native.Nat.{ℕ, suc, ◌+◌, ◌-◌, ◌<◌, ◌≤◌}
 use mathlib.Core.Path.{◌≡◌, refl, sym, ◌∙◌}
 use mathlib.Core.Bool.{Bool, true, false, not}
 use native.Mathlib.Numerals.{add-one}
@@ -9,7 +9,7 @@ use lib.Dec.{eqb, leb}
 use borrow.Author.Tests.{not-true, not-false, leb-true}
 use Rattle.plpb.specs.Lists.{◌and◌}
 use Rattle.format.proofs.Bools.{and_assoc, and_right}
-use Rattle.format.specs.Good.{every_from, link_good, chain_from, term_good, terms_from}
+use Rattle.format.specs.Good.{every_from, link_good, chain_from}
 use Rattle.format.proofs.Good.{left_of, chain_step, chain_fail, chain_end}
 
 and_true : (b : Bool) → (b and true) ≡ b
@@ -26,18 +26,6 @@ module _ (p : ℕ → Bool) (b : Bool) (i e : ℕ) where
   pub every_done : e ≤ i → (b and every_from p i (e - i)) ≡ b
   unfolding every_from
   every_done h = let z : e - i ≡ 0 = omega arith in rw z (and_true b)
-
--- Terms.
-module _ (g : ℕ → ℕ) (n : ℕ) (b : Bool) (v i e : ℕ) where
-  pub terms_turn :
-      i < e → (b and terms_from g n v i (e - i)) ≡ ((b and term_good g n v i) and terms_from g n (g (2 * i)) (i + 1) (e - (i + 1)))
-  unfolding terms_from
-  terms_turn h =
-      rw (left_of i e h, add-one i) (sym (and_assoc b (term_good g n v i) (terms_from g n (g (2 * i)) (suc i) (e - suc i))))
-
-  pub terms_done : e ≤ i → (b and terms_from g n v i (e - i)) ≡ b
-  unfolding terms_from
-  terms_done h = let z : e - i ≡ 0 = omega arith in rw z (and_true b)
 
 -- An entry of a chain, tested by the two numbers that were read for it; what the branch on the test tells.
 module _ (first count : ℕ → ℕ) (e at i : ℕ) {a n : ℕ} {r : Bool} (p : a ≡ first i) (q : n ≡ count i) (h : r ≡ (eqb a at and leb 1 n and leb n (e - at))) where

@@ -4,14 +4,15 @@
 // of crate bodies, which look alike, have a way out at the first fault of a file; and a mode is any word here, not a byte.
 #![tactic(auto)]
 
-ghost use Rattle.std.specs.Prelude.{◌≡◌, ℕ, Bool, ◌+◌, ◌*◌, ◌-◌, ◌≤◌, ◌<◌, leb, ltb, eqb, nat_abs, length};
+ghost use Rattle.std.specs.Prelude.{◌≡◌, ℕ, Bool, true, cond, ◌+◌, ◌*◌, ◌-◌, ◌≤◌, ◌<◌, leb, ltb, eqb, nat_abs, length};
 ghost use Rattle.plpb.specs.Lists.{◌and◌};
 ghost use Rattle.words.specs.Words.{word_at, signed};
 ghost use Rattle.format.specs.Limits.{max_variables, max_clauses, max_rules, max_terms, max_weight, weight_lawful};
 ghost use Rattle.format.specs.Layout.{table_size, term_size, rule_first_at, rule_count_at};
 ghost use Rattle.format.specs.File.{bounds_lawful};
 ghost use Rattle.format.specs.Tables.{is_loaded};
-ghost use Rattle.format.specs.Good.{every_from, zeros_from, chain_from, terms_from};
+ghost use Rattle.format.specs.Good.{every_from, zeros_from, chain_from, term_good as termGood};
+ghost use Rattle.loaded.specs.Falls.{falls, starts, bounds_of};
 ghost use Rattle.format.specs.Good.{objective_good, locks_good, clauses_good, rules_good, rule_good, base_good};
 
 use format::{
@@ -44,11 +45,18 @@ fn link_good(first: usize, count: usize, at: usize, end: usize) -> bool
     (first == at) & (1 <= count) & (count <= end - at)
 }
 
-// "a term's variable outside 1 to n or not above the one before" is refused.
-fn term_good(above: u32, variable: u32, weight: u32, variables: u32) -> bool
-    ensures { result ≡ (ltb above variable and leb variable variables and weight_lawful (signed weight)) }
+// A term by itself: "a term's variable outside 1 to n" is refused, and a weight.
+fn term_good(variable: u32, weight: u32, variables: u32) -> bool
+    ensures { result ≡ (ltb 0 variable and leb variable variables and weight_lawful (signed weight)) }
 {
-    (above < variable) & (variable <= variables) & weight_good(weight)
+    (0 < variable) & (variable <= variables) & weight_good(weight)
+}
+
+// 1 where a variable is "not above the one before".
+fn fall(above: u32, variable: u32) -> u32
+    ensures { (result ≡ cond (leb variable above) 1 0) × (result ≤ 1) }
+{
+    u32::from(variable <= above)
 }
 
 // "mode outside 1 to 3, a bound outside ±1,000,000,000, an absent bound not 0" is refused.
@@ -151,37 +159,67 @@ impl<'a> Counted<'a> {
             & zeros(self.tables, CLAUSES + 2 * self.clauses, RULES)
     }
 
-    // A rule's terms, named by their places in the table: from one up to another.
-    fn rule_terms(self, from: usize, to: usize) -> bool
-        requires { (from ≤ to) × (to ≤ self.total) }
-        ensures { result ≡ terms_from (word_at self.entry.terms.now) self.entry.variables 0 from (to - from) }
+    // Each term by itself.
+    fn terms_good(self) -> bool
+        ensures { result ≡ every_from (termGood (word_at self.entry.terms.now) self.entry.variables 0) 0 self.entry.total }
     {
         let variables = narrow(self.variables);
         let mut all = true;
-        let mut above = 0;
-        for i in from..to {
-            let variable = word(self.terms, 2 * i);
-            all &= term_good(above, variable, word(self.terms, 2 * i + 1), variables);
-            above = variable;
+        for i in 0..self.total {
+            all &= term_good(
+                word(self.terms, 2 * i),
+                word(self.terms, 2 * i + 1),
+                variables,
+            );
         }
         all
     }
 
-    // A rule, whose terms are among the terms that there are.
-    fn rule_good(self, r: usize) -> bool
-        requires in_bounds { (r < self.rules)
-            × (word_at self.tables.now (rule_first_at r) + word_at self.tables.now (rule_count_at r) ≤ self.total) }
-        ensures { result ≡ rule_good (word_at self.entry.tables.now) (word_at self.entry.terms.now) r }
+    // How many terms name a variable that is not above that of the term before. One pass over all of them takes 16 bytes at a time, where most rules are too
+    // short for that.
+    fn falls(self) -> u32
+        ensures { result ≡ falls (word_at self.entry.terms.now) 0 0 self.entry.total }
     {
-        let first = index(self.tables, RULES + 5 * r);
-        let count = index(self.tables, RULE_COUNT + 5 * r);
+        let mut above = 0;
+        let mut count = 0;
+        for i in 0..self.total {
+            let variable = word(self.terms, 2 * i);
+            count += fall(above, variable);
+            above = variable;
+        }
+        count
+    }
+
+    // How many of those terms are the first of a rule. Where all are, the variables of each rule rise.
+    fn starts(self) -> u32
+        requires chained { chain_from (λ r. word_at self.tables.now (rule_first_at r)) (λ r. word_at self.tables.now (rule_count_at r))
+            self.total 0 0 self.rules ≡ true }
+        ensures { result ≡ starts (word_at self.entry.terms.now) (λ r. word_at self.entry.tables.now (rule_count_at r)) 0 0 0 self.entry.rules }
+    {
+        let mut at = 0;
+        let mut above = 0;
+        let mut count = 0;
+        for r in 0..self.rules {
+            count += fall(above, word(self.terms, 2 * at));
+            at += index(self.tables, RULE_COUNT + 5 * r);
+            above = word(self.terms, 2 * (at - 1));
+        }
+        count
+    }
+
+    // A rule's mode and bounds.
+    fn bounds_at(self, r: usize) -> bool
+        requires in_bounds { r < self.rules }
+        ensures { result ≡ bounds_of (word_at self.entry.tables.now) r }
+    {
         let mode = word(self.tables, RULE_MODE + 5 * r);
         let lower = word(self.tables, RULE_LOWER + 5 * r);
         let upper = word(self.tables, RULE_UPPER + 5 * r);
-        bounds_good(mode, lower, upper) & self.rule_terms(first, first + count)
+        bounds_good(mode, lower, upper)
     }
 
-    // The rules share out the terms in order, each is lawful, and 0 stands beyond the last.
+    // The rules share out the terms in order, each is lawful, and 0 stands beyond the last. Their terms are tested all together: each by itself, and then
+    // whether the variables fall where a rule begins and nowhere else.
     fn rules_good(self) -> bool
         ensures { result
             ≡ (rules_good (word_at self.entry.tables.now)
@@ -190,7 +228,8 @@ impl<'a> Counted<'a> {
         if !self.chain::<RULES, 5>(self.rules, self.total) {
             return false;
         }
-        (0..self.rules).all(|r| self.rule_good(r))
+        (0..self.rules).all(|r| self.bounds_at(r))
+            & (self.terms_good() & (self.falls() == self.starts()))
             & zeros(self.tables, RULES + 5 * self.rules, RULES_END)
     }
 

@@ -91,8 +91,8 @@ impl State {
         }
     }
 
-    // The shares of some rules joined with those of this one. Most rules of a long clause do not name the variable: no part of such a rule is spoiled or mended,
-    // and three products do for the five products and four sums of `Shares::joined`.
+    // The shares of some rules joined with those of this one. Most rules of a long clause do not name the variable: no part of such a rule is spoiled or
+    // mended, and three products do for the five products and four sums of `Shares::joined`.
     pub fn join(self, shares: Shares) -> Shares
         requires { Balanced self }
         ensures { shares_in result ≡ capped_shares (joined_shares (shares_in shares) (capped_shares (shares_from self))) }

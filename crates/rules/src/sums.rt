@@ -16,9 +16,9 @@ pub struct Sums {
     pub p: u32,
 }
 
-// The three as they are kept over the terms: the sum of all weights, that of the negative ones' sizes, and that of the weights of true variables. The first and
-// the last are sums of words as they stand in the table, and wrap where a weight is negative. So a term costs three additions, and neither the size of its weight
-// nor whether its literal is true is asked: what a negative weight takes too much from K and P, the rise gives back at the end.
+// The three as they are kept over the terms: the sum of all weights, that of the negative ones' sizes, and that of the weights of true variables. The
+// first and the last are sums of words as they stand in the table, and wrap where a weight is negative. So a term costs three additions, and whether its
+// literal is true is not asked: what a negative weight takes too much from K and P, the rise gives back at the end.
 #[derive(Clone, Copy)]
 struct Running {
     weights: u32,
