@@ -8,7 +8,7 @@ ghost use Rattle.plpb.specs.Numbers.{take_words, range, take_pick, start_words, 
 ghost use Rattle.format.specs.Assignment.{bit_bytes};
 ghost use Rattle.numbers.specs.Numbers.{numbers_of};
 ghost use Rattle.numbers.specs.Taking.{taken_of, Starts};
-ghost use Rattle.numbers.specs.Finding.{zero_words};
+ghost use Rattle.numbers.specs.Finding.{zero_words, zeros_below, rank};
 
 // What was drawn, be it a place or the variable that stands there, and how many numbers are used after it.
 #[derive(Clone, Copy, Debug, PartialEq, Eq)]
@@ -89,13 +89,65 @@ pub fn start(numbers: &[u8], used: usize, n: usize, assignment: &mut [u8]) -> Re
     Ok(after)
 }
 
+// How many words are counted at once on the way to the word that is sought,
+const FAR: usize = 64;
+
+// and how many in the block of those that has it.
+const NEAR: usize = 8;
+
+// A place among words, and how many words that are 0 stand from it on before the one that is sought.
+#[derive(Clone, Copy)]
+struct Place {
+    at: usize,
+    left: usize,
+}
+
+// How many of the n words from a place on are 0. They are counted in 32 bits, as wide as a word, so that the processor tests and counts four at once: by a
+// chain and `count`, which has 64 bits, it would be two.
+fn zeros_among(table: &[u8], base: usize, at: usize, n: usize) -> usize
+    requires { (4 * (base + at + n) ≤ length table.now) × (n < 4_294_967_296) }
+    ensures { zeros_below table.now base at + result ≡ zeros_below table.now base (at + n) }
+{
+    let mut zeros: u32 = 0;
+    for i in at..at + n {
+        if words::word(table, base + i) == 0 {
+            zeros += 1;
+        }
+    }
+    zeros as usize
+}
+
+// Goes on by whole blocks, as long as the word that is sought is behind the next one: a whole block that is left has it.
+fn pass_blocks(table: &[u8], base: usize, count: usize, from: Place, block: usize) -> Place
+    requires { (4 * (base + count) ≤ length table.now) × (from.at ≤ count) × (0 < block) × (block < 4_294_967_296) }
+    ensures { (result.at ≤ count) × (rank table.now base result ≡ rank table.now base from)
+        × (result.at + block ≤ count → rank table.now base result < zeros_below table.now base (result.at + block)) }
+{
+    let mut place = from;
+    while place.at + block <= count {
+        let zeros = zeros_among(table, base, place.at, block);
+        if place.left < zeros {
+            return place;
+        }
+        place = Place {
+            at: place.at + block,
+            left: place.left - zeros,
+        };
+    }
+    place
+}
+
 // The k-th, from 0, of the indices below count whose word, behind base others, is 0, if there are so many. The words are told by their indices, as the layout
-// of the tables has them: a sub-slice would count bytes.
+// of the tables has them: a sub-slice would count bytes. A pick asks for one among hundreds of words, so those before it are passed by blocks, and only the
+// last few one by one.
 pub fn nth_zero(table: &[u8], base: usize, count: usize, k: usize) -> Option<usize>
     requires { 4 * (base + count) ≤ length table.now }
     ensures { result ≡ slice_get (zero_words table.now base count) k }
 {
-    (0..count)
+    let first = Place { at: 0, left: k };
+    let far = pass_blocks(table, base, count, first, FAR);
+    let near = pass_blocks(table, base, count, far, NEAR);
+    (near.at..count)
         .filter(|&i| words::word(table, base + i) == 0)
-        .nth(k)
+        .nth(near.left)
 }
