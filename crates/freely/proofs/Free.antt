@@ -77,11 +77,15 @@ module _ {tables terms assignment tallies marks : List ℕ} {x k : ℕ} (v : Vis
   any_at f (y ∷ ys) zero d h e = ap (λ b. b or any f ys) e ∙ true_or _
   any_at f (y ∷ ys) (suc i) d h e = ap (λ b. f y or b) (any_at f ys i d (omega arith) e) ∙ or_true (f y)
 
-  -- One place of a clause of one rule that is spoiled breaks something.
-  pub place_breaks : has_several (get_or (plan_of_tables tables terms).clauses (place_at tables terms k).clause []) ≡ false → spoils_part (lent_bits tables terms assignment) x (place_rule tables terms k) ≡ true → eqb (capped_break (plan_of_tables tables terms) (lent_bits tables terms assignment) x) 0 ≡ false
-  place_breaks h e =
+  -- Where the clause of one place breaks, something does:
+  pub clause_breaks : ltb 0 (clause_break (lent_bits tables terms assignment) x (get_or (plan_of_tables tables terms).clauses (place_at tables terms k).clause [])) ≡ true → eqb (capped_break (plan_of_tables tables terms) (lent_bits tables terms assignment) x) 0 ≡ false
+  clause_breaks e =
       plan_breaks p a x (going_rises v.going) (omega (arith, v.going.low)) (going_bits v.going)
-      ∙ ap not (any_at (λ c. ltb 0 (clause_break a x c)) p.clauses (place_at tables terms k).clause [] (place_named v).clause_there (single_spoils h ∙ e))
+      ∙ ap not (any_at (λ c. ltb 0 (clause_break a x c)) p.clauses (place_at tables terms k).clause [] (place_named v).clause_there e)
+
+  -- a clause of one rule where that is spoiled.
+  pub place_breaks : has_several (get_or (plan_of_tables tables terms).clauses (place_at tables terms k).clause []) ≡ false → spoils_part (lent_bits tables terms assignment) x (place_rule tables terms k) ≡ true → eqb (capped_break (plan_of_tables tables terms) (lent_bits tables terms assignment) x) 0 ≡ false
+  place_breaks h e = clause_breaks (single_spoils h ∙ e)
 
 -- A group of such a clause is one place.
 pub single_group : {p : Plan} {x c k j : ℕ} → Group p x c k j → j ≤ length (order p) → has_several (get_or p.clauses c []) ≡ false → j ≡ k + 1

@@ -9,7 +9,7 @@ ghost use Rattle.words.specs.Words.{word_at};
 ghost use Rattle.words.specs.Writes.{Wrote};
 ghost use Rattle.columns.specs.Layout.{hint_at};
 ghost use Rattle.effects.specs.Footing.{plan_on, bits_on, HasRun};
-ghost use Rattle.effects.specs.Run.{plan, bits, clause};
+ghost use Rattle.effects.specs.Run.{plan, bits, clause, Inside};
 ghost use Rattle.groups.specs.Run.{end_of_group, Begins};
 
 use columns::HINTS;
@@ -52,12 +52,32 @@ fn next_break(run: &Run<'_, '_>) -> Option<usize>
     None
 }
 
-// Whether the place that the hint names is one of the run, of a clause of one rule, which the flip breaks.
+// Whether a group begins at place k: the place before it, if that is one of the run, is of another clause.
+fn begins_at(run: &Run<'_, '_>, k: usize) -> bool
+    requires { Inside run.now k }
+    ensures { result ≡ true → Begins run.now k }
+{
+    if k == run.first {
+        return true;
+    }
+    run.clause_at(k - 1) != run.clause_at(k)
+}
+
+// Whether the hint names a place of the run where a group begins whose clause the flip breaks. The one place of a clause of one rule is such a beginning.
 fn hint_breaks(run: &Run<'_, '_>) -> bool
     ensures { result ≡ true → eqb (capped_break (plan run.now) (bits run.now) run.now.x) 0 ≡ false }
 {
-    let k = index(run.marks, HINTS + run.x);
-    (run.first..run.end).contains(&k) && !run.has_several(k) && run.spoils_at(k)
+    let hint = index(run.marks, HINTS + run.x);
+    if !(run.first..run.end).contains(&hint) {
+        return false;
+    }
+    if !run.has_several(hint) {
+        return run.spoils_at(hint);
+    }
+    if !begins_at(run, hint) {
+        return false;
+    }
+    Group::at(run, hint).breaks()
 }
 
 // Whether the flip of x breaks nothing. Of the marks only the variable's hint may change. What is handed in is no `Run`: a run lends the marks to be read, and

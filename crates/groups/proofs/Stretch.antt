@@ -14,12 +14,13 @@ use Rattle.std.specs.List.{filter, find, list_any, list_all, range_with_len}
 use Rattle.std.specs.Option.{unwrap_or}
 use Rattle.std.proofs.lemmas.Bool.{cases_eq}
 use Rattle.plpb.specs.Lists.{◌and◌, ◌or◌, keep, any, all, count}
-use Rattle.plpb.specs.Plan.{Rule, Clause, Plan, Assignment, rule_holds, rising, numbers_rise}
+use Rattle.plpb.specs.Plan.{Rule, Clause, Plan, Assignment, named_in, rule_holds, rising, numbers_rise}
 use Rattle.plpb.specs.Equations.{clause_break}
-use Rattle.plpb.proofs.Lists.{count_le, all_at, true_and, and_true, and_false, false_and}
+use Rattle.plpb.proofs.Lists.{count_cons, count_le, all_at, true_and, and_true, and_false, false_and}
 use Rattle.words.specs.Words.{word_at}
 use Rattle.order.specs.Order.{Place, order, run_end, cut, rule_at}
 use Rattle.order.specs.Breaks.{spoils_part, false_after}
+use Rattle.order.specs.Grouped.{naming}
 use Rattle.order.specs.Blocks.{rules_along, same_clause, Group}
 use Rattle.order.proofs.Tested.{cut_length}
 use Rattle.order.proofs.Blocks.{cut_cons, cut_past}
@@ -91,6 +92,16 @@ module _ {A B : Type 0} (f : B → Bool) (h : A → B) where
   count_of [] = refl
   count_of (x ∷ xs) = kept_more (f (h x)) x _ _ (count_of xs)
 
+-- Of some items no more are so than of all.
+kept_count : {A : Type 0} (f q : A → Bool) (xs : List A) → count f (keep q xs) ≤ count f xs
+unfolding keep
+kept_count f q [] = omega arith
+kept_count f q (x ∷ xs) = at (q x) (kept_count f q xs)
+  where
+    at : (b : Bool) → count f (keep q xs) ≤ count f xs → count f (cond b (x ∷ keep q xs) (keep q xs)) ≤ count f (x ∷ xs)
+    at true h = rw (count_cons f x (keep q xs), count_cons f x xs) (omega (arith, h))
+    at false h = rw (count_cons f x xs) (omega (arith, h))
+
 module _ {tables terms assignment tallies marks : List ℕ} {x k j : ℕ} (s : Stretch tables terms assignment tallies marks x k j) where
   abbrev p : Plan
   p = plan_of_tables tables terms
@@ -148,6 +159,11 @@ module _ {tables terms assignment tallies marks : List ℕ} {x k j : ℕ} (s : S
 
     pub held_most : count (rule_holds (lent_bits tables terms assignment)) (rules_along (plan_of_tables tables terms) k j) ≤ j - k
     held_most = omega (arith, count_le (rule_holds a) (rules_along p k j), along_length p k j (omega (arith, g.some)) stretch_inside)
+
+    -- Where no rule of the clause holds, none of the group does.
+    pub none_held : count (rule_holds (lent_bits tables terms assignment)) (get_or (plan_of_tables tables terms).clauses c []) ≤ 0 → count (rule_holds (lent_bits tables terms assignment)) (get_or (plan_of_tables tables terms).clauses c []) ≡ count (rule_holds (lent_bits tables terms assignment)) (rules_along (plan_of_tables tables terms) k j)
+    unfolding naming
+    none_held h = rw g.rules (omega (arith, h, kept_count (rule_holds a) (λ q. named_in x q.terms) clause))
 
     pub group_decides : {b : Bool} → any (spoils_part (lent_bits tables terms assignment) x) (rules_along (plan_of_tables tables terms) k j) ≡ true → count (rule_holds (lent_bits tables terms assignment)) (get_or (plan_of_tables tables terms).clauses c []) ≡ count (rule_holds (lent_bits tables terms assignment)) (rules_along (plan_of_tables tables terms) k j) → b ≡ all (false_after (lent_bits tables terms assignment) x) (rules_along (plan_of_tables tables terms) k j) → b ≡ ltb 0 (clause_break (lent_bits tables terms assignment) x (get_or (plan_of_tables tables terms).clauses c []))
     group_decides {b} h e f =

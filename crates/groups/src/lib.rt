@@ -53,19 +53,20 @@ impl Group<'_> {
         (self.first..self.end).all(|i| self.run.fails_at(i))
     }
 
-    // Whether the flip breaks the clause.
+    // Whether the flip breaks the clause. How many of its rules hold is known, so it is asked first whether the group has room for them; where none holds,
+    // none of the group does, and none is counted.
     pub fn breaks(&self) -> bool
         ensures { result ≡ ltb 0 (clause_break (bits self.now) self.now.run.now.x (clause self.now)) }
     {
-        if !self.any_spoils() {
-            return false;
-        }
         let run = self.run;
         let holding = index(run.footing.tallies, HOLDING + self.clause);
         if self.end - self.first < holding {
             return false;
         }
-        if holding != self.held() {
+        if !self.any_spoils() {
+            return false;
+        }
+        if 0 < holding && holding != self.held() {
             return false;
         }
         self.all_fail()
