@@ -228,7 +228,7 @@ module _ {g : Group} (d : Placed g) where
   laid : Laid g.run.now.footing.tables.now g.run.now.footing.terms.now
   laid = g.run.now.going.kept.ready.laid
 
-  in_words : g.clause < word_at g.run.now.footing.tables.now 1
+  pub in_words : g.clause < word_at g.run.now.footing.tables.now 1
   in_words = omega (arith, there, clauses_word g.run.now.footing.tables.now g.run.now.footing.terms.now laid)
 
   pub placed_readable : RunReadable g.run.now.footing.tables.now g.clause

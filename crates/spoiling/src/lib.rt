@@ -13,7 +13,7 @@ use counting::bound::{over_difference, over_surely_past};
 use counting::count::Count;
 use effects::Run;
 use groups::Group;
-use joining::shares_along;
+use joining::break_along;
 use rules::place::Stands;
 use rules::state::State;
 
@@ -94,12 +94,13 @@ fn count_at(run: &Run<'_, '_>, k: usize) -> Step<Count>
         };
     }
     Step {
-        count: shares_along(&group).e,
+        count: break_along(&group),
         next,
     }
 }
 
 // The break count of the variable where it is no more than a limit. The place goes from group to group, as far as each is long, so that no `for` counts it.
+// Most groups count nothing, and nothing is added there.
 pub fn break_of(run: &Run<'_, '_>, limit: u64) -> Option<u64>
     ensures { UpTo limit (capped_break (plan run.now) (bits run.now) run.now.x) result }
 {
@@ -111,6 +112,10 @@ pub fn break_of(run: &Run<'_, '_>, limit: u64) -> Option<u64>
     let mut k = run.first;
     while k < run.end {
         let t = count_at(run, k);
+        k = t.next;
+        if t.count.rank() == 0 {
+            continue;
+        }
         sum = sum + t.count;
         if limit < sum.rank() {
             return None;
@@ -118,7 +123,6 @@ pub fn break_of(run: &Run<'_, '_>, limit: u64) -> Option<u64>
         if sum.cut {
             return Some(sum.rank());
         }
-        k = t.next;
     }
     Some(sum.rank())
 }

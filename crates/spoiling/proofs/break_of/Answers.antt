@@ -26,15 +26,16 @@ module _ (r : Run) {k sum : ℕ} (s : Summing (plan r) r.x (clause_break (bits r
   starts : Starts r k
   starts = sum_starts r (no_break (bits r) r.x) s h
 
-  module _ {t : Step Count} (d : Stepped (clause_break (bits r) r.x) r k t) {next : ℕ} (f : next ≡ capped (sum + number t.count)) where
-    goes : Summing (plan r) r.x (clause_break (bits r) r.x) (capped_break (plan r) (bits r) r.x) t.next next
-    goes = sum_next r.going (no_break (bits r) r.x) s here d.ends d.counted f
-
-    stays : capped next ≡ next
-    stays = ap capped f ∙ capped_twice _ ∙ sym f
-
+  module _ {t : Step Count} (d : Stepped (clause_break (bits r) r.x) r k t) where
     further : (k < t.next) × (t.next ≤ r.end)
     further = let g = starts.begins in (omega (arith, d.ends, g.some), omega (arith, d.ends, g.last, r.ends))
+
+    module _ {next : ℕ} (f : next ≡ capped (sum + number t.count)) where
+      goes : Summing (plan r) r.x (clause_break (bits r) r.x) (capped_break (plan r) (bits r) r.x) t.next next
+      goes = sum_next r.going (no_break (bits r) r.x) s here d.ends d.counted f
+
+      stays : capped next ≡ next
+      stays = ap capped f ∙ capped_twice _ ∙ sym f
 
 cut_large : (c : Count) → c.cut ≡ true → cap < number c
 cut_large c e = rw e (omega arith)
@@ -53,7 +54,7 @@ returns-then-limit-rank c =
     let s = c.loop-k.invariant.0 in
     let h = c.loop-k-test.true in
     given_up r.going (no_break _ r.x) (goes r s h c.count_at-t.ensures c.add-sum.ensures) (stays r s h c.count_at-t.ensures c.add-sum.ensures)
-    c.rank.ensures.0 c.if-limit-rank.true
+    c.rank-in-loop-k.ensures.0 c.if-limit-rank.true
 
 pub returns-then-sum : goal.returns-then-sum
 returns-then-sum c =
@@ -61,11 +62,23 @@ returns-then-sum c =
     let s = c.loop-k.invariant.0 in
     let h = c.loop-k-test.true in
     given_cut r.going (no_break _ r.x) (goes r s h c.count_at-t.ensures c.add-sum.ensures) (stays r s h c.count_at-t.ensures c.add-sum.ensures)
-    c.rank-then-sum.ensures.0 (cut_large c.add-sum.result c.if-sum.true) (omega (arith, c.rank-then-sum.ensures.0, c.rank.ensures.0, c.if-limit-rank.false))
+    c.rank-then-sum.ensures.0 (cut_large c.add-sum.result c.if-sum.true) (omega (arith, c.rank-then-sum.ensures.0, c.rank-in-loop-k.ensures.0, c.if-limit-rank.false))
+
+pub loop-k-smaller-then-rank-eq0 : goal.loop-k-smaller-then-rank-eq0
+loop-k-smaller-then-rank-eq0 c =
+    let f = further c.args.run.now c.loop-k.invariant.0 c.loop-k-test.true c.count_at-t.ensures in
+    omega (arith, f.0, f.1)
+
+pub loop-k-preserved-then-rank-eq0 : goal.loop-k-preserved-then-rank-eq0
+loop-k-preserved-then-rank-eq0 c =
+    let r = c.args.run.now in
+    let i = c.loop-k.invariant in
+    let same : number c.loop-k.sum ≡ number c.loop-k.sum + number c.count_at-t.result.count = omega (arith, c.rank.ensures.0, c.if-rank-eq0.true) in
+    (goes r i.0 c.loop-k-test.true c.count_at-t.ensures (sym i.1 ∙ ap capped same), i.1, i.2)
 
 pub loop-k-smaller : goal.loop-k-smaller
 loop-k-smaller c =
-    let f = further c.args.run.now c.loop-k.invariant.0 c.loop-k-test.true c.count_at-t.ensures c.add-sum.ensures in
+    let f = further c.args.run.now c.loop-k.invariant.0 c.loop-k-test.true c.count_at-t.ensures in
     omega (arith, f.0, f.1)
 
 pub loop-k-preserved : goal.loop-k-preserved
@@ -73,7 +86,7 @@ loop-k-preserved c =
     let r = c.args.run.now in
     let s = c.loop-k.invariant.0 in
     let h = c.loop-k-test.true in
-    (goes r s h c.count_at-t.ensures c.add-sum.ensures, stays r s h c.count_at-t.ensures c.add-sum.ensures, omega (arith, c.rank.ensures.0, c.if-limit-rank.false))
+    (goes r s h c.count_at-t.ensures c.add-sum.ensures, stays r s h c.count_at-t.ensures c.add-sum.ensures, omega (arith, c.rank-in-loop-k.ensures.0, c.if-limit-rank.false))
 
 pub returns : goal.returns
 returns c =

@@ -5,7 +5,7 @@ use Rattle.effects.proofs.Runs.{run_inside}
 use Rattle.effects.proofs.Places.{place_few}
 use Rattle.groups.proofs.Runs.{opened}
 use Rattle.freely.proofs.Free.{single_spoils, single_group, unbroken}
-use Rattle.spoiling.proofs.Counting.{single_count, shares_break}
+use Rattle.spoiling.proofs.Counting.{single_count}
 use Rattle.spoiling.proofs.count_at.Goals as goal
 
 pub overflow_add-next : goal.overflow_add-next
@@ -37,4 +37,4 @@ returns-then-not-breaks c =
 pub returns : goal.returns
 returns c =
     let e = c.at-group.ensures in
-    record { counted = shares_break _ _ _ _ (rw (e.0, e.1) at c.shares_along.ensures); ends = e.3 }
+    record { counted = rw (e.0, e.1) at c.break_along.ensures; ends = e.3 }
