@@ -1,8 +1,7 @@
 -- A clause's rules beside the places of its group: a rule that names the variable has the next place.
 -- Assumes nothing.
-use Prim.Native.Nat.{ℕ, suc, ◌+◌, ◌*◌, ◌-◌, ◌≤◌, ◌<◌}
-use native.Mathlib.Nat.{le_refl, zero-add}
-use native.Mathlib.Numerals.{add-one, unary_clauses}
+use Prim.Native.Nat.{ℕ, suc, ◌+◌, ◌-◌, ◌≤◌, ◌<◌}
+use native.Mathlib.Numerals.{add-one}
 use native.Mathlib.Decide.{dec_lt}
 use native.Mathlib.Omega.{arith}
 use mathlib.Core.Path.{◌≡◌, refl, sym, ap, ap₂, ◌∙◌}
@@ -10,21 +9,15 @@ use mathlib.Core.Bool.{Bool, true, false, cond}
 use mathlib.Core.Logic.{◌⊎◌, inl, inr, ⊎_elim}
 use mathlib.Core.List.{List, [], ◌∷◌, ◌++◌, append-nil}
 use lib.Dec.{eqb}
-use lib.ListN.{length, get_or, drop, drop_of_length-le}
+use lib.ListN.{length, get_or, drop}
 use lib.Seq.{drop-cons}
 use borrow.Author.Tests.{eq-eqb, ne_eqb}
 use Rattle.plpb.specs.Lists.{◌or◌, any, concat}
 use Rattle.plpb.specs.Plan.{Term, Rule, Clause, Plan, Assignment, named_in}
 use Rattle.plpb.specs.Normal.{literal, literal_true, size}
-use Rattle.plpb.specs.Count.{capped}
-use Rattle.plpb.specs.Equations.{out, on, off, over, standing, shares, shares_of}
-use Rattle.plpb.specs.Equations.{Shares as SharesOf}
+use Rattle.plpb.specs.Equations.{out, on, off, standing}
 use Rattle.plpb.specs.Tallies.{rules_of}
-use Rattle.plpb.proofs.Capped.{capped_zero}
 use Rattle.plpb.proofs.Lists.{false_T}
-use Rattle.counting.specs.Bound.{bound_of}
-use Rattle.counting.specs.Shares.{capped_shares, start_shares, joined_shares, joined_along}
-use Rattle.counting.proofs.Joining.{same_shares, capped_stays, capped_start, joined_step}
 use Rattle.words.specs.Words.{word_at}
 use Rattle.order.specs.Order.{Place, in_terms, in_rules, order, cut, no_rule, rule_at, first_rule, word_place}
 use Rattle.order.proofs.Occurrences.{place_in}
@@ -33,21 +26,17 @@ use Rattle.order.proofs.Grouped.{rule_first}
 use Rattle.order.proofs.Blocks.{cut_cons, cut_past}
 use Rattle.format.specs.Tables.{plan_of_tables}
 use Rattle.format.specs.Layout.{entry_at, clause_first_at, clause_count_at}
-use Rattle.rules.specs.declared.state.State.{State}
-use Rattle.rules.specs.Places.{standing_in}
-use Rattle.rules.specs.State.{StateOf, shares_from}
-use Rattle.rules.proofs.States.{shares_rule}
 use Rattle.recount.specs.Core.{Laid, RunReadable}
-use Rattle.recount.proofs.Laid.{parts, clauses_word, run_readable, first_rule_lem, next_rule_lem}
+use Rattle.recount.proofs.Laid.{clauses_word, run_readable, next_rule_lem}
 use Rattle.columns.specs.Columns.{no_place}
-use Rattle.effects.specs.Kept.{lent_bits, place_at, Visited}
+use Rattle.effects.specs.Kept.{place_at, Visited}
 use Rattle.effects.proofs.Kept.{rule_rising}
 use Rattle.effects.proofs.Places.{place_here}
 use Rattle.effects.proofs.Visits.{visited}
 use Rattle.groups.specs.declared.group.Group.{Group}
 use Rattle.groups.proofs.Stretch.{stretch_inside}
 use Rattle.groups.proofs.Runs.{group_stretch, of_run}
-use Rattle.joining.specs.Merging.{Ahead, Merging, Placed, untouched}
+use Rattle.joining.specs.Merging.{Ahead, Merging, Placed}
 
 -- ---- the first place of some rules
 
@@ -190,37 +179,11 @@ module _ {g : Group} {r i : ℕ} (m : Merging g r i) where
       at false e l =
           (record { there = m.ahead.there; first = omega (arith, m.ahead.first); low = omega (arith, l, m.ahead.low); places = rw l (split ∙ ap (λ b. cond b (u ∷ R) R) e ∙ same_rest) }, omega (arith, l))
 
--- ---- the shares of one more rule
-
--- One number of shares joined with those of a rule that does not name the variable.
-left_one : (s k g : ℕ) {r : ℕ} → r ≡ capped (s * g) → r ≡ capped (s * (0 + g) + k * 0)
-left_one s k g e = simp unary_clauses (e ∙ ap (λ z. capped (s * z)) (sym (zero-add g)))
-
-pub narrowed_is : (s : SharesOf) (g : ℕ) {e f h : ℕ} → e ≡ capped (s.e * g) → f ≡ capped (s.f * g) → h ≡ capped (s.g * g)
-    → ◌≡◌ {A = SharesOf} (record { e = e; f = f; g = h }) (capped_shares (joined_shares s (untouched g)))
-unfolding capped_shares joined_shares untouched
-narrowed_is s g p q r = same_shares (left_one s.e s.g g p) (left_one s.f s.g g q) r
-
-pub untouched_out : (z : State) {g : ℕ} → standing_in z.stands ≡ out → g ≡ capped (over z.n (bound_of z.a) + over z.p (bound_of z.b)) → untouched g ≡ capped_shares (shares_from z)
-unfolding untouched shares_from shares capped_shares
-untouched_out z h k = rw h (same_shares (sym capped_zero) (sym capped_zero) k)
-
--- ---- all rules of the clause
-
--- Those before r are joined.
-pub record Joined (p : Plan) (a : Assignment) (x c k j r i : ℕ) (s : SharesOf) : Type 0 where
-  pub ahead : Ahead p x c r i j
-  pub last : r ≤ first_rule p.clauses (suc c)
-  pub low : k ≤ i
-  pub stays : capped_shares s ≡ s
-  pub along : capped_shares (joined_along (shares_of a x) s (drop (r - first_rule p.clauses c) (get_or p.clauses c []))) ≡ capped_shares (joined_along (shares_of a x) start_shares (get_or p.clauses c []))
+-- ---- where the clause's rules are
 
 module _ {g : Group} (d : Placed g) where
   abbrev plan : Plan
   plan = plan_of_tables g.run.now.footing.tables.now g.run.now.footing.terms.now
-
-  abbrev bits : Assignment
-  bits = lent_bits g.run.now.footing.tables.now g.run.now.footing.terms.now g.run.now.footing.assignment.now
 
   there : g.clause < length plan.clauses
   there = g.whole.clause_there
@@ -236,47 +199,3 @@ module _ {g : Group} (d : Placed g) where
 
   pub placed_end : {end : ℕ} → end ≡ word_at g.run.now.footing.tables.now (clause_first_at g.clause) + word_at g.run.now.footing.tables.now (clause_count_at g.clause) → end ≡ first_rule (plan_of_tables g.run.now.footing.tables.now g.run.now.footing.terms.now).clauses (suc g.clause)
   placed_end e = e ∙ sym (next_rule_lem g.run.now.footing.tables.now g.run.now.footing.terms.now laid g.clause in_words)
-
-  pub end_few : first_rule (plan_of_tables g.run.now.footing.tables.now g.run.now.footing.terms.now).clauses (suc g.clause) ≤ 1_025
-  unfolding rules_of
-  end_few = omega (arith, first_within plan.clauses (suc g.clause), (parts g.run.now.footing.tables.now g.run.now.footing.terms.now laid).rule_count)
-
-  pub joined_start : {first : ℕ} {s : SharesOf} → first ≡ word_at g.run.now.footing.tables.now (clause_first_at g.clause) → s ≡ start_shares → Joined (plan_of_tables g.run.now.footing.tables.now g.run.now.footing.terms.now) (lent_bits g.run.now.footing.tables.now g.run.now.footing.terms.now g.run.now.footing.assignment.now) g.run.now.x g.clause g.first g.end first g.first s
-  joined_start {first} {s} e h =
-      let same : first ≡ first_rule plan.clauses g.clause = e ∙ first_rule_lem g.run.now.footing.tables.now g.run.now.footing.terms.now laid g.clause in_words in
-      let none : first - first_rule plan.clauses g.clause ≡ 0 = omega (arith, same) in
-      record {
-        ahead = record { there = there; first = omega (arith, same); low = omega (arith, g.whole.some); places = rw (none, same) d.places };
-        last = omega (arith, same, first_next plan.clauses g.clause there);
-        low = le_refl g.first;
-        stays = rw h capped_start;
-        along = rw (none, h) refl;
-      }
-
-  module _ {r i : ℕ} {s : SharesOf} (o : Joined (plan_of_tables g.run.now.footing.tables.now g.run.now.footing.terms.now) (lent_bits g.run.now.footing.tables.now g.run.now.footing.terms.now g.run.now.footing.assignment.now) g.run.now.x g.clause g.first g.end r i s) where
-    pub joined_merging : r < first_rule (plan_of_tables g.run.now.footing.tables.now g.run.now.footing.terms.now).clauses (suc g.clause) → Merging g r i
-    joined_merging h = record {
-      low = o.low;
-      ahead = o.ahead;
-      last = h;
-    }
-
-    pub joined_next : (h : r < first_rule (plan_of_tables g.run.now.footing.tables.now g.run.now.footing.terms.now).clauses (suc g.clause)) {z : State} {t : SharesOf} {n : ℕ} → StateOf (lent_bits g.run.now.footing.tables.now g.run.now.footing.terms.now g.run.now.footing.assignment.now) g.run.now.x (rule_at (plan_of_tables g.run.now.footing.tables.now g.run.now.footing.terms.now) r) z → t ≡ capped_shares (joined_shares s (capped_shares (shares_from z))) → n ≡ cond (named_in g.run.now.x (rule_at (plan_of_tables g.run.now.footing.tables.now g.run.now.footing.terms.now) r).terms) (i + 1) i → Joined (plan_of_tables g.run.now.footing.tables.now g.run.now.footing.terms.now) (lent_bits g.run.now.footing.tables.now g.run.now.footing.terms.now g.run.now.footing.assignment.now) g.run.now.x g.clause g.first g.end (r + 1) n t
-    joined_next h {z} {t} {n} q f l =
-        let next = ahead_next (joined_merging h) l in
-        record {
-          ahead = next.0;
-          last = omega arith;
-          low = omega (arith, o.low, next.1);
-          stays = capped_stays t (joined_shares s (capped_shares (shares_from z))) f;
-          along =
-              joined_step (shares_of bits g.run.now.x) s t (capped_shares (shares_from z)) (rule_at plan r) (drop (r + 1 - first_rule plan.clauses g.clause) (get_or plan.clauses g.clause [])) (ap capped_shares (shares_rule q)) f
-              ∙ ap (λ rs. capped_shares (joined_along (shares_of bits g.run.now.x) s rs)) (sym (rules_next (joined_merging h)))
-              ∙ o.along;
-        }
-
-    pub joined_end : first_rule (plan_of_tables g.run.now.footing.tables.now g.run.now.footing.terms.now).clauses (suc g.clause) ≤ r → s ≡ capped_shares (joined_along (shares_of (lent_bits g.run.now.footing.tables.now g.run.now.footing.terms.now g.run.now.footing.assignment.now) g.run.now.x) start_shares (get_or (plan_of_tables g.run.now.footing.tables.now g.run.now.footing.terms.now).clauses g.clause []))
-    unfolding joined_along
-    joined_end h =
-        let none : drop (r - first_rule plan.clauses g.clause) (get_or plan.clauses g.clause []) ≡ [] = drop_of_length-le (get_or plan.clauses g.clause []) {i = r - first_rule plan.clauses g.clause} (omega (arith, first_next plan.clauses g.clause there)) in
-        sym o.stays ∙ rw none at o.along

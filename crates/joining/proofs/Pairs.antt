@@ -35,7 +35,7 @@ use Rattle.joining.proofs.Merging.{ahead_next, rules_next, in_words}
 -- ---- one more rule
 
 -- A factor that is capped first.
-pub capped_factor : (d G : ℕ) {g r : ℕ} → g ≡ capped G → r ≡ capped (d * g) → r ≡ capped (d * G)
+capped_factor : (d G : ℕ) {g r : ℕ} → g ≡ capped G → r ≡ capped (d * g) → r ≡ capped (d * G)
 capped_factor d G {g} e h = h ∙ same_product d d g G refl (ap capped e ∙ capped_twice G)
 
 -- e and g of the rule may be capped first.
@@ -129,12 +129,12 @@ module _ (e g : Rule → ℕ) where
       let all : ℕ = product (λ q. e q + g q) rs in
       same_sum (d * all) (d' * all) (k * (all - product g rs)) (k' * (all - product g rs)) (same_product d d' all all p refl) (same_product k k' (all - product g rs) (all - product g rs) q refl)
 
-  pub comes_step : (t u : Pair) (r : Rule) (rs : Clause) → JoinedPair t (e r) (g r) u → capped (comes_to (number u.e) (number u.g) rs) ≡ capped (comes_to (number t.e) (number t.g) (r ∷ rs))
+  comes_step : (t u : Pair) (r : Rule) (rs : Clause) → JoinedPair t (e r) (g r) u → capped (comes_to (number u.e) (number u.g) rs) ≡ capped (comes_to (number t.e) (number t.g) (r ∷ rs))
   comes_step t u r rs h =
       same_comes rs (number u.e) (number t.e * (e r + g r) + number t.g * e r) (number u.g) (number t.g * g r) (ap capped h.changed ∙ capped_twice _) (ap capped h.left ∙ capped_twice _)
       ∙ ap capped (comes_cons (number t.e) (number t.g) r rs)
 
-  pub comes_end : (d k : ℕ) → comes_to d k [] ≡ d
+  comes_end : (d k : ℕ) → comes_to d k [] ≡ d
   unfolding comes_to product
   comes_end d k = omega arith
 

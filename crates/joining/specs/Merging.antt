@@ -2,7 +2,6 @@
 -- Assumes nothing.
 use Rattle.std.specs.Prelude.{ℕ, suc, ◌-◌, ◌≤◌, ◌<◌, ◌≡◌, [], length, get_or, drop}
 use Rattle.plpb.specs.Plan.{Plan}
-use Rattle.plpb.specs.Equations.{Shares as SharesOf}
 use Rattle.order.specs.Order.{in_rules, order, cut, first_rule}
 use Rattle.groups.specs.declared.group.Group.{Group}
 use Rattle.groups.specs.Group.{plan, clause}
@@ -23,7 +22,3 @@ pub record Merging (g : Group) (r i : ℕ) : Type 0 where
 -- The places of the group are those of its clause, rule by rule.
 pub record Placed (g : Group) : Type 0 where
   pub places : cut g.first g.end (order (plan g)) ≡ in_rules g.run.now.x g.clause (first_rule (plan g).clauses g.clause) (clause g)
-
--- The shares of a rule that does not name the variable: a flip spoils and mends no part of it, and g of them stay unsatisfied.
-unfoldable pub untouched : ℕ → SharesOf
-untouched g = record { e = 0; f = 0; g = g }

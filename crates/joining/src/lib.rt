@@ -1,24 +1,22 @@
-// What a flip spoils and mends of a clause of several rules: the shares of its rules joined, each from what is kept of the rule. The places of the group tell
+// What a flip spoils, or mends, of a clause of several rules: the shares of its rules joined, each from what is kept of the rule. The places of the group tell
 // which rules name the variable. The rule and the next place stay two numbers beside the group: the loop steps each by itself, and a struct of the three would
 // be made anew for each rule, to be asked for one state and one place.
 #![tactic(auto)]
 
-ghost use Rattle.std.specs.Prelude.{◌≡◌, cond, ◌+◌};
+ghost use Rattle.std.specs.Prelude.{◌≡◌};
 ghost use Rattle.plpb.specs.Plan.{named_in};
 ghost use Rattle.plpb.specs.Count.{capped};
-ghost use Rattle.plpb.specs.Equations.{out, shares_of, clause_break, clause_make};
+ghost use Rattle.plpb.specs.Equations.{out, clause_break, clause_make};
 ghost use Rattle.counting.specs.Count.{number};
-ghost use Rattle.counting.specs.Shares.{shares_in, capped_shares, start_shares, joined_shares, joined_along};
 ghost use Rattle.order.specs.Order.{rule_at};
 ghost use Rattle.rules.specs.Places.{standing_in};
-ghost use Rattle.rules.specs.State.{Balanced, StateOf, shares_from};
+ghost use Rattle.rules.specs.State.{Balanced, shares_from};
 ghost use Rattle.groups.specs.Group.{plan, bits, clause};
-ghost use Rattle.joining.specs.Merging.{Merging, Placed, untouched};
+ghost use Rattle.joining.specs.Merging.{Merging, Placed};
 ghost use Rattle.joining.specs.Pairs.{JoinedPair, SeenFor, clause_count};
 
 use counting::bound::{over, over_difference};
 use counting::count::Count;
-use counting::shares::{Shares, literal_absent};
 use effects::told;
 use format::ORDER;
 use groups::Group;
@@ -38,68 +36,6 @@ fn is_at(group: &Group<'_>, r: usize, i: usize) -> bool
         return rule_in(word(run.footing.tables, ORDER + i)) == r;
     }
     false
-}
-
-// The place behind that of rule r.
-fn past(group: &Group<'_>, r: usize, i: usize) -> usize
-    requires { Merging group.now r i }
-    ensures { result ≡ cond (named_in group.now.run.now.x (rule_at (plan group.now) r).terms) (i + 1) i }
-{
-    if is_at(group, r, i) {
-        return i + 1;
-    }
-    i
-}
-
-// The state of rule r, seen from the variable.
-fn state_in(group: &Group<'_>, r: usize, i: usize) -> State
-    requires { Merging group.now r i }
-    ensures { StateOf (bits group.now) group.now.run.now.x (rule_at (plan group.now) r) result }
-{
-    let run = group.run;
-    if is_at(group, r, i) {
-        return run.state_at(i);
-    }
-    told(run.footing.tallies, r, Stands::Out)
-}
-
-// The shares of some rules joined with those of one that does not name the variable: no part of it is spoiled or mended, and g of them stay unsatisfied.
-fn narrowed(shares: Shares, g: Count) -> Shares
-    ensures { shares_in result ≡ capped_shares (joined_shares (shares_in shares) (untouched (number g))) }
-{
-    Shares {
-        e: shares.e * g,
-        f: shares.f * g,
-        g: shares.g * g,
-    }
-}
-
-// The same with a rule in this state. Most rules of a long clause do not name the variable, and then three products do for the five products and four sums of
-// `Shares::joined`.
-fn with_rule(shares: Shares, s: State) -> Shares
-    requires { Balanced s }
-    ensures { shares_in result ≡ capped_shares (joined_shares (shares_in shares) (capped_shares (shares_from s))) }
-{
-    match s.stands {
-        Stands::Out => narrowed(shares, literal_absent(s.n as u64, s.p as u64, s.a, s.b).g),
-        Stands::On(_) | Stands::Off(_) => shares.joined(s.shares()),
-    }
-}
-
-// The shares of the clause whose group this is.
-pub fn shares_along(group: &Group<'_>) -> Shares
-    requires { Placed group.now }
-    ensures { shares_in result ≡ capped_shares (joined_along (shares_of (bits group.now) group.now.run.now.x) start_shares (clause group.now)) }
-{
-    let run = group.run;
-    let mut shares = Shares::START;
-    let mut i = group.first;
-    for r in rules_of(run.footing.tables, group.clause) {
-        let s = state_in(group, r, i);
-        shares = with_rule(shares, s);
-        i = past(group, r, i);
-    }
-    shares
 }
 
 // e and g of some rules joined: what a flip spoils of their parts, and what it leaves unsatisfied. It is `Shares` without f: a clause's break count takes no

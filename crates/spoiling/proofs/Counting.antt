@@ -11,12 +11,9 @@ use Rattle.plpb.specs.Lists.{all, sum_by}
 use Rattle.plpb.specs.Plan.{Clause, Plan, Assignment, names, rising, numbers_rise}
 use Rattle.plpb.specs.Tallies.{rules_of}
 use Rattle.plpb.proofs.Lists.{all_at}
-use Rattle.plpb.specs.Equations.{shares_of, clause_break, clause_make}
-use Rattle.plpb.specs.Equations.{Shares as SharesOf}
+use Rattle.plpb.specs.Equations.{clause_break, clause_make}
 use Rattle.plpb.specs.Count.{cap, capped, capped_break}
 use Rattle.plpb.proofs.Capped.{capped_large, capped_most}
-use Rattle.counting.specs.Shares.{capped_shares, start_shares, joined_along}
-use Rattle.counting.proofs.Joining.{clause_shares_lem}
 use Rattle.order.specs.Order.{Place, in_rules, order, run_end, cut, rule_at, first_rule, has_several}
 use Rattle.order.specs.Grouped.{naming}
 use Rattle.order.specs.Blocks.{Group}
@@ -115,15 +112,6 @@ module _ {tables terms assignment tallies marks : List ℕ} {x k : ℕ} (v : Vis
   single_past h q l =
       let here : (shares_from _).e ≡ clause_break a x clause = ap (λ t. t.e) (shares_rule q) ∙ sym (single_break a x (place_rule tables terms k)) ∙ ap (clause_break a x) (sym (single_clause v h)) in
       sym (capped_large _ (omega (arith, here, l, sum_member (clause_break a x) (plan_of_tables tables terms).clauses (place_at tables terms k).clause [] (place_named v).clause_there))) ∙ break_counted v.going
-
-module _ (a : Assignment) (x : ℕ) (c : Clause) where
-  pub shares_break : (s : SharesOf) → s ≡ capped_shares (joined_along (shares_of a x) start_shares c) → s.e ≡ capped (clause_break a x c)
-  unfolding capped_shares
-  shares_break s h = ap (λ t. t.e) (h ∙ ap capped_shares (clause_shares_lem a x c))
-
-  pub shares_make : (s : SharesOf) → s ≡ capped_shares (joined_along (shares_of a x) start_shares c) → s.f ≡ capped (clause_make a x c)
-  unfolding capped_shares
-  shares_make s h = ap (λ t. t.f) (h ∙ ap capped_shares (clause_shares_lem a x c))
 
 -- ---- a sum that is given up
 
