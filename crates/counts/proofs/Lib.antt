@@ -1,2 +1,2 @@
--- Idle places one behind the other.
-mod Idle
+-- Sums that go past clauses that are met.
+mod Passing

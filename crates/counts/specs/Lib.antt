@@ -1,2 +1,2 @@
--- Both counts of a flip, group by group.
-pub mod Turns
+-- Which clauses of a run are met.
+pub mod Met

@@ -1,19 +1,24 @@
--- What the code keeps of a ranking: the raised scores stand as the scores do, and one variable more is put where the definition puts it.
+-- What the code keeps of a ranking: the raised scores stand as the scores do, ranked variables stand by falling score, and one variable more is put where the
+-- definition puts it.
 -- Assumes nothing.
-use Prim.Native.Nat.{ℕ, max, min, ◌+◌, ◌-◌, ◌≤◌}
+use Prim.Native.Nat.{ℕ, suc, max, min, ◌+◌, ◌-◌, ◌≤◌, ◌<◌}
 use native.Mathlib.Omega.{arith}
-use mathlib.Core.Bool.{true, false}
+use mathlib.Core.Bool.{Bool, true, false, cond}
 use mathlib.Core.List.{List, [], ◌∷◌}
-use mathlib.Core.Path.{◌≡◌, sym, ap, ap₂, ◌∙◌}
+use mathlib.Core.Path.{◌≡◌, refl, sym, ap, ap₂, ◌∙◌}
 use lib.Dec.{ltb}
 use lib.IntN.{pos, ◌+ℤ◌, ◌-ℤ◌, +ℤ_assoc, +ℤ_comm, -ℤ-+ℤ_cancel, pos-+ℤ-pos}
 use lib.Signed.{lt_z}
+use borrow.Author.Tests.{lt-ltb, le-ltb}
 use Rattle.std.specs.Prelude.{Some, None}
 use Rattle.std.proofs.lemmas.Option.{none-some}
+use Rattle.plpb.specs.Lists.{◌and◌, ◌or◌}
 use Rattle.plpb.specs.Plan.{Plan, Assignment}
 use Rattle.plpb.specs.Expansion.{break_count, make_count}
 use Rattle.plpb.specs.Count.{cap, given, capped, capped_break, capped_make}
 use Rattle.plpb.specs.Novelty.{score, is_older, ranks_before, placed, ranked, latest}
+use Rattle.plpb.proofs.Lists.{true_or, false_T}
+use Rattle.plpb.proofs.Capped.{capped_most}
 use Rattle.plpb.proofs.Integers.{lt_z_shift}
 use Rattle.ranking.specs.declared.Standing.{Standing}
 use Rattle.ranking.specs.declared.Top.{Top}
@@ -40,19 +45,109 @@ module _ (p : Plan) (a : Assignment) where
   pub scores_stand : (x y : ℕ) → lt_z (score p a x) (score p a y) ≡ ltb (raised_score p a x) (raised_score p a y)
   scores_stand x y = sym (lt_z_shift (pos cap) (score p a x) (score p a y)) ∙ ap₂ lt_z (raised_score_lem x) (raised_score_lem y)
 
-pub first_word : {i j : ℕ} {is js : List ℕ} → i ∷ is ≡ j ∷ js → i ≡ j
-first_word e = cc
-
--- What is given out of a count is given out of where it stands.
-given_capped : (n : ℕ) → (given (capped n)).value ≡ (given n).value
+-- What a count takes to a score is given out of where it stands.
+value_capped : (n : ℕ) → min (capped n) cap ≡ (given n).value
 unfolding given capped
-given_capped n = omega arith
+value_capped n = omega arith
 
-module _ (p : Plan) (a : Assignment) (x : ℕ) {m b : ℕ} (e : m ≡ capped_make p a x) (d : b ≡ capped_break p a x) where
-  pub counts_raised : (given m).value + (cap - (given b).value) ≡ raised_score p a x
-  unfolding raised_score capped_make capped_break
-  counts_raised =
-      ap₂ (λ i j. i + (cap - j)) (ap (λ n. (given n).value) e ∙ given_capped (make_count p a x)) (ap (λ n. (given n).value) d ∙ given_capped (break_count p a x))
+module _ (p : Plan) (a : Assignment) (x : ℕ) {m : ℕ} (e : m ≡ min (capped_make p a x) cap) where
+  makes : m ≡ (given (make_count p a x)).value
+  unfolding capped_make
+  makes = e ∙ value_capped (make_count p a x)
+
+  breaks : min (capped_break p a x) cap ≡ (given (break_count p a x)).value
+  unfolding capped_break
+  breaks = value_capped (break_count p a x)
+
+  pub score_is : {b : ℕ} → b ≡ min (capped_break p a x) cap → m + cap - b ≡ raised_score p a x
+  unfolding raised_score
+  score_is d = omega (arith, d, makes, breaks)
+
+  -- A score is below the least where the make count leaves it there,
+  pub score_below : {least : ℕ} → (least ≤ m + cap → ⊥) → raised_score p a x < least
+  unfolding raised_score
+  score_below h = omega (arith, h, makes)
+
+  -- and where the break count takes more off than what the make count is above it.
+  pub score_falls : {least room limit : ℕ} → least + room ≡ m + cap → limit < capped_break p a x → room < cap → limit ≡ room → raised_score p a x < least
+  unfolding raised_score
+  score_falls h l d i = omega (arith, h, l, d, i, makes, breaks)
+
+-- No count stands above a cut one.
+pub none_above : (p : Plan) (a : Assignment) (x : ℕ) {limit : ℕ} → limit < capped_break p a x → limit ≡ suc cap → ⊥
+unfolding capped_break
+none_above p a x h e = omega (arith, h, e, capped_most (break_count p a x))
+
+-- ---- ranked variables stand by falling score
+
+le_of_not : {m n : ℕ} → (n < m → ⊥) → m ≤ n
+le_of_not h = omega (arith, h)
+
+module _ (p : Plan) (a : Assignment) (last : ℕ → ℕ) where
+  higher_first : (x y : ℕ) → raised_score p a x < raised_score p a y → ranks_before p a last y x ≡ true
+  unfolding ranks_before
+  higher_first x y h = rw (scores_stand p a x y, lt-ltb _ _ h) (true_or _)
+
+  lower_behind : (x y : ℕ) → raised_score p a y < raised_score p a x → ranks_before p a last y x ≡ false
+  unfolding ranks_before ◌or◌ ◌and◌
+  lower_behind x y h =
+      let l : raised_score p a y ≤ raised_score p a x = omega (arith, h) in
+      rw (scores_stand p a x y, scores_stand p a y x, le-ltb _ _ l, lt-ltb _ _ h) refl
+
+  before_high : (x y : ℕ) → ranks_before p a last y x ≡ true → raised_score p a x ≤ raised_score p a y
+  before_high x y e = le_of_not (λ h. false_T (sym e ∙ lower_behind x y h) tt)
+
+  behind_low : (x y : ℕ) → ranks_before p a last y x ≡ false → raised_score p a y ≤ raised_score p a x
+  behind_low x y e = le_of_not (λ h. false_T (sym (higher_first x y h) ∙ e) tt)
+
+  -- The first of a list, if there is one, has no higher score than a variable ..
+  unfoldable Under : ℕ → List ℕ → Type 0
+  Under y [] = Unit {0}
+  Under y (z ∷ zs) = raised_score p a z ≤ raised_score p a y
+
+  -- .. and so each of a list than the one before it.
+  unfoldable Falls : List ℕ → Type 0
+  Falls [] = Unit {0}
+  Falls (y ∷ ys) = Under y ys × Falls ys
+
+  under_placed : (x y : ℕ) (ys : List ℕ) → raised_score p a x ≤ raised_score p a y → Under y ys → Under y (placed p a last x ys)
+  unfolding placed Under
+  under_placed x y [] l u = l
+  under_placed x y (z ∷ zs) l u = at (ranks_before p a last z x)
+    where
+      at : (b : Bool) → Under y (cond b (z ∷ placed p a last x zs) (x ∷ z ∷ zs))
+      at true = u
+      at false = l
+
+  falls_placed : (x : ℕ) (ys : List ℕ) → Falls ys → Falls (placed p a last x ys)
+  unfolding placed Falls Under
+  falls_placed x [] f = (tt, tt)
+  falls_placed x (y ∷ ys) f = at (ranks_before p a last y x) refl (falls_placed x ys f.1)
+    where
+      at : (b : Bool) → ranks_before p a last y x ≡ b → Falls (placed p a last x ys) → Falls (cond b (y ∷ placed p a last x ys) (x ∷ y ∷ ys))
+      at true e more = (under_placed x y ys (before_high x y e) f.0, more)
+      at false e more = (behind_low x y e, f)
+
+  falls_ranked : (xs : List ℕ) → Falls (ranked p a last xs)
+  unfolding ranked Falls
+  falls_ranked [] = tt
+  falls_ranked (x ∷ xs) = falls_placed x (ranked p a last xs) (falls_ranked xs)
+
+  -- A variable whose score is below that of the second stands behind both.
+  put_past : (x : ℕ) (ys : List ℕ) (t : Top) (l : ℕ) {g : Standing} → Falls ys → Tops p a last ys t → t.second ≡ Some g → raised_score p a x < g.score
+      → Tops p a last (placed p a last x ys) (record { first = t.first; second = t.second; latest = l })
+  unfolding Tops placed Falls Under
+  put_past x [] t l {g} f k e h = absurd (none-some g (sym k.1 ∙ e))
+  put_past x (y ∷ []) t l {g} f k e h = absurd (none-some g (sym k.1 ∙ e))
+  put_past x (y ∷ z ∷ ys) t l {g} f k e h =
+      let v : Stands p a last z g = rw e at k.1 in
+      let b : raised_score p a x < raised_score p a z = omega (arith, v.score, h) in
+      rw (higher_first x y (omega (arith, b, f.0)), higher_first x z b) (k.0, k.1)
+
+  pub ranks_past : (x : ℕ) {xs : List ℕ} {t : Top} {l m : ℕ} {g : Standing} → Ranks p a last xs t → t.second ≡ Some g → raised_score p a x < g.score → l ≡ last x → m ≡ max l t.latest
+      → Ranks p a last (x ∷ xs) (record { first = t.first; second = t.second; latest = m })
+  unfolding ranked latest
+  ranks_past x {xs} {t} {l} {m} r e h i j = record { tops = put_past x (ranked p a last xs) t m (falls_ranked xs) r.tops e h; newest = j ∙ ap₂ max i r.newest }
 
 -- ---- one variable more
 

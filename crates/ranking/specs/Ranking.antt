@@ -1,6 +1,6 @@
 -- The first two of the ranked variables, as the code keeps them.
 -- Assumes nothing.
-use Rattle.std.specs.Prelude.{ℕ, ◌+◌, ◌-◌, ◌≡◌, Bool, not, List, [], ◌∷◌, ltb, eqb, None, IsSomeAnd}
+use Rattle.std.specs.Prelude.{ℕ, ◌+◌, ◌-◌, ◌≡◌, ◌<◌, Bool, not, List, [], ◌∷◌, ltb, eqb, Option, Some, None, IsSomeAnd}
 use Rattle.plpb.specs.Lists.{◌and◌, ◌or◌}
 use Rattle.plpb.specs.Plan.{Plan, Assignment}
 use Rattle.plpb.specs.Expansion.{break_count, make_count}
@@ -18,6 +18,11 @@ pub record Stands (p : Plan) (a : Assignment) (last : ℕ → ℕ) (x : ℕ) (s 
   pub score : s.score ≡ raised_score p a x
   pub last_flip : s.last ≡ last x
   pub variable : s.variable ≡ x
+
+-- A score that is told where it is no less than the least.
+abbrev pub From : ℕ → ℕ → Option ℕ → Type 0
+From least n (Some s) = s ≡ n
+From least n None = n < least
 
 -- Which of two comes first.
 unfoldable pub older_than : Standing → Standing → Bool

@@ -43,8 +43,8 @@ word-requires c =
     let k = pickable c.args.choice.now c.requires in
     omega (arith, c.loop-i-test.true, list_ends k, k.listed.room, c.loop-i.invariant.1)
 
-pub standing_of-s-requires : goal.standing_of-s-requires
-standing_of-s-requires c =
+pub ranked_too-top-requires : goal.ranked_too-top-requires
+ranked_too-top-requires c =
     let q = c.args.choice.now in
     let l = listed q.footing q.clause c.plan.ensures c.list_of-list.ensures in
     rw c.word.ensures (run (pickable q c.requires) (omega (arith, l.0, c.loop-i-test.true)) c.loop-i.invariant.1)
@@ -58,7 +58,7 @@ loop-i-preserved c =
     let some : list_start q k < c.loop-i.i = omega (arith, l.0, c.loop-i-test.true) in (
       omega (arith, some),
       omega (arith, i.1),
-      rw (← next (pickable c.args.choice.now c.requires) some i.1, ← c.word.ensures) (c.joined-top.ensures _ _ _ _ _ i.2 c.standing_of-s.ensures),
+      rw (← next (pickable c.args.choice.now c.requires) some i.1, ← c.word.ensures) (c.ranked_too-top.ensures _ i.2),
     )
 
 pub returns : goal.returns
