@@ -15,7 +15,7 @@ use counting::count::Count;
 use effects::Run;
 use format::HOLDING;
 use groups::Group;
-use joining::shares_along;
+use joining::make_along;
 use mending::{group_mends, mended};
 use spoiling::Step;
 use words::word;
@@ -28,12 +28,12 @@ fn clause_mended(group: &Group<'_>) -> Count
     if !group_mends(group) {
         return Count::ZERO;
     }
-    shares_along(group).f
+    make_along(group)
 }
 
 // What the clause of the group at place k counts: one of one rule by its place, one of several by its group. `spoiling::count_at` does the same for the break
 // count.
-fn count_at(run: &Run<'_, '_>, k: usize) -> Step<Count>
+fn count_at(run: &Run<'_, '_>, k: usize) -> Step
     requires { Starts run.now k }
     ensures { Stepped (clause_make (bits run.now) run.now.x) run.now k result }
 {

@@ -17,7 +17,7 @@ pub record Starts (q : Run) (k : ℕ) : Type 0 where
   pub places : cut k (end_of_group q k) (order (plan q)) ≡ in_rules q.x (place q k).clause (first_rule (plan q).clauses (place q k).clause) (clause q k)
 
 -- What the clause of the group at place k counts, and where the group ends.
-pub record Stepped (count : Clause → ℕ) (q : Run) (k : ℕ) (r : Step Count) : Type 0 where
+pub record Stepped (count : Clause → ℕ) (q : Run) (k : ℕ) (r : Step) : Type 0 where
   pub counted : number r.count ≡ capped (count (clause q k))
   pub ends : r.next ≡ end_of_group q k
 

@@ -60,15 +60,15 @@ fn cut_at_last(run: &Run<'_, '_>) -> bool
 
 // What a group counts, and where it ends.
 #[derive(Clone, Copy)]
-pub struct Step<T> {
-    pub count: T,
+pub struct Step {
+    pub count: Count,
     pub next: usize,
 }
 
 // A clause of one rule counts nothing where the rule is not spoiled, one of several where it does not break: no binomial is worked out there.
-// `freely::passed` and `counts::turn_at` go on to the next group as this does, and each asks something else of a rule and of a group: one function over two
+// `freely::passed` and `counts::count_at` go on to the next group as this does, and each asks something else of a rule and of a group: one function over two
 // closures would say of both what each of the three now says in a line.
-fn count_at(run: &Run<'_, '_>, k: usize) -> Step<Count>
+fn count_at(run: &Run<'_, '_>, k: usize) -> Step
     requires { Starts run.now k }
     ensures { Stepped (clause_break (bits run.now) run.now.x) run.now k result }
 {
