@@ -44,13 +44,13 @@ use Rattle.counts.specs.Met.{held, PastMet}
 
 module _ (r : Run) where
   -- The word of a clause among the tallies.
-  pub held_word : {k w : ℕ} → Inside r k → w ≡ word_at r.footing.tallies.now (holding_at (place r k).clause) → w ≡ held r k
+  pub held_word : {k w : ℕ} → Inside r k → w ≡ word_at r.footing.now.tallies.now (holding_at (place r k).clause) → w ≡ held r k
   held_word {k} v e =
       let t = r.going.kept in
       let laid = t.ready.laid in
       let there = (place_named (visited r v)).clause_there in
       let few : (place r k).clause < 513 = omega (arith, there, (parts _ _ laid).clause_count) in
-      e ∙ fresh_words (plan r) laid.room (bits r) r.footing.tallies.now t.fresh (holding_at (place r k).clause) (omega arith) ∙ clause_word (plan r) (roomy_fits (plan r) laid.room) (bits r) (place r k).clause there
+      e ∙ fresh_words (plan r) laid.room (bits r) r.footing.now.tallies.now t.fresh (holding_at (place r k).clause) (omega arith) ∙ clause_word (plan r) (roomy_fits (plan r) laid.room) (bits r) (place r k).clause there
 
   -- ---- the first place of a clause that is not met
 

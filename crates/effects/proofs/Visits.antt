@@ -23,7 +23,7 @@ pub going_on : (q : Footing) {marks : List ℕ} {x : ℕ} → HasRun q marks x �
 going_on q h = record { kept = walkable q h.weighed; low = h.low; high = h.high }
 
 -- and a place of a run is visited.
-pub visited : (r : Run) {k : ℕ} → Inside r k → Visited r.footing.tables.now r.footing.terms.now r.footing.assignment.now r.footing.tallies.now r.marks.now r.x k
+pub visited : (r : Run) {k : ℕ} → Inside r k → Visited r.footing.now.tables.now r.footing.now.terms.now r.footing.now.assignment.now r.footing.now.tallies.now r.marks.now r.x k
 visited r i = record { going = r.going; first = omega (arith, i.0, r.begins); last = omega (arith, i.1, r.ends) }
 
 -- The clause that a place's word tells.

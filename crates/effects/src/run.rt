@@ -14,26 +14,26 @@ use recount::clause::run_of;
 // First and end are two numbers: a `Range` is not `Copy`, so that each chain over the places would clone it.
 #[derive(Clone, Copy)]
 pub struct Run<'a, 'b> {
-    pub footing: Footing<'a>,
+    pub footing: &'b Footing<'a>,
     pub marks: &'b [u8],
     pub x: usize,
     pub first: usize,
     pub end: usize,
-    pub ghost going: { Going footing.tables.now footing.terms.now footing.assignment.now footing.tallies.now
+    pub ghost going: { Going footing.now.tables.now footing.now.terms.now footing.now.assignment.now footing.now.tallies.now
         marks.now x } by { Prim.hlevel (props, holds_prop) },
-    pub ghost begins: { first ≡ run_end (plan_of_tables footing.tables.now footing.terms.now) (x - 1) },
-    pub ghost ends: { end ≡ run_end (plan_of_tables footing.tables.now footing.terms.now) x },
+    pub ghost begins: { first ≡ run_end (plan_of_tables footing.now.tables.now footing.now.terms.now) (x - 1) },
+    pub ghost ends: { end ≡ run_end (plan_of_tables footing.now.tables.now footing.now.terms.now) x },
 }
 
 impl<'a, 'b> Run<'a, 'b> {
     // The run of x.
-    pub fn of(footing: &Footing<'a>, marks: &'b [u8], x: usize) -> Run<'a, 'b>
+    pub fn of(footing: &'b Footing<'a>, marks: &'b [u8], x: usize) -> Run<'a, 'b>
         requires { HasRun footing.now marks.now x }
-        ensures { (result.footing ≡ footing.now) × (result.marks.now ≡ marks.now) × (result.x ≡ x) }
+        ensures { (result.footing.now ≡ footing.now) × (result.marks.now ≡ marks.now) × (result.x ≡ x) }
     {
         let at = run_of(footing.tables, x);
         Run {
-            footing: *footing,
+            footing,
             marks,
             x,
             first: at.start,

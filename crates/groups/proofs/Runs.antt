@@ -11,14 +11,14 @@ use Rattle.groups.proofs.Stretch.{Stretch}
 
 module _ (r : Run) where
   -- The places of a group are a stretch.
-  pub group_stretch : {c k j : ℕ} → IsGroup r c k j → Stretch r.footing.tables.now r.footing.terms.now r.footing.assignment.now r.footing.tallies.now r.marks.now r.x k j
+  pub group_stretch : {c k j : ℕ} → IsGroup r c k j → Stretch r.footing.now.tables.now r.footing.now.terms.now r.footing.now.assignment.now r.footing.now.tallies.now r.marks.now r.x k j
   group_stretch g = record { going = r.going; first = g.first; last = g.last }
 
   -- A group begins at a place of the run.
   pub opening : {k : ℕ} → Begins r k → Inside r k
   opening g = (omega (arith, g.first, r.begins), omega (arith, g.some, g.last, r.ends))
 
-  pub opened : {k : ℕ} → Begins r k → Visited r.footing.tables.now r.footing.terms.now r.footing.assignment.now r.footing.tallies.now r.marks.now r.x k
+  pub opened : {k : ℕ} → Begins r k → Visited r.footing.now.tables.now r.footing.now.terms.now r.footing.now.assignment.now r.footing.now.tallies.now r.marks.now r.x k
   opened g = record { going = r.going; first = g.first; last = omega (arith, g.some, g.last) }
 
 -- Each place of a group is one of the run.

@@ -71,18 +71,18 @@ standing_out a x (t ∷ ts) e = at (eqb t.variable x) e (standing_out a x ts)
 
 module _ {g : Group} {r i : ℕ} (m : Merging g r i) where
   abbrev p : Plan
-  p = plan_of_tables g.run.now.footing.tables.now g.run.now.footing.terms.now
+  p = plan_of_tables g.run.now.footing.now.tables.now g.run.now.footing.now.terms.now
 
   abbrev clause : Clause
-  clause = get_or (plan_of_tables g.run.now.footing.tables.now g.run.now.footing.terms.now).clauses g.clause []
+  clause = get_or (plan_of_tables g.run.now.footing.now.tables.now g.run.now.footing.now.terms.now).clauses g.clause []
 
   abbrev f : ℕ
-  f = first_rule (plan_of_tables g.run.now.footing.tables.now g.run.now.footing.terms.now).clauses g.clause
+  f = first_rule (plan_of_tables g.run.now.footing.now.tables.now g.run.now.footing.now.terms.now).clauses g.clause
 
   inside : r - f < length clause
   inside = omega (arith, m.last, m.ahead.first, first_next p.clauses g.clause m.ahead.there)
 
-  pub merging_below : r < length (rules_of (plan_of_tables g.run.now.footing.tables.now g.run.now.footing.terms.now))
+  pub merging_below : r < length (rules_of (plan_of_tables g.run.now.footing.now.tables.now g.run.now.footing.now.terms.now))
   unfolding rules_of
   merging_below = omega (arith, m.last, first_within p.clauses (suc g.clause))
 
@@ -95,7 +95,7 @@ module _ {g : Group} {r i : ℕ} (m : Merging g r i) where
   rest : List Rule
   rest = drop (suc (r - f)) clause
 
-  pub rules_next : drop (r - first_rule (plan_of_tables g.run.now.footing.tables.now g.run.now.footing.terms.now).clauses g.clause) (get_or (plan_of_tables g.run.now.footing.tables.now g.run.now.footing.terms.now).clauses g.clause []) ≡ rule_at (plan_of_tables g.run.now.footing.tables.now g.run.now.footing.terms.now) r ∷ drop (r + 1 - first_rule (plan_of_tables g.run.now.footing.tables.now g.run.now.footing.terms.now).clauses g.clause) (get_or (plan_of_tables g.run.now.footing.tables.now g.run.now.footing.terms.now).clauses g.clause [])
+  pub rules_next : drop (r - first_rule (plan_of_tables g.run.now.footing.now.tables.now g.run.now.footing.now.terms.now).clauses g.clause) (get_or (plan_of_tables g.run.now.footing.now.tables.now g.run.now.footing.now.terms.now).clauses g.clause []) ≡ rule_at (plan_of_tables g.run.now.footing.now.tables.now g.run.now.footing.now.terms.now) r ∷ drop (r + 1 - first_rule (plan_of_tables g.run.now.footing.now.tables.now g.run.now.footing.now.terms.now).clauses g.clause) (get_or (plan_of_tables g.run.now.footing.now.tables.now g.run.now.footing.now.terms.now).clauses g.clause [])
   rules_next =
       let next : suc (r - f) ≡ r + 1 - f = omega (arith, m.ahead.first) in
       drop-cons clause (r - f) no_rule inside ∙ ap₂ (λ q n. q ∷ drop n clause) rule_is next
@@ -119,11 +119,11 @@ module _ {g : Group} {r i : ℕ} (m : Merging g r i) where
   first_of : i < g.end → cut i g.end (order p) ≡ get_or (order p) i no_place ∷ cut (i + 1) g.end (order p)
   first_of h = cut_cons i g.end (order p) no_place h (stretch_inside (group_stretch g.run.now g.whole))
 
-  pub merging_visited : i < g.end → Visited g.run.now.footing.tables.now g.run.now.footing.terms.now g.run.now.footing.assignment.now g.run.now.footing.tallies.now g.run.now.marks.now g.run.now.x i
+  pub merging_visited : i < g.end → Visited g.run.now.footing.now.tables.now g.run.now.footing.now.terms.now g.run.now.footing.now.assignment.now g.run.now.footing.now.tallies.now g.run.now.marks.now g.run.now.x i
   merging_visited h = visited g.run.now (of_run g m.low h)
 
   -- A rule that names x has the next place, and one that does not has not.
-  module _ (e : named_in g.run.now.x (rule_at (plan_of_tables g.run.now.footing.tables.now g.run.now.footing.terms.now) r).terms ≡ true) where
+  module _ (e : named_in g.run.now.x (rule_at (plan_of_tables g.run.now.footing.now.tables.now g.run.now.footing.now.terms.now) r).terms ≡ true) where
     both : cut i g.end (order p) ≡ u ∷ R
     both = split ∙ ap (λ b. cond b (u ∷ R) R) e
 
@@ -138,7 +138,7 @@ module _ {g : Group} {r i : ℕ} (m : Merging g r i) where
             let z : ◌≡◌ {A = ℕ} 0 1 = cc in
             absurd (omega arith)
 
-    pub named_here : (place_at g.run.now.footing.tables.now g.run.now.footing.terms.now i).rule ≡ r
+    pub named_here : (place_at g.run.now.footing.now.tables.now g.run.now.footing.now.terms.now i).rule ≡ r
     unfolding u
     named_here =
         let b : get_or (order p) i no_place ∷ cut (i + 1) g.end (order p) ≡ u ∷ R = sym (first_of named_low) ∙ both in
@@ -150,19 +150,19 @@ module _ {g : Group} {r i : ℕ} (m : Merging g r i) where
         let b : get_or (order p) i no_place ∷ cut (i + 1) g.end (order p) ≡ u ∷ R = sym (first_of named_low) ∙ both in
         cc
 
-  module _ (e : named_in g.run.now.x (rule_at (plan_of_tables g.run.now.footing.tables.now g.run.now.footing.terms.now) r).terms ≡ false) where
-    pub unnamed_here : i < g.end → (place_at g.run.now.footing.tables.now g.run.now.footing.terms.now i).rule ≡ r → ⊥
+  module _ (e : named_in g.run.now.x (rule_at (plan_of_tables g.run.now.footing.now.tables.now g.run.now.footing.now.terms.now) r).terms ≡ false) where
+    pub unnamed_here : i < g.end → (place_at g.run.now.footing.now.tables.now g.run.now.footing.now.terms.now i).rule ≡ r → ⊥
     unnamed_here h s = omega (arith, s, head_rule g.run.now.x g.clause (suc r) (drop (r + 1 - f) clause) (get_or (order p) i no_place) (cut (i + 1) g.end (order p)) (sym (split ∙ ap (λ b. cond b (u ∷ R) R) e) ∙ first_of h))
 
   -- Whether the rule names x, by the place.
-  pub at_named : {w : ℕ} → i < g.end → w ≡ word_at g.run.now.footing.tables.now (entry_at i) → eqb (word_place w).rule r ≡ named_in g.run.now.x (rule_at (plan_of_tables g.run.now.footing.tables.now g.run.now.footing.terms.now) r).terms
+  pub at_named : {w : ℕ} → i < g.end → w ≡ word_at g.run.now.footing.now.tables.now (entry_at i) → eqb (word_place w).rule r ≡ named_in g.run.now.x (rule_at (plan_of_tables g.run.now.footing.now.tables.now g.run.now.footing.now.terms.now) r).terms
   at_named {w} h k = ap (λ n. eqb n r) (ap (λ v. (word_place v).rule) k ∙ ap (λ q. q.rule) (place_here (merging_visited h))) ∙ at (named_in g.run.now.x (rule_at p r).terms) refl
     where
-      at : (b : Bool) → named_in g.run.now.x (rule_at p r).terms ≡ b → eqb (place_at g.run.now.footing.tables.now g.run.now.footing.terms.now i).rule r ≡ b
+      at : (b : Bool) → named_in g.run.now.x (rule_at p r).terms ≡ b → eqb (place_at g.run.now.footing.now.tables.now g.run.now.footing.now.terms.now i).rule r ≡ b
       at true e = eq-eqb _ r (named_here e)
       at false e = ne_eqb _ r (unnamed_here e h)
 
-  pub past_unnamed : g.end ≤ i → false ≡ named_in g.run.now.x (rule_at (plan_of_tables g.run.now.footing.tables.now g.run.now.footing.terms.now) r).terms
+  pub past_unnamed : g.end ≤ i → false ≡ named_in g.run.now.x (rule_at (plan_of_tables g.run.now.footing.now.tables.now g.run.now.footing.now.terms.now) r).terms
   past_unnamed h = at (named_in g.run.now.x (rule_at p r).terms) refl
     where
       at : (b : Bool) → named_in g.run.now.x (rule_at p r).terms ≡ b → false ≡ b
@@ -170,7 +170,7 @@ module _ {g : Group} {r i : ℕ} (m : Merging g r i) where
       at false e = refl
 
   -- The next rule, and the places behind.
-  pub ahead_next : {k : ℕ} → k ≡ cond (named_in g.run.now.x (rule_at (plan_of_tables g.run.now.footing.tables.now g.run.now.footing.terms.now) r).terms) (i + 1) i → Ahead (plan_of_tables g.run.now.footing.tables.now g.run.now.footing.terms.now) g.run.now.x g.clause (r + 1) k g.end × (i ≤ k)
+  pub ahead_next : {k : ℕ} → k ≡ cond (named_in g.run.now.x (rule_at (plan_of_tables g.run.now.footing.now.tables.now g.run.now.footing.now.terms.now) r).terms) (i + 1) i → Ahead (plan_of_tables g.run.now.footing.now.tables.now g.run.now.footing.now.terms.now) g.run.now.x g.clause (r + 1) k g.end × (i ≤ k)
   ahead_next {k} h = at (named_in g.run.now.x (rule_at p r).terms) refl h
     where
       at : (b : Bool) → named_in g.run.now.x (rule_at p r).terms ≡ b → k ≡ cond b (i + 1) i → Ahead p g.run.now.x g.clause (r + 1) k g.end × (i ≤ k)
@@ -183,19 +183,19 @@ module _ {g : Group} {r i : ℕ} (m : Merging g r i) where
 
 module _ {g : Group} (d : Placed g) where
   abbrev plan : Plan
-  plan = plan_of_tables g.run.now.footing.tables.now g.run.now.footing.terms.now
+  plan = plan_of_tables g.run.now.footing.now.tables.now g.run.now.footing.now.terms.now
 
   there : g.clause < length plan.clauses
   there = g.whole.clause_there
 
-  laid : Laid g.run.now.footing.tables.now g.run.now.footing.terms.now
+  laid : Laid g.run.now.footing.now.tables.now g.run.now.footing.now.terms.now
   laid = g.run.now.going.kept.ready.laid
 
-  pub in_words : g.clause < word_at g.run.now.footing.tables.now 1
-  in_words = omega (arith, there, clauses_word g.run.now.footing.tables.now g.run.now.footing.terms.now laid)
+  pub in_words : g.clause < word_at g.run.now.footing.now.tables.now 1
+  in_words = omega (arith, there, clauses_word g.run.now.footing.now.tables.now g.run.now.footing.now.terms.now laid)
 
-  pub placed_readable : RunReadable g.run.now.footing.tables.now g.clause
-  placed_readable = run_readable g.run.now.footing.tables.now g.run.now.footing.terms.now laid g.clause in_words
+  pub placed_readable : RunReadable g.run.now.footing.now.tables.now g.clause
+  placed_readable = run_readable g.run.now.footing.now.tables.now g.run.now.footing.now.terms.now laid g.clause in_words
 
-  pub placed_end : {end : ℕ} → end ≡ word_at g.run.now.footing.tables.now (clause_first_at g.clause) + word_at g.run.now.footing.tables.now (clause_count_at g.clause) → end ≡ first_rule (plan_of_tables g.run.now.footing.tables.now g.run.now.footing.terms.now).clauses (suc g.clause)
-  placed_end e = e ∙ sym (next_rule_lem g.run.now.footing.tables.now g.run.now.footing.terms.now laid g.clause in_words)
+  pub placed_end : {end : ℕ} → end ≡ word_at g.run.now.footing.now.tables.now (clause_first_at g.clause) + word_at g.run.now.footing.now.tables.now (clause_count_at g.clause) → end ≡ first_rule (plan_of_tables g.run.now.footing.now.tables.now g.run.now.footing.now.terms.now).clauses (suc g.clause)
+  placed_end e = e ∙ sym (next_rule_lem g.run.now.footing.now.tables.now g.run.now.footing.now.terms.now laid g.clause in_words)

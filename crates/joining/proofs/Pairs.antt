@@ -162,14 +162,14 @@ pub record Counting (p : Plan) (a : Assignment) (x c k j r i : ℕ) (d : Counted
 
 module _ {g : Group} (f : Placed g) (d : Counted) where
   abbrev plan : Plan
-  plan = plan_of_tables g.run.now.footing.tables.now g.run.now.footing.terms.now
+  plan = plan_of_tables g.run.now.footing.now.tables.now g.run.now.footing.now.terms.now
 
   abbrev bits : Assignment
-  bits = lent_bits g.run.now.footing.tables.now g.run.now.footing.terms.now g.run.now.footing.assignment.now
+  bits = lent_bits g.run.now.footing.now.tables.now g.run.now.footing.now.terms.now g.run.now.footing.now.assignment.now
 
-  pub counting_start : {first : ℕ} {t : Pair} → first ≡ word_at g.run.now.footing.tables.now (clause_first_at g.clause) → number t.e ≡ 0 → number t.g ≡ 1 → Counting (plan_of_tables g.run.now.footing.tables.now g.run.now.footing.terms.now) (lent_bits g.run.now.footing.tables.now g.run.now.footing.terms.now g.run.now.footing.assignment.now) g.run.now.x g.clause g.first g.end first g.first d t
+  pub counting_start : {first : ℕ} {t : Pair} → first ≡ word_at g.run.now.footing.now.tables.now (clause_first_at g.clause) → number t.e ≡ 0 → number t.g ≡ 1 → Counting (plan_of_tables g.run.now.footing.now.tables.now g.run.now.footing.now.terms.now) (lent_bits g.run.now.footing.now.tables.now g.run.now.footing.now.terms.now g.run.now.footing.now.assignment.now) g.run.now.x g.clause g.first g.end first g.first d t
   counting_start {first} {t} e p q =
-      let same : first ≡ first_rule plan.clauses g.clause = e ∙ first_rule_lem g.run.now.footing.tables.now g.run.now.footing.terms.now g.run.now.going.kept.ready.laid g.clause (in_words f) in
+      let same : first ≡ first_rule plan.clauses g.clause = e ∙ first_rule_lem g.run.now.footing.now.tables.now g.run.now.footing.now.terms.now g.run.now.going.kept.ready.laid g.clause (in_words f) in
       let none : first - first_rule plan.clauses g.clause ≡ 0 = omega (arith, same) in
       record {
         ahead = record { there = g.whole.clause_there; first = omega (arith, same); low = omega (arith, g.whole.some); places = rw (none, same) f.places };
@@ -179,12 +179,12 @@ module _ {g : Group} (f : Placed g) (d : Counted) where
         along = rw (none, p, q) (ap capped (comes_start d bits g.run.now.x (get_or plan.clauses g.clause [])));
       }
 
-  module _ {r i : ℕ} {t : Pair} (o : Counting (plan_of_tables g.run.now.footing.tables.now g.run.now.footing.terms.now) (lent_bits g.run.now.footing.tables.now g.run.now.footing.terms.now g.run.now.footing.assignment.now) g.run.now.x g.clause g.first g.end r i d t) where
-    pub counting_merging : r < first_rule (plan_of_tables g.run.now.footing.tables.now g.run.now.footing.terms.now).clauses (suc g.clause) → Merging g r i
+  module _ {r i : ℕ} {t : Pair} (o : Counting (plan_of_tables g.run.now.footing.now.tables.now g.run.now.footing.now.terms.now) (lent_bits g.run.now.footing.now.tables.now g.run.now.footing.now.terms.now g.run.now.footing.now.assignment.now) g.run.now.x g.clause g.first g.end r i d t) where
+    pub counting_merging : r < first_rule (plan_of_tables g.run.now.footing.now.tables.now g.run.now.footing.now.terms.now).clauses (suc g.clause) → Merging g r i
     counting_merging h = record { low = o.low; ahead = o.ahead; last = h }
 
-    pub counting_next : (h : r < first_rule (plan_of_tables g.run.now.footing.tables.now g.run.now.footing.terms.now).clauses (suc g.clause)) {s z : State} {u : Pair} {n : ℕ} → StateOf (lent_bits g.run.now.footing.tables.now g.run.now.footing.terms.now g.run.now.footing.assignment.now) g.run.now.x (rule_at (plan_of_tables g.run.now.footing.tables.now g.run.now.footing.terms.now) r) s → SeenFor d s z → JoinedPair t (shares_from z).e (shares_from z).g u → n ≡ cond (named_in g.run.now.x (rule_at (plan_of_tables g.run.now.footing.tables.now g.run.now.footing.terms.now) r).terms) (i + 1) i
-        → Counting (plan_of_tables g.run.now.footing.tables.now g.run.now.footing.terms.now) (lent_bits g.run.now.footing.tables.now g.run.now.footing.terms.now g.run.now.footing.assignment.now) g.run.now.x g.clause g.first g.end (r + 1) n d u
+    pub counting_next : (h : r < first_rule (plan_of_tables g.run.now.footing.now.tables.now g.run.now.footing.now.terms.now).clauses (suc g.clause)) {s z : State} {u : Pair} {n : ℕ} → StateOf (lent_bits g.run.now.footing.now.tables.now g.run.now.footing.now.terms.now g.run.now.footing.now.assignment.now) g.run.now.x (rule_at (plan_of_tables g.run.now.footing.now.tables.now g.run.now.footing.now.terms.now) r) s → SeenFor d s z → JoinedPair t (shares_from z).e (shares_from z).g u → n ≡ cond (named_in g.run.now.x (rule_at (plan_of_tables g.run.now.footing.now.tables.now g.run.now.footing.now.terms.now) r).terms) (i + 1) i
+        → Counting (plan_of_tables g.run.now.footing.now.tables.now g.run.now.footing.now.terms.now) (lent_bits g.run.now.footing.now.tables.now g.run.now.footing.now.terms.now g.run.now.footing.now.assignment.now) g.run.now.x g.clause g.first g.end (r + 1) n d u
     counting_next h {s} {z} {u} {n} q v w l =
         let next = ahead_next (counting_merging h) l in
         let changes : (shares_from z).e ≡ changed_of d bits g.run.now.x (rule_at plan r) = v.changed ∙ ap (rule_count d) (shares_rule q) in
@@ -201,7 +201,7 @@ module _ {g : Group} (f : Placed g) (d : Counted) where
               ∙ o.along;
         }
 
-    pub counting_end : first_rule (plan_of_tables g.run.now.footing.tables.now g.run.now.footing.terms.now).clauses (suc g.clause) ≤ r → number t.e ≡ capped (clause_count d (lent_bits g.run.now.footing.tables.now g.run.now.footing.terms.now g.run.now.footing.assignment.now) g.run.now.x (get_or (plan_of_tables g.run.now.footing.tables.now g.run.now.footing.terms.now).clauses g.clause []))
+    pub counting_end : first_rule (plan_of_tables g.run.now.footing.now.tables.now g.run.now.footing.now.terms.now).clauses (suc g.clause) ≤ r → number t.e ≡ capped (clause_count d (lent_bits g.run.now.footing.now.tables.now g.run.now.footing.now.terms.now g.run.now.footing.now.assignment.now) g.run.now.x (get_or (plan_of_tables g.run.now.footing.now.tables.now g.run.now.footing.now.terms.now).clauses g.clause []))
     counting_end h =
         let none : drop (r - first_rule plan.clauses g.clause) (get_or plan.clauses g.clause []) ≡ [] = drop_of_length-le (get_or plan.clauses g.clause []) {i = r - first_rule plan.clauses g.clause} (omega (arith, first_next plan.clauses g.clause g.whole.clause_there)) in
         sym o.stays ∙ ap capped (sym (comes_end (changed_of d bits g.run.now.x) (left_of bits g.run.now.x) (number t.e) (number t.g))) ∙ (rw none at o.along)

@@ -21,4 +21,4 @@ word-requires c =
     omega (arith, c.clause_at.ensures, (place_named (visited c.args.run.now c.requires)).clause_there, (parts _ _ w.ready.laid).clause_count, w.sized.room)
 
 pub returns : goal.returns
-returns c = ap (λ n. eqb n 0) (held_word c.args.run.now c.requires (c.word.ensures ∙ ap (λ i. word_at c.args.run.now.footing.tallies.now (holding_at i)) c.clause_at.ensures))
+returns c = ap (λ n. eqb n 0) (held_word c.args.run.now c.requires (c.word.ensures ∙ ap (λ i. word_at c.args.run.now.footing.now.tallies.now (holding_at i)) c.clause_at.ensures))

@@ -25,7 +25,7 @@ returns c =
     c.unwrap_or.ensures
     ∙ ap (λ o. unwrap_or o r.end)
     (sym (option_map_id c.find.result)
-    ∙ find_from_yields_List (λ j. not (eqb (place_at r.footing.tables.now r.footing.terms.now j).clause d)) _ _ c.find.result c.find.ensures.ran
+    ∙ find_from_yields_List (λ j. not (eqb (place_at r.footing.now.tables.now r.footing.now.terms.now j).clause d)) _ _ c.find.result c.find.ensures.ran
     (YieldsList-from_range c.args.k r.end _ refl refl) (λ i b q e. search (rules, tests)))
     ∙ first_other r.going d r.end r.ends _ c.args.k refl (omega (arith, c.requires))
     ∙ ap (λ d. c.args.k + same_clause d (cut c.args.k (run_end (plan r) r.x) (order (plan r)))) c.clause_at-c.ensures

@@ -12,7 +12,7 @@ pub overflow_add-group : goal.overflow_add-group
 overflow_add-group c = let g = c.args.group.now in omega (arith, g.whole.clause_there, (parts _ _ g.run.now.going.kept.ready.laid).clause_count)
 
 pub word-requires : goal.word-requires
-word-requires c = let g = c.args.group.now in omega (arith, g.whole.clause_there, (parts _ _ g.run.now.going.kept.ready.laid).clause_count, g.run.now.footing.sized.room)
+word-requires c = let g = c.args.group.now in omega (arith, g.whole.clause_there, (parts _ _ g.run.now.going.kept.ready.laid).clause_count, g.run.now.footing.now.sized.room)
 
 pub returns-then-word-ne0 : goal.returns-then-word-ne0
 returns-then-word-ne0 c = λ e.

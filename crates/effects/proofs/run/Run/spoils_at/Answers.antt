@@ -14,7 +14,7 @@ pub overflow_add-side_at : goal.overflow_add-side_at
 overflow_add-side_at c = omega (arith, side_few (visited c.args.self.now c.requires) c.side_at.ensures)
 
 pub word-requires : goal.word-requires
-word-requires c = omega (arith, side_few (visited c.args.self.now c.requires) c.side_at.ensures, c.args.self.now.footing.sized.room)
+word-requires c = omega (arith, side_few (visited c.args.self.now c.requires) c.side_at.ensures, c.args.self.now.footing.now.sized.room)
 
 pub overflow_add-k : goal.overflow_add-k
 overflow_add-k c = omega (arith, place_few (visited c.args.self.now c.requires))

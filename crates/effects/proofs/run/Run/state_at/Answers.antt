@@ -15,4 +15,4 @@ pub word-requires : goal.word-requires
 word-requires c = omega (arith, place_few (visited c.args.self.now c.requires), c.args.self.now.going.kept.weighed.room)
 
 pub told-requires : goal.told-requires
-told-requires c = (side_countable (visited c.args.self.now c.requires) c.side_at-side.ensures, c.args.self.now.footing.sized.room)
+told-requires c = (side_countable (visited c.args.self.now c.requires) c.side_at-side.ensures, c.args.self.now.footing.now.sized.room)

@@ -43,4 +43,4 @@ pub overflow_add-self : goal.overflow_add-self
 overflow_add-self c = let g = c.args.self.now in omega (arith, g.whole.clause_there, (parts _ _ g.run.now.going.kept.ready.laid).clause_count)
 
 pub index-holding-requires : goal.index-holding-requires
-index-holding-requires c = let g = c.args.self.now in omega (arith, g.whole.clause_there, (parts _ _ g.run.now.going.kept.ready.laid).clause_count, g.run.now.footing.sized.room)
+index-holding-requires c = let g = c.args.self.now in omega (arith, g.whole.clause_there, (parts _ _ g.run.now.going.kept.ready.laid).clause_count, g.run.now.footing.now.sized.room)
