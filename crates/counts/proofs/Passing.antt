@@ -19,7 +19,6 @@ use Rattle.plpb.specs.Equations.{clause_make}
 use Rattle.plpb.specs.Count.{capped, capped_make}
 use Rattle.plpb.proofs.Capped.{capped_zero, capped_twice}
 use Rattle.counting.specs.Count.{number}
-use Rattle.counting.specs.declared.count.Count.{Count}
 use Rattle.words.specs.Words.{word_at}
 use Rattle.order.specs.Order.{order, run_end, cut}
 use Rattle.order.specs.Blocks.{same_clause}
@@ -113,7 +112,7 @@ module _ (r : Run) where
     starts = sum_starts r (no_make _ r.x) s.0 h
 
     -- by what a clause mends,
-    pub goes : {t : Step Count} {next : ℕ} → Stepped (clause_make (bits r) r.x) r k t → next ≡ capped (sum + number t.count) → Sum t.next next
+    pub goes : {t : Step} {next : ℕ} → Stepped (clause_make (bits r) r.x) r k t → next ≡ capped (sum + number t.count) → Sum t.next next
     goes t n = (sum_next r.going (no_make _ r.x) s.0 (omega (arith, h, r.ends)) t.ends t.counted n, ap capped n ∙ capped_twice _ ∙ sym n)
 
     pub further : {j : ℕ} → j ≡ end_of_group r k → (k < j) × (j ≤ r.end)

@@ -4,7 +4,6 @@ use Rattle.std.specs.Prelude.{ℕ, ◌≤◌, ◌<◌, ◌≡◌, Option, Some, 
 use Rattle.plpb.specs.Plan.{Clause}
 use Rattle.plpb.specs.Count.{capped}
 use Rattle.counting.specs.Count.{number}
-use Rattle.counting.specs.declared.count.Count.{Count}
 use Rattle.order.specs.Order.{in_rules, order, cut, first_rule}
 use Rattle.effects.specs.declared.run.Run.{Run}
 use Rattle.effects.specs.Run.{plan, place, clause}

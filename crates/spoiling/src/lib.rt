@@ -6,9 +6,10 @@ ghost use Rattle.plpb.specs.Count.{cap, capped, capped_break};
 ghost use Rattle.plpb.specs.Equations.{clause_break};
 ghost use Rattle.counting.specs.Count.{number};
 ghost use Rattle.rules.specs.State.{Balanced, shares_from};
-ghost use Rattle.effects.specs.Run.{plan, bits};
+ghost use Rattle.effects.specs.Run.{plan, bits, Inside};
 ghost use Rattle.spoiling.specs.Along.{Starts, Stepped, UpTo};
 
+use columns::HINTS;
 use counting::bound::{over_difference, over_surely_past};
 use counting::count::Count;
 use effects::Run;
@@ -16,6 +17,7 @@ use groups::Group;
 use joining::break_along;
 use rules::place::Stands;
 use rules::state::State;
+use words::index;
 
 // e of a rule in this state: equation (10). It is put into its callers: as a call it makes a search of short clauses
 // take a tenth more instructions. Why 32 bits are widened by `as` here, in `mending`, `joining`, `least` and `ranking` stands at `rules::State::shares`.
@@ -44,18 +46,36 @@ fn surely_past(s: State) -> bool
     }
 }
 
-// Whether the last place of the run, if it is that of a clause of one rule, shows that the whole count is cut: the objective's clause is behind all others.
+// Whether place k, if it is that of a clause of one rule, shows that the whole count is cut.
+fn shows_cut(run: &Run<'_, '_>, k: usize) -> bool
+    requires { Inside run.now k }
+    ensures { result ≡ true → suc cap ≡ capped_break (plan run.now) (bits run.now) run.now.x }
+{
+    if run.has_several(k) {
+        return false;
+    }
+    surely_past(run.state_at(k))
+}
+
+// Whether the last place of the run shows it: the objective's clause is behind all others.
 fn cut_at_last(run: &Run<'_, '_>) -> bool
     ensures { result ≡ true → suc cap ≡ capped_break (plan run.now) (bits run.now) run.now.x }
 {
     if run.end <= run.first {
         return false;
     }
-    let k = run.end - 1;
-    if run.has_several(k) {
+    shows_cut(run, run.end - 1)
+}
+
+// Whether the place where the flip broke something the last time shows it, if the hint names one of the run: so it is in a plan of long rules.
+fn cut_at_hint(run: &Run<'_, '_>) -> bool
+    ensures { result ≡ true → suc cap ≡ capped_break (plan run.now) (bits run.now) run.now.x }
+{
+    let hint = index(run.marks, HINTS + run.x);
+    if !(run.first..run.end).contains(&hint) {
         return false;
     }
-    surely_past(run.state_at(k))
+    shows_cut(run, hint)
 }
 
 // What a group counts, and where it ends.
@@ -104,7 +124,7 @@ fn count_at(run: &Run<'_, '_>, k: usize) -> Step
 pub fn break_of(run: &Run<'_, '_>, limit: u64) -> Option<u64>
     ensures { UpTo limit (capped_break (plan run.now) (bits run.now) run.now.x) result }
 {
-    if cut_at_last(run) {
+    if cut_at_last(run) || cut_at_hint(run) {
         let cut = Count::CUT.rank();
         return (cut <= limit).then_some(cut);
     }

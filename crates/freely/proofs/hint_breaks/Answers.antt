@@ -18,3 +18,6 @@ pub returns : goal.returns
 returns c = λ e.
     let at = c.at.ensures in
     clause_breaks (visited c.args.run.now (within _ _ _ c.contains.ensures.value c.if-not-contains.false)) (rw (at.0, at.1) at (sym c.breaks.ensures ∙ e))
+
+pub overflow_add-run : goal.overflow_add-run
+overflow_add-run c = omega (arith, going_few c.args.run.now.going)

@@ -26,7 +26,7 @@ module _ (r : Run) {k sum : ℕ} (s : Summing (plan r) r.x (clause_break (bits r
   starts : Starts r k
   starts = sum_starts r (no_break (bits r) r.x) s h
 
-  module _ {t : Step Count} (d : Stepped (clause_break (bits r) r.x) r k t) where
+  module _ {t : Step} (d : Stepped (clause_break (bits r) r.x) r k t) where
     further : (k < t.next) × (t.next ≤ r.end)
     further = let g = starts.begins in (omega (arith, d.ends, g.some), omega (arith, d.ends, g.last, r.ends))
 
