@@ -1,36 +1,45 @@
--- Where a count stands, by its mark.
+-- Where a count stands, by its number; and what is given out of a number, in two words.
 -- Assumes nothing.
-use Prim.Native.Nat.{ℕ, zero, suc, ◌*◌, ◌≤◌, ◌<◌}
-use native.Mathlib.Nat.{mul-zero, le-mul_of_pos_right}
+use Prim.Native.Nat.{ℕ, suc, ◌≤◌, min}
+use native.Mathlib.Decide.{dec_le}
 use native.Mathlib.Omega.{arith}
-use mathlib.Core.Bool.{true, false}
+use mathlib.Core.Bool.{cond}
 use mathlib.Core.List.{[], ◌∷◌}
-use mathlib.Core.Path.{◌≡◌, refl, sym}
+use mathlib.Core.Path.{◌≡◌, sym}
+use lib.Dec.{ltb}
+use borrow.Author.Tests.{lt-ltb, le-ltb}
 use Rattle.plpb.specs.Count.{cap, given, capped}
-use Rattle.plpb.proofs.Capped.{capped_zero, capped_large, given_small, given_large}
+use Rattle.plpb.proofs.Capped.{capped_small, capped_large, given_small}
 use Rattle.counting.specs.declared.count.Count.{Count}
 use Rattle.counting.specs.Count.{number, count_words}
 
-module _ (c : Count) where
-  pub number_cut : c.cut ≡ true → number c ≡ suc cap
-  number_cut h = rw h
+-- A count stands where its number does once that is capped.
+pub stands : (n : ℕ) → cond (ltb 4294967295 n) (suc cap) n ≡ capped n
+unfolding cap
+stands n = at (dec_le n cap)
+  where
+    at : Dec (n ≤ cap) → cond (ltb 4294967295 n) (suc cap) n ≡ capped n
+    at (yes h) = rw (le-ltb 4294967295 n (omega arith)) (sym (capped_small n (omega arith)))
+    at (no h) = rw (lt-ltb 4294967295 n (omega arith)) (sym (capped_large n (omega arith)))
 
-  pub number_uncut : c.cut ≡ false → number c ≡ c.value
-  number_uncut h = rw h
+pub number_capped : (c : Count) → number c ≡ capped c.n
+number_capped c = stands c.n
 
--- What is given out of a number past the cap, and of any other.
-pub words_cut : (n : ℕ) → cap < n → cap ∷ 1 ∷ [] ≡ count_words (given n)
-unfolding count_words
-words_cut n h = rw (given_large n h)
+-- It was cut where its number is above the cap.
+pub cut_above : (n : ℕ) → ltb 4294967295 n ≡ ltb cap (cond (ltb 4294967295 n) (suc cap) n)
+unfolding cap
+cut_above n = at (dec_le n cap)
+  where
+    at : Dec (n ≤ cap) → ltb 4294967295 n ≡ ltb cap (cond (ltb 4294967295 n) (suc cap) n)
+    at (yes h) = rw (le-ltb 4294967295 n (omega arith), le-ltb 4294967295 n (omega arith))
+    at (no h) = rw (lt-ltb 4294967295 n (omega arith)) (sym (lt-ltb 4294967295 4294967296 (omega arith)))
 
+-- What stops where 64 bits do is capped as the number itself.
+pub stopped : (n : ℕ) {k : ℕ} → k ≡ min n 18446744073709551615 → capped k ≡ capped n
+unfolding cap capped
+stopped n e = omega (arith, e)
+
+-- A number up to the cap is given out unmarked.
 pub words_uncut : (n : ℕ) → n ≤ cap → n ∷ 0 ∷ [] ≡ count_words (given n)
 unfolding count_words
 words_uncut n h = rw (given_small n h)
-
--- "zero times a cut one is zero and uncut", and any other number times a cut one is cut.
-pub none_cut : (n : ℕ) → n ≡ 0 → 0 ≡ capped (suc cap * n)
-none_cut n h = rw (h, mul-zero) (sym capped_zero)
-
-pub some_cut : (n : ℕ) → (n ≡ 0 → ⊥) → suc cap ≡ capped (suc cap * n)
-some_cut zero h = absurd (h refl)
-some_cut (suc n) h = sym (capped_large (suc cap * suc n) (le-mul_of_pos_right (suc cap) (omega arith)))

@@ -31,7 +31,7 @@ fn lower_half(m: u64, k: u64) -> Report
     let mut entry = m;
     for i in 1..k {
         entry = entry * (m - i) / (i + 1);
-        if u64::from(Count::CAP.value) < entry {
+        if Count::CAP.rank() < entry {
             return Report {
                 count: Count::CUT,
                 factors: (i + 1) as u32,
@@ -117,27 +117,51 @@ fn exact_difference(gain: u64, m: u64, w: u64, k: u64) -> Count
     Count::from(above - absorbed(before.rank(), m, k))
 }
 
-// m + w over k less m over k. Both may be past the cap where their difference is not, so neither is cut first:
+// The difference below by what it gains in its last row. Both numbers may be past the cap where their difference is not, so neither is cut first:
 // the difference is at least m + w − 1 over k − 1, and both come exactly from such entries while these are not cut.
-// All taken, or one, needs no division.
+// It stays a call, since few differences come to it, and put into its callers it makes all others longer.
+#[inline(never)]
+fn difference_by_gain(m: u64, w: u64, k: u64) -> Count
+    requires { m + w < 4294967296 }
+    ensures { number result ≡ capped (binom (m + w) k - binom m k) }
+{
+    if k == 0 || w == 0 {
+        return Count::ZERO;
+    }
+    let gain = binomial(m + w - 1, k - 1);
+    if gain.is_cut() {
+        return Count::CUT;
+    }
+    exact_difference(gain.rank(), m, w, k)
+}
+
+// The difference below where both rows stand in the triangle: no entry there is cut.
+fn tabled_difference(m: u64, w: u64, k: u64) -> Count
+    requires { (m + w < triangle_rows) × (k ≤ m + w) }
+    ensures { number result ≡ capped (binom (m + w) k - binom m k) }
+{
+    let above = tabled(m + w, k);
+    if m < k {
+        return Count::from(above);
+    }
+    Count::from(above - tabled(m, k))
+}
+
+// m + w over k less m over k. Nearly all that are asked for are nothing, stand in the triangle or are past the cap for sure, so these are told apart first.
 pub fn difference(m: u64, w: u64, k: u64) -> Count
     requires { m + w < 4294967296 }
     ensures { number result ≡ capped (binom (m + w) k - binom m k) }
 {
-    if k == 0 || w == 0 || m + w < k {
+    if m + w < k {
         return Count::ZERO;
     }
-    if m + w == k {
-        return Count::ONE;
+    if m + w < ROWS {
+        return tabled_difference(m, w, k);
     }
-    if k == 1 {
-        return Count::from(w);
-    }
-    let gain = binomial(m + w - 1, k - 1);
-    if gain.cut {
+    if surely_past(m, w, k) {
         return Count::CUT;
     }
-    exact_difference(u64::from(gain.value), m, w, k)
+    difference_by_gain(m, w, k)
 }
 
 // Whether that difference is past the cap for sure, told without a binomial: what it is at least stands 17 or more from both ends of its row.

@@ -1,15 +1,16 @@
-// A count as it is given out: the true number or 4,294,967,295, whichever is smaller, and whether it was cut. It is a value with a mark because that is the
-// form asked for (docs/DECISIONS.md), and C sees the same two in `Marked`.
-ghost use Rattle.std.specs.Prelude.{◌≡◌, suc, ◌+◌, ◌*◌, ◌<◌};
+// Counts, which are cut above 4,294,967,295.
+ghost use Rattle.std.specs.Prelude.{◌≡◌, ◌+◌, ◌*◌, ◌<◌, ltb};
 ghost use Rattle.plpb.specs.Count.{cap, given, capped};
 ghost use Rattle.counting.specs.Count.{number, count_words, marked_words};
 
 use std::ops::{Add, Mul};
 
+// A count is one number and not a value with a mark: any number above 4,294,967,295 says that it was cut, and no more. So sums and products of counts are
+// those of numbers, which may stop where 64 bits do, and nothing is cut on the way. C sees the value and the mark that were asked for (docs/DECISIONS.md)
+// in `Marked`.
 #[derive(Clone, Copy)]
 pub struct Count {
-    pub value: u32,
-    pub cut: bool,
+    n: u64,
 }
 
 // A count as it is given out to C: its value, and 1 where it was cut, else 0. The C interface has this layout.
@@ -25,47 +26,27 @@ impl Marked {
 }
 
 impl Count {
-    pub const ZERO: Count = Count {
-        value: 0,
-        cut: false,
-    };
+    pub const ZERO: Count = Count { n: 0 };
 
-    pub const ONE: Count = Count {
-        value: 1,
-        cut: false,
-    };
+    pub const ONE: Count = Count { n: 1 };
 
     // 4,294,967,295 itself.
-    pub const CAP: Count = Count {
-        value: 4294967295,
-        cut: false,
-    };
+    pub const CAP: Count = Count { n: 4294967295 };
 
     // Every number above it.
-    pub const CUT: Count = Count {
-        value: 4294967295,
-        cut: true,
-    };
+    pub const CUT: Count = Count { n: 4294967296 };
 
-    // Where it stands among counts: a cut one above all others. A derived order would compare the two fields, and say the same only of cut counts whose
-    // value is the cap, which no type says.
+    // Where it stands among counts: a cut one above all others, and two cut ones alike. A derived order would tell these apart.
     pub fn rank(self) -> u64
         ensures { (result ≡ number self) × (result < 4294967297) }
     {
-        if self.cut {
-            return u64::from(Count::CAP.value) + 1;
-        }
-        u64::from(self.value)
+        self.n.min(Count::CUT.n)
     }
 
-    // A cut one times this one. Zero times a cut one is zero and uncut.
-    fn times_cut(self) -> Count
-        ensures { number result ≡ capped (suc cap * number self) }
+    pub fn is_cut(self) -> bool
+        ensures { result ≡ ltb cap (number self) }
     {
-        if self.rank() == 0 {
-            return Count::ZERO;
-        }
-        Count::CUT
+        Count::CAP.n < self.n
     }
 }
 
@@ -74,20 +55,18 @@ impl From<u32> for Count {
     ghost from_gives = { λ n c. number c ≡ n };
 
     fn from(value: u32) -> Count {
-        Count { value, cut: false }
+        Count {
+            n: u64::from(value),
+        }
     }
 }
 
-// The count of a number of 64 bits. It is told from the cap by its name: `u32::try_from` would cut it at the same place, but because the cap is the largest
-// number of 32 bits, which the reader would have to know.
+// The count of a number of 64 bits.
 impl From<u64> for Count {
     ghost from_gives = { λ n c. number c ≡ capped n };
 
     fn from(n: u64) -> Count {
-        if n <= u64::from(Count::CAP.value) {
-            return Count::from(n as u32);
-        }
-        Count::CUT
+        Count { n }
     }
 }
 
@@ -96,15 +75,9 @@ impl From<Count> for Marked {
     ghost from_gives = { λ c m. marked_words m ≡ count_words (given (number c)) };
 
     fn from(count: Count) -> Marked {
-        if count.cut {
-            return Marked {
-                value: Count::CAP.value,
-                cut: 1,
-            };
-        }
         Marked {
-            value: count.value,
-            cut: 0,
+            value: count.n.min(Count::CAP.n) as u32,
+            cut: u32::from(count.is_cut()),
         }
     }
 }
@@ -115,7 +88,9 @@ impl Add for Count {
     ghost add_gives = { λ a b c. number c ≡ capped (number a + number b) };
 
     fn add(self, other: Count) -> Count {
-        Count::from(self.rank() + other.rank())
+        Count {
+            n: self.n.saturating_add(other.n),
+        }
     }
 }
 
@@ -125,9 +100,8 @@ impl Mul for Count {
     ghost mul_gives = { λ a b c. number c ≡ capped (number a * number b) };
 
     fn mul(self, other: Count) -> Count {
-        if self.cut {
-            return other.times_cut();
+        Count {
+            n: self.n.saturating_mul(other.n),
         }
-        Count::from(u64::from(self.value) * other.rank())
     }
 }

@@ -59,7 +59,7 @@ pub fn least_of(choice: &Choice<'_>, marks: &mut [u8]) -> usize
 {
     let footing = &choice.footing;
     let mut best = Best {
-        least: Count::CAP.value as u64 + 1,
+        least: Count::CUT.rank(),
         count: 0,
     };
     for i in list_of(&footing.plan(), marks, choice.clause) {

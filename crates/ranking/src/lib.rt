@@ -48,7 +48,7 @@ impl Top {
 fn score_of(run: &Run<'_, '_>, least: u64) -> Option<u64>
     ensures { From least (raised_score (plan_of run.now) (bits_of run.now) run.now.x) result }
 {
-    let cap = u64::from(Count::CAP.value);
+    let cap = Count::CAP.rank();
     let most = make_of(run).rank().min(cap) + cap;
     let room = most.checked_sub(least)?;
     let limit = if room < cap { room } else { Count::CUT.rank() };

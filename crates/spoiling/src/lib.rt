@@ -140,7 +140,7 @@ pub fn break_of(run: &Run<'_, '_>, limit: u64) -> Option<u64>
         if limit < sum.rank() {
             return None;
         }
-        if sum.cut {
+        if sum.is_cut() {
             return Some(sum.rank());
         }
     }

@@ -44,15 +44,10 @@ module _ {q : Footing} {s : List ℕ} {c : ℕ} (k : Pickable q s c) {first end 
         let inside : j < length xs = omega (arith, f) in
         rw next (leading_next (plan_of_tables q.tables.now q.terms.now) (lent_bits q.tables.now q.terms.now q.assignment.now) xs j inside d (omega (arith, few, inside, list_few k)) (rw here at o))
 
--- No count is found yet: the start is above all.
-above_all : 4_294_967_296 ≡ suc cap
-unfolding cap
-above_all = refl
-
 pub loop-i-init : goal.loop-i-init
 loop-i-init c =
     let l = listed c.args.choice.now.footing c.args.choice.now.clause c.plan.ensures (rw (sym c.into_iter-i-iterator.ensures.into_iter_gives) at c.list_of-i-items.ensures) in
-    (omega arith, omega (arith, l.1), refl, start (pickable c.args.choice.now c.requires) l.0 l.1 above_all refl)
+    (omega arith, omega (arith, l.1), refl, start (pickable c.args.choice.now c.requires) l.0 l.1 c.rank.ensures.0 refl)
 
 pub offer-best-requires : goal.offer-best-requires
 offer-best-requires c =

@@ -2,7 +2,7 @@
 use Prim.Native.Nat.{ℕ, ◌+◌, ◌≤◌, ◌<◌}
 use native.Mathlib.Omega.{arith}
 use mathlib.Core.Path.{◌≡◌, sym, ap, ◌∙◌}
-use mathlib.Core.Bool.{true}
+use borrow.Author.Tests.{ltb-true}
 use Rattle.plpb.specs.Equations.{clause_break}
 use Rattle.plpb.specs.Count.{cap, capped, capped_break}
 use Rattle.plpb.proofs.Capped.{capped_zero, capped_twice}
@@ -37,9 +37,6 @@ module _ (r : Run) {k sum : ℕ} (s : Summing (plan r) r.x (clause_break (bits r
       stays : capped next ≡ next
       stays = ap capped f ∙ capped_twice _ ∙ sym f
 
-cut_large : (c : Count) → c.cut ≡ true → cap < number c
-cut_large c e = rw e (omega arith)
-
 pub loop-k-init : goal.loop-k-init
 loop-k-init c =
     let r = c.args.run.now in
@@ -56,13 +53,14 @@ returns-then-limit-rank c =
     given_up r.going (no_break _ r.x) (goes r s h c.count_at-t.ensures c.add-sum.ensures) (stays r s h c.count_at-t.ensures c.add-sum.ensures)
     c.rank-in-loop-k.ensures.0 c.if-limit-rank.true
 
-pub returns-then-sum : goal.returns-then-sum
-returns-then-sum c =
+pub returns-then-is_cut : goal.returns-then-is_cut
+returns-then-is_cut c =
     let r = c.args.run.now in
     let s = c.loop-k.invariant.0 in
     let h = c.loop-k-test.true in
     given_cut r.going (no_break _ r.x) (goes r s h c.count_at-t.ensures c.add-sum.ensures) (stays r s h c.count_at-t.ensures c.add-sum.ensures)
-    c.rank-then-sum.ensures.0 (cut_large c.add-sum.result c.if-sum.true) (omega (arith, c.rank-then-sum.ensures.0, c.rank-in-loop-k.ensures.0, c.if-limit-rank.false))
+    c.rank-then-is_cut.ensures.0 (ltb-true cap _ (sym c.is_cut.ensures ∙ c.if-is_cut.true))
+    (omega (arith, c.rank-then-is_cut.ensures.0, c.rank-in-loop-k.ensures.0, c.if-limit-rank.false))
 
 pub loop-k-smaller-then-rank-eq0 : goal.loop-k-smaller-then-rank-eq0
 loop-k-smaller-then-rank-eq0 c =

@@ -62,13 +62,14 @@ overflow_sub-entry c = omega arith
 pub overflow_mul-entry : goal.overflow_mul-entry
 overflow_mul-entry c = record { fits = word_product (omega arith) (omega arith) }
 
-pub returns-then-from-entry : goal.returns-then-from-entry
-returns-then-from-entry c =
-    let above = rw c.from.ensures at c.if-from-entry.true in record { count_value = past _ _ _ _ (omega arith) (omega arith) above (next _ _ _ c.loop-i.invariant.1); factors_value = first _ _ _ _ (omega arith) (omega arith) c.loop-i.invariant.1 c.loop-i.invariant.2 above }
+pub returns-then-rank-entry : goal.returns-then-rank-entry
+unfolding cap
+returns-then-rank-entry c =
+    let above = rw c.rank.ensures.0 at c.if-rank-entry.true in record { count_value = past _ _ _ _ (omega arith) (omega arith) above (next _ _ _ c.loop-i.invariant.1); factors_value = first _ _ _ _ (omega arith) (omega arith) c.loop-i.invariant.1 c.loop-i.invariant.2 above }
 
 pub loop-i-preserved : goal.loop-i-preserved
-loop-i-preserved c = (omega arith, next _ _ _ c.loop-i.invariant.1, omega (arith, c.if-from-entry.false, c.from.ensures))
+loop-i-preserved c = (omega arith, next _ _ _ c.loop-i.invariant.1, omega (arith, c.if-rank-entry.false, c.rank.ensures.0))
 
 pub returns : goal.returns
 returns c =
-    let i = c.loop-i.invariant in record { count_value = c.from-2.ensures ∙ whole _ _ _ _ i.0 c.loop-i-test.false i.1 i.2; factors_value = all_tried _ _ _ _ i.0 c.loop-i-test.false (omega arith) i.1 i.2 }
+    let i = c.loop-i.invariant in record { count_value = c.from.ensures ∙ whole _ _ _ _ i.0 c.loop-i-test.false i.1 i.2; factors_value = all_tried _ _ _ _ i.0 c.loop-i-test.false (omega arith) i.1 i.2 }

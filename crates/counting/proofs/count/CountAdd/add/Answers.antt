@@ -1,9 +1,12 @@
--- `Count::add` meets its contract: the sum of where two counts stand fits 64 bits, and `from` caps it.
+-- `Count::add` meets its contract: the sum of both numbers, capped, is that of where both counts stand.
 -- Assumes nothing.
-use Prim.Native.Nat.{◌+◌}
-use mathlib.Core.Path.{◌∙◌, ap₂}
-use Rattle.plpb.specs.Count.{capped}
+use mathlib.Core.Path.{sym, ◌∙◌}
+use Rattle.plpb.proofs.Capped.{sum_of}
+use Rattle.counting.proofs.Marks.{stands, stopped, number_capped}
 use Rattle.counting.proofs.count.CountAdd.add.Goals as goal
 
 pub returns : goal.returns
-returns c = c.from.ensures ∙ ap₂ (λ a b. capped (a + b)) c.rank.ensures.0 c.rank-2.ensures.0
+returns c =
+    stands c.saturating_add.result
+    ∙ stopped _ c.saturating_add.ensures
+    ∙ sym (sum_of _ _ (number_capped c.args.self) (number_capped c.args.other))
