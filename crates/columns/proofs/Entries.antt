@@ -15,7 +15,7 @@ use Rattle.words.specs.Words.{signed}
 use Rattle.order.specs.Order.{Place, occurrences, order, run_end, term_at, term_count, is_place, names_at, place_word, word_place}
 use Rattle.order.proofs.Runs.{Named, named_of, occurrences_named, occurrences_places, order_places, place_named, named_below}
 use Rattle.order.proofs.Tested.{order_length, end_next, ends_ordered, last_end}
-use Rattle.format.specs.Layout.{end_at, entry_at, order_at, rule_count_at}
+use Rattle.format.specs.Layout.{end_at, entry_at, order_at, rule_count_at, term_room}
 use Rattle.format.specs.Tables.{term_of}
 use Rattle.format.specs.Good.{term_here}
 use Rattle.format.proofs.Lawful.{RoomyPlan}
@@ -66,7 +66,7 @@ module _ (p : Plan) (l : RoomyPlan p) (f g : ℕ → ℕ) (s : Sections p f g) (
   pub run_size : f (end_at x) ≡ f (end_at (x - 1)) + length (occurrences p x)
   run_size = a.ends x high ∙ end_next p x low ∙ ap (λ n. n + length (occurrences p x)) (sym run_from)
 
-  pub run_few : f (end_at x) ≤ 6_512
+  pub run_few : f (end_at x) ≤ term_room
   run_few = omega (arith, a.ends x high, ends_ordered p x p.variables high, last_end p (numbers_within_lem p l), l.terms)
 
   module _ (i : ℕ) (h : i < length (occurrences p x)) where

@@ -12,6 +12,7 @@ use Rattle.order.specs.Order.{term_count}
 use Rattle.columns.specs.Layout.{list_count_at, weight_at}
 use Rattle.columns.specs.Columns.{Weighed}
 use Rattle.columns.specs.Frames.{Only}
+use Rattle.format.specs.Layout.{term_room}
 
 pub only_none : (from end : ℕ) (s : List ℕ) → Only from end s s
 only_none from end s = record { size = refl; low = λ i h. refl; high = λ i h. refl; ahead = λ n h. refl; beyond = λ n h k. refl }
@@ -47,7 +48,7 @@ only_wider l h o = record {
 
 -- ---- the columns of the marks under a frame
 
-pub weighed_kept : {p : Plan} {from end : ℕ} {s t : List ℕ} → term_count p ≤ 6_512 → list_count_at 0 ≤ from → Only from end s t → Weighed p s → Weighed p t
+pub weighed_kept : {p : Plan} {from end : ℕ} {s t : List ℕ} → term_count p ≤ term_room → list_count_at 0 ≤ from → Only from end s t → Weighed p s → Weighed p t
 weighed_kept few l o w = record { room = rw o.size w.room; each = λ k h. o.low (weight_at k) (omega (arith, few, l, h)) ∙ w.each k h }
 
 pub weighed_ahead : {p : Plan} {from end : ℕ} {s t : List ℕ} → end ≤ weight_at 0 → Only from end s t → Weighed p s → Weighed p t

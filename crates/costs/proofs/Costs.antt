@@ -16,11 +16,11 @@ use Rattle.plpb.specs.Plan.{Bound, absent, present, Term, Plan, Assignment, valu
 use Rattle.plpb.specs.Search.{third, lbs_bound, linear_bound, at_floor}
 use Rattle.words.specs.Words.{word_bytes, word_at}
 use Rattle.words.proofs.Words.{length_word_bytes}
-use Rattle.format.specs.Limits.{roomy}
+use Rattle.format.specs.Limits.{roomy, term_within}
 use Rattle.format.specs.Tables.{table_words, term_words, table_size, term_size, Holds, lock_word, objective_of, plan_in, plan_of_tables}
 use Rattle.format.specs.Layout.{lock_at}
 use Rattle.format.proofs.Bools.{and_left, and_right}
-use Rattle.format.proofs.Lawful.{term_within, weight_small, terms_short, roomy_parts}
+use Rattle.format.proofs.Lawful.{weight_small, terms_short, roomy_parts}
 use Rattle.format.proofs.Sections.{Sections, length_table_words, length_term_words}
 use Rattle.format.proofs.ReadBack.{holds_sections, cost_back, read_back}
 use Rattle.format.proofs.WordBounds.{coefficient_small}

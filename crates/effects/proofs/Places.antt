@@ -21,9 +21,10 @@ use Rattle.order.proofs.Tested.{run_cut, order_length, end_next}
 use Rattle.order.proofs.Along.{standing_at_lem}
 use Rattle.order.proofs.Words.{Small}
 use Rattle.format.specs.Tables.{plan_of_tables}
-use Rattle.format.specs.Layout.{entry_at}
+use Rattle.format.specs.Layout.{entry_at, order_at, term_room}
 use Rattle.format.proofs.Bools as bools
-use Rattle.format.proofs.Lawful.{term_within, RoomyPlan, weight_small, weight_some}
+use Rattle.format.proofs.Lawful.{RoomyPlan, weight_small, weight_some}
+use Rattle.format.specs.Limits.{term_within}
 use Rattle.format.proofs.Naming.{place_small}
 use Rattle.format.proofs.Spells.{spells_at}
 use Rattle.format.proofs.ReadBack.{holds_arranged}
@@ -61,7 +62,7 @@ module _ {tables terms assignment tallies marks : List ℕ} {x k : ℕ} (v : Vis
   inside : k < length (order p)
   inside = omega (arith, v.last, run_inside v.going)
 
-  pub place_few : k < 6_512
+  pub place_few : k < term_room
   place_few = omega (arith, v.last, run_few v.going)
 
   there : T (is_place p q)
@@ -72,7 +73,7 @@ module _ {tables terms assignment tallies marks : List ℕ} {x k : ℕ} (v : Vis
 
   entry : word_at tables (entry_at k) ≡ place_word p q
   entry =
-      spells_at (word_at tables) 7_692 (map (place_word p) (order p)) (holds_arranged p l tables terms w.ready.laid.holds).entries (place_word p no_place) k (rw (length-map (order p) (place_word p)) inside)
+      spells_at (word_at tables) order_at (map (place_word p) (order p)) (holds_arranged p l tables terms w.ready.laid.holds).entries (place_word p no_place) k (rw (length-map (order p) (place_word p)) inside)
       ∙ get_or-map (place_word p) (order p) k no_place
 
   pub place_here : word_place (word_at tables (entry_at k)) ≡ place_at tables terms k

@@ -16,7 +16,7 @@ use Rattle.order.specs.Order.{order, run_end, numbers_within}
 use Rattle.order.proofs.Tested.{order_length, ends_ordered, last_end}
 use Rattle.format.specs.Tables.{plan_of_tables}
 use Rattle.format.specs.Assignment.{bits_in}
-use Rattle.format.specs.Layout.{end_at, table_size}
+use Rattle.format.specs.Layout.{end_at, table_size, term_room}
 use Rattle.format.proofs.Bools as bools
 use Rattle.format.proofs.Lawful.{RoomyPlan}
 use Rattle.format.proofs.Naming.{numbers_within_lem}
@@ -92,5 +92,5 @@ module _ {tables terms assignment tallies marks : List ℕ} {x : ℕ} (g : Going
   pub run_inside : run_end (plan_of_tables tables terms) x ≤ length (order (plan_of_tables tables terms))
   run_inside = omega (arith, ends_ordered p x p.variables g.high, last_end p going_within, order_length p going_within)
 
-  pub run_few : run_end (plan_of_tables tables terms) x ≤ 6_512
+  pub run_few : run_end (plan_of_tables tables terms) x ≤ term_room
   run_few = omega (arith, ends_ordered p x p.variables g.high, last_end p going_within, l.terms)

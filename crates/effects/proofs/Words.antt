@@ -13,7 +13,7 @@ use Rattle.plpb.specs.Plan.{Bound, absent, present}
 use Rattle.plpb.specs.Equations.{on, off}
 use Rattle.order.specs.Order.{Place, spelled, word_place}
 use Rattle.order.proofs.Words.{Small, place_back}
-use Rattle.order.proofs.Groups.{reaches}
+use Rattle.order.specs.Breaks.{reaches}
 use Rattle.counting.specs.Bound.{bound_of}
 use Rattle.columns.specs.Columns.{never, size_word, need}
 use Rattle.effects.specs.Kept.{size_in, stands_on}

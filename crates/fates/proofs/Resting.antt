@@ -12,7 +12,8 @@ use Rattle.plpb.specs.Plan.{Term, Rule, Clause, rising}
 use Rattle.format.specs.File.{at_rule, may_stand, tag_at, terms_in, field_terms, mode_at, lower_at, upper_at, wrong_bounds, rule_at}
 use Rattle.format.specs.Writer.{field, rule_field, clause_fields}
 use Rattle.format.proofs.Bools.{and_left, and_right, and_join}
-use Rattle.format.proofs.Lawful.{term_within, LawfulRule, rule_parts, clause_lawful, clause_rules, terms_short}
+use Rattle.format.proofs.Lawful.{LawfulRule, rule_parts, clause_lawful, clause_rules, terms_short}
+use Rattle.format.specs.Limits.{term_within}
 use Rattle.format.proofs.Bounds.{Tested, bounds_tested}
 use Rattle.format.proofs.Fields.{Clean}
 use Rattle.format.proofs.Places.{place_tag, place_body, place_room, length_field}

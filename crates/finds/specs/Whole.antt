@@ -92,7 +92,8 @@ pub record Copyable (tables terms work_tables work_terms : List ℕ) (w : Work) 
   pub work : Roomy w
 
 -- The plan is copied, and the first call with it comes to t.
-pub record CallsFirst (s : Settings) (plan planTerms numbers : List ℕ) (t : Result Spent Unreached) (tables tables' terms terms' : List ℕ) (w v : Work) : Type 0 where
+pub record CallsFirst (s : Settings) (plan planTerms numbers : List ℕ) (t : Result Spent Unreached)
+    (tables tables' terms terms' : List ℕ) (w v : Work) : Type 0 where
   pub copied : tables' ≡ take table_size plan ++ drop table_size tables
   pub copied_terms : terms' ≡ take term_size planTerms ++ drop term_size terms
   pub called : Tries (call s (plan_of_tables tables' terms')) tables' terms' numbers 0 0 1 t w v

@@ -26,7 +26,7 @@ use Rattle.order.proofs.Tested.{end_next, ends_ordered, last_end}
 use Rattle.order.proofs.Along.{holds_by_P, flip_along}
 use Rattle.order.proofs.Midway.{Midway, along_next, midway_at}
 use Rattle.order.proofs.Words.{Small}
-use Rattle.format.specs.Layout.{clause_room, end_at, entry_at, holding_at, rule_room, tally_size, tally_word_count, unsatisfied_at}
+use Rattle.format.specs.Layout.{clause_room, end_at, entry_at, holding_at, rule_room, tally_size, tally_word_count, unsatisfied_at, term_room}
 use Rattle.format.specs.Tables.{plan_of_tables, rule_of}
 use Rattle.format.proofs.Lawful.{RoomyPlan}
 use Rattle.format.proofs.Naming.{numbers_within_lem, place_small}
@@ -253,7 +253,7 @@ module _ {tables terms bits t₀ : List ℕ} {x : ℕ} (y : Followable tables te
   pub run_terms : word_at tables (end_at x) ≤ term_count (plan_of_tables tables terms)
   run_terms = omega (arith, arranged.ends x y.high, ends_ordered p x p.variables y.high, last_end p (numbers_within_lem p l))
 
-  pub run_few : word_at tables (end_at x) ≤ 6_512
+  pub run_few : word_at tables (end_at x) ≤ term_room
   run_few = omega (arith, run_terms, l.terms)
 
   pub places_few : x ≤ 512

@@ -20,9 +20,9 @@ use Rattle.plpb.proofs.Equations.{P_flipped}
 use Rattle.plpb.proofs.Unnamed.{unnamed_P}
 use Rattle.plpb.proofs.Locks.{variable_range}
 use Rattle.order.proofs.Occurrences.{named_at_most}
-use Rattle.format.specs.Limits.{max_rules, terms_lawful, rule_lawful, lawful}
+use Rattle.format.specs.Limits.{max_rules, terms_lawful, rule_lawful, lawful, term_within}
 use Rattle.format.proofs.Bools.{and_left, and_right, and_join, true_T}
-use Rattle.format.proofs.Lawful.{term_within, weight_some, LawfulTerms, terms_parts, terms_whole, rule_parts, clause_lawful, clause_rules, LawfulPlan, plan_parts}
+use Rattle.format.proofs.Lawful.{weight_some, LawfulTerms, terms_parts, terms_whole, rule_parts, clause_lawful, clause_rules, LawfulPlan, plan_parts}
 use Rattle.flips.specs.Rewritten.{differing, rewritten, Rewrites, FewRewritten}
 
 -- ---- one rule

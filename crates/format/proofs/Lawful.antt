@@ -16,9 +16,7 @@ use Rattle.format.proofs.Bools.{and_left, and_right, and_join, T_true, true_T}
 use Rattle.format.proofs.Bounds.{both_lawful}
 use Rattle.format.specs.Layout.{clause_room, rule_room, term_room}
 
--- A term whose number and weight are in range.
-unfoldable pub term_within : ℕ → Term → Bool
-term_within n t = leb t.variable n and weight_lawful t.weight
+unfoldable pub use Rattle.format.specs.Limits.{term_within}
 
 pub weight_small : (w : ℤ) → weight_lawful w ≡ true → nat_abs w ≤ 1_000_000
 unfolding weight_lawful

@@ -14,11 +14,10 @@ use Rattle.plpb.specs.Lists.{◌and◌, all, concat}
 use Rattle.plpb.specs.Plan.{Lock, rising_above}
 use Rattle.words.specs.Words.{num_at, bytes_of}
 use Rattle.words.proofs.Words.{Below, length_bytes_of}
-use Rattle.format.specs.Limits.{weight_lawful, lock_term}
+use Rattle.format.specs.Limits.{weight_lawful, lock_term, term_within}
 use Rattle.format.specs.File.{lock_entry, lock_entries, refuse, entries_fault}
 use Rattle.format.specs.Writer.{lock_bytes}
 use Rattle.format.proofs.Bools.{and_left, and_right, and_join}
-use Rattle.format.proofs.Lawful.{term_within}
 use Rattle.format.proofs.Fields.{unrefused}
 use Rattle.format.proofs.Places.{place_behind, place_byte, place_num}
 use Rattle.format.proofs.Peel.{peel, peel_byte}

@@ -12,9 +12,8 @@ use Rattle.plpb.specs.Lists.{◌and◌, all}
 use Rattle.plpb.specs.Plan.{Bound, absent, present, Lock, Plan, is_variable, lock_among, lock_of}
 use Rattle.words.specs.Words.{signed, unsigned}
 use Rattle.words.proofs.Words.{signed_unsigned}
-use Rattle.format.specs.Limits.{lock_term, lock_terms}
+use Rattle.format.specs.Limits.{lock_term, lock_terms, term_within}
 use Rattle.format.specs.Tables.{coefficient, lock_word, term_lock, named, sparse}
-use Rattle.format.proofs.Lawful.{term_within}
 use Rattle.format.proofs.Objective.{coefficient_above, one_more, sparse_none}
 
 -- A variable of the plan, and one beyond the last.

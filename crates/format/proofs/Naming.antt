@@ -15,10 +15,10 @@ use Rattle.plpb.proofs.Lists.{all_at}
 use Rattle.order.specs.Order.{Place, numbers_within, no_rule, rule_at, is_place}
 use Rattle.order.proofs.Runs.{place_named, named_below}
 use Rattle.order.proofs.Words.{Small}
-use Rattle.format.specs.Limits.{rule_lawful}
+use Rattle.format.specs.Limits.{rule_lawful, term_within}
 use Rattle.format.proofs.Bools.{T_true, true_T, and_left, and_right, and_join}
 use Rattle.format.proofs.Lists.{all_append}
-use Rattle.format.proofs.Lawful.{term_within, terms_short, rule_parts, clause_lawful, clause_rules, RoomyPlan}
+use Rattle.format.proofs.Lawful.{terms_short, rule_parts, clause_lawful, clause_rules, RoomyPlan}
 
 -- The rules of lawful clauses are lawful, and so are the terms of lawful rules.
 pub rules_lawful : (n : ℕ) (cs : List Clause) → all (clause_lawful n) cs ≡ true → all (rule_lawful n) (concat cs) ≡ true

@@ -10,11 +10,11 @@ use lib.IntN.{ℤ, pos, nat_abs}
 use borrow.Author.Tests.{leb-true, ltb-true, le-leb, lt-ltb, le-ltb, eq-eqb, ne_eqb}
 use Rattle.plpb.specs.Lists.{all, keep, row}
 use Rattle.plpb.specs.Plan.{Term, rising_above}
-use Rattle.format.specs.Limits.{weight_lawful}
+use Rattle.format.specs.Limits.{weight_lawful, term_within}
 use Rattle.format.specs.Tables.{coefficient, named, is_some, sparse}
 use Rattle.format.proofs.Bools.{and_left, and_right, and_join}
 use Rattle.format.proofs.Bounds.{nat_abs_zero}
-use Rattle.format.proofs.Lawful.{term_within, weight_some}
+use Rattle.format.proofs.Lawful.{weight_some}
 
 -- A variable that stands below all terms, or above all, has coefficient 0.
 pub coefficient_below : (v x : ℕ) (ts : List Term) → rising_above v ts ≡ true → x ≤ v → coefficient ts x ≡ pos 0

@@ -13,12 +13,12 @@ use Rattle.plpb.specs.Lists.{all, concat}
 use Rattle.plpb.specs.Plan.{Term}
 use Rattle.words.specs.Words.{num_at, bytes_of, signed, unsigned}
 use Rattle.words.proofs.Words.{length_bytes_of, num_at_drop, num_at_bytes_of, signed_unsigned, unsigned_lt}
-use Rattle.format.specs.Limits.{terms_lawful}
+use Rattle.format.specs.Limits.{terms_lawful, term_within}
 use Rattle.format.specs.File.{Stage, may_stand, tag_at, length_at, length_lawful, term_at, terms_at, past_limits, wrong_bounds, field_terms, locks_fault}
 use Rattle.format.specs.Writer.{field, term_bytes}
 use Rattle.format.proofs.Bools.{and_left, and_right}
 use Rattle.format.proofs.Fields.{Clean}
-use Rattle.format.proofs.Lawful.{term_within, weight_small}
+use Rattle.format.proofs.Lawful.{weight_small}
 
 pub length_term_bytes : (t : Term) → length (term_bytes t) ≡ 6
 unfolding term_bytes

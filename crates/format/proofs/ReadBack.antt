@@ -15,13 +15,13 @@ use Rattle.plpb.specs.Tallies.{rules_of}
 use Rattle.words.specs.Words.{word_bytes, word_at, signed}
 use Rattle.words.proofs.Writes.{word_bytes_append}
 use Rattle.words.proofs.Words.{Below, length_word_bytes, words_read, words_determine, signed_unsigned}
-use Rattle.format.specs.Limits.{lock_terms, rule_lawful, roomy}
+use Rattle.format.specs.Limits.{lock_terms, rule_lawful, roomy, term_within}
 use Rattle.format.specs.File.{bound_of}
 use Rattle.format.specs.Writer.{bound_number}
 use Rattle.format.specs.Tables.{coefficient, clause_entries, rule_entries, term_entries, all_terms, base_words, order_words, table_words, term_words, table_size, term_size, Holds, term_of, rule_of, clause_of, objective_of, term_lock, locks_of, plan_in, plan_of_tables, sparse, named, is_some}
 use Rattle.format.proofs.Bools.{and_left, and_right}
 use Rattle.format.proofs.Bounds.{bounds_written, bounds_tested, lower_back_lem, upper_back_lem}
-use Rattle.format.proofs.Lawful.{term_within, weight_small, LawfulRule, rule_parts, RoomyPlan, roomy_parts}
+use Rattle.format.proofs.Lawful.{weight_small, LawfulRule, rule_parts, RoomyPlan, roomy_parts}
 use Rattle.format.proofs.Naming.{each_rule_lawful, terms_lawful_lem}
 use Rattle.format.proofs.Spells.{Spells, spells_at, spells_all, spells_left, spells_right, spells_join, spells_map}
 use Rattle.format.proofs.Sections.{Sections, length_base_words, length_table_words, length_term_words, spelt_sections, sections_base, sections_terms}

@@ -157,7 +157,7 @@ module _ (p : Plan) (l : RoomyPlan p) where
           rule_count = n₂;
           terms = n₃;
           objective = dense_at (λ x. unsigned (coefficient p.objective x)) 3 (spells_left f 4 objective_words behind_objective body);
-          lock = dense_at (λ x. lock_word (lock_of p x)) 6_666 ks;
+          lock = dense_at (λ x. lock_word (lock_of p x)) (lock_at 0) ks;
           clause_entry = pad_words f clauses_at clause_word_count _ _ refl cs;
           rule_entry = pad_words f rules_at rule_word_count _ _ refl rs;
           term_entry = pad_words g 0 term_word_count _ _ refl t;
@@ -173,7 +173,7 @@ module _ (p : Plan) (l : RoomyPlan p) where
         let n₂ : length (rule_entries 0 (rules_of p)) ≡ 5 * f 2 = omega (arith, length_rule_entries 0 (rules_of p), s.rule_count) in
         let cs = pad_whole f clauses_at clause_word_count (2 * f 1) _ n₁ s.clause_entry s.clause_rest in
         let rs = pad_whole f rules_at rule_word_count (5 * f 2) _ n₂ s.rule_entry s.rule_rest in
-        let ks = dense_all (λ x. lock_word (lock_of p x)) 6_666 s.lock in
+        let ks = dense_all (λ x. lock_word (lock_of p x)) (lock_at 0) s.lock in
         let last = spells_join f rules_at rule_words lock_words rs (rw length_rule_words ks) in
         let rest = spells_join f clauses_at clause_words (rule_words ++ lock_words) cs (rw length_clause_words last) in (
           s.variables,

@@ -12,13 +12,13 @@ use borrow.Author.Tests.{leb-true, ltb-true, le-leb}
 use Rattle.plpb.specs.Lists.{all, row}
 use Rattle.plpb.specs.Plan.{rising_above, rising}
 use Rattle.words.specs.Words.{signed}
-use Rattle.format.specs.Limits.{max_variables, max_clauses, max_rules, max_terms, max_weight, weight_lawful}
+use Rattle.format.specs.Limits.{max_variables, max_clauses, max_rules, max_terms, max_weight, weight_lawful, term_within}
 use Rattle.format.specs.File.{bounds_lawful}
 use Rattle.format.specs.Tables.{term_of, rule_of}
 use Rattle.format.proofs.Bools.{and_left, and_right, and_join}
 use Rattle.format.proofs.Lists.{length_row}
 use Rattle.format.proofs.Bounds.{bounds_tested, bounds_meant}
-use Rattle.format.proofs.Lawful.{term_within, LawfulRule}
+use Rattle.format.proofs.Lawful.{LawfulRule}
 use Rattle.format.specs.Good.{zeros_from, chain_from, term_good, terms_from, counts_good, coefficient_good, objective_good, lock_good, locks_good, clauses_good, rules_good, rule_good, base_good}
 use Rattle.format.proofs.Good.{every_at, every_all, zeros_at, zeros_all}
 use Rattle.format.proofs.Chains.{chain_at}
@@ -112,7 +112,7 @@ module _ (f g : ℕ → ℕ) where
   rest_zero s j p q = let m : 3 + (j - 3) ≡ j = omega arith in rw m at (s.cost_rest (j - 3) (omega arith) (omega arith))
 
   locks_zero : Sound f g → (j : ℕ) → locks_at + f 0 ≤ j → j < base_word_count → f j ≡ 0
-  locks_zero s j p q = let m : lock_at (j - 6_666) ≡ j = omega arith in rw m at (s.lock_rest (j - 6_666) (omega arith) (omega arith))
+  locks_zero s j p q = let m : lock_at (j - lock_at 0) ≡ j = omega arith in rw m at (s.lock_rest (j - lock_at 0) (omega arith) (omega arith))
 
   pub sound_good : Sound f g → base_good f g ≡ true
   unfolding base_good counts_good objective_good coefficient_good lock_good locks_good clauses_good rules_good

@@ -18,11 +18,11 @@ use Rattle.order.proofs.Tested.{ends_ordered, last_end}
 use Rattle.order.proofs.Words.{spelled_small}
 use Rattle.words.specs.Words.{unsigned}
 use Rattle.words.proofs.Words.{Below, below_nil, below_cons, unsigned_lt}
-use Rattle.format.specs.Limits.{rule_lawful, term_count}
+use Rattle.format.specs.Limits.{rule_lawful, term_count, term_within}
 use Rattle.format.specs.Tables.{coefficient, pad_to, pad_with, clause_entries, rule_entries, term_entries, all_terms, lock_word, base_words, run_ends, order_words, table_words, term_words}
 use Rattle.format.proofs.Bools.{T_true, true_T, and_left, and_right}
 use Rattle.format.proofs.Bounds.{bounds_written, bounds_tested}
-use Rattle.format.proofs.Lawful.{term_within, weight_small, rule_parts, RoomyPlan}
+use Rattle.format.proofs.Lawful.{weight_small, rule_parts, RoomyPlan}
 use Rattle.format.proofs.Naming.{each_rule_lawful, terms_lawful_lem, numbers_within_lem, place_small}
 use Rattle.format.proofs.Sizes.{terms_of}
 use Rattle.format.specs.Layout.{clause_word_count, end_room, rule_word_count, term_room, term_word_count}

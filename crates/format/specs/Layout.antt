@@ -106,13 +106,7 @@ rule_lower_at r = 1_545 + 5 * r
 abbrev pub rule_upper_at : ℕ → ℕ
 rule_upper_at r = 1_546 + 5 * r
 
--- The first term, the count and the upper bound of the last of so many rules.
-abbrev pub last_first_at : ℕ → ℕ
-last_first_at rules = 1_537 + 5 * rules
-
-abbrev pub last_count_at : ℕ → ℕ
-last_count_at rules = 1_538 + 5 * rules
-
+-- The upper bound of the last of so many rules.
 abbrev pub last_upper_at : ℕ → ℕ
 last_upper_at rules = 1_541 + 5 * rules
 

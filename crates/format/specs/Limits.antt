@@ -31,6 +31,10 @@ max_bound = 1_000_000_000
 unfoldable pub weight_lawful : ℤ → Bool
 weight_lawful w = ltb 0 (nat_abs w) and leb (nat_abs w) max_weight
 
+-- A term whose number and weight are in range.
+unfoldable pub term_within : ℕ → Term → Bool
+term_within n t = leb t.variable n and weight_lawful t.weight
+
 -- "a term's variable outside 1 to n or not above the one before" is refused.
 unfoldable pub terms_lawful : ℕ → List Term → Bool
 terms_lawful n ts = rising ts and all (λ t. leb t.variable n and weight_lawful t.weight) ts

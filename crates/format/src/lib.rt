@@ -110,11 +110,7 @@ pub const TABLE_WORDS: usize = ORDER + MAX_TERMS + MAX_VARIABLES;
 
 pub const TERM_WORDS: usize = 2 * (MAX_TERMS + MAX_VARIABLES);
 
-// The last of k rules has its first term at LAST_FIRST + 5 * k, how many it has at LAST_COUNT + 5 * k, and its upper bound at LAST_UPPER + 5 * k.
-pub const LAST_FIRST: usize = RULES - 5;
-
-pub const LAST_COUNT: usize = RULE_COUNT - 5;
-
+// The last of k rules has its upper bound at LAST_UPPER + 5 * k.
 pub const LAST_UPPER: usize = RULE_UPPER - 5;
 
 // Where the sections behind the counts begin, in bytes, and the bytes of the whole.

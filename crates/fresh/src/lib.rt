@@ -3,8 +3,7 @@
 
 ghost use Rattle.std.specs.Prelude.{◌≡◌, ◌+◌, ◌*◌, ◌≤◌, ◌<◌, length, take};
 ghost use Rattle.plpb.specs.Tallies.{fresh_count};
-ghost use Rattle.words.specs.Words.{word_at};
-ghost use Rattle.words.proofs.Words.{Below};
+ghost use Rattle.words.specs.Words.{word_at, Below};
 ghost use Rattle.format.specs.Tables.{same_bytes};
 ghost use Rattle.rules.specs.Terms.{bits_in};
 ghost use Rattle.tallies.specs.Layout.{tally_size, bits_of, tally_bytes};

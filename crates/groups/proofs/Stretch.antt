@@ -26,7 +26,7 @@ use Rattle.order.proofs.Tested.{cut_length}
 use Rattle.order.proofs.Blocks.{cut_cons, cut_past}
 use Rattle.order.proofs.Groups.{clause_by_naming}
 use Rattle.format.specs.Tables.{plan_of_tables}
-use Rattle.format.specs.Layout.{holding_at}
+use Rattle.format.specs.Layout.{holding_at, term_room, clause_room}
 use Rattle.tallies.proofs.Tallied.{clause_word, fresh_words}
 use Rattle.tallies.proofs.TallyBytes.{roomy_fits}
 use Rattle.recount.proofs.Laid.{parts}
@@ -112,7 +112,7 @@ module _ {tables terms assignment tallies marks : List ℕ} {x k j : ℕ} (s : S
   pub stretch_inside : j ≤ length (order (plan_of_tables tables terms))
   stretch_inside = omega (arith, s.last, run_inside s.going)
 
-  pub stretch_few : j ≤ 6_512
+  pub stretch_few : j ≤ term_room
   stretch_few = omega (arith, s.last, run_few s.going)
 
   -- What a test says of the places' numbers it says of their rules.
@@ -144,7 +144,7 @@ module _ {tables terms assignment tallies marks : List ℕ} {x k j : ℕ} (s : S
     pub holding_word : {n : ℕ} → n ≡ word_at tallies (holding_at c) → n ≡ count (rule_holds (lent_bits tables terms assignment)) (get_or (plan_of_tables tables terms).clauses c [])
     holding_word e =
         let laid = s.going.kept.ready.laid in
-        let few : c < 513 = omega (arith, g.clause_there, (parts tables terms laid).clause_count) in
+        let few : c < clause_room = omega (arith, g.clause_there, (parts tables terms laid).clause_count) in
         e ∙ fresh_words p laid.room a tallies s.going.kept.fresh (holding_at c) (omega arith) ∙ clause_word p (roomy_fits p laid.room) a c g.clause_there
 
     decided : ltb 0 (clause_break a x clause) ≡ eqb (count (rule_holds a) clause) (count (rule_holds a) (rules_along p k j)) and (all (false_after a x) (rules_along p k j) and any (spoils_part a x) (rules_along p k j))

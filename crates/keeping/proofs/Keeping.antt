@@ -23,7 +23,7 @@ use Rattle.order.specs.Along.{holds_by, moved, exchanged}
 use Rattle.order.proofs.Along.{holds_by_P}
 use Rattle.order.proofs.Runs.{named_below}
 use Rattle.order.proofs.Tested.{run_cut, end_next}
-use Rattle.format.specs.Layout.{end_at, entry_at, holding_at, rule_room}
+use Rattle.format.specs.Layout.{end_at, entry_at, holding_at, rule_room, clause_room}
 use Rattle.format.specs.Tables.{plan_of_tables}
 use Rattle.rules.specs.Terms.{bits_in}
 use Rattle.recount.proofs.Laid.{parts}
@@ -189,7 +189,7 @@ module _ {tables terms marks bits s : List ℕ} {x : ℕ} (z : Followed tables t
           others = λ j l b c n. d.others j b (λ m. omega (arith, m)) (λ m. omega (arith, m)) c n;
         }
 
-        clause_low : q.clause < 513
+        clause_low : q.clause < clause_room
         clause_low = place_ready.clause.clause
 
         needed_at : (r : ℕ) → r < length (rules_of p) → Dec (r ≡ q.rule) → NeededRule (rule_at p r) (word_at u) r
@@ -203,7 +203,7 @@ module _ {tables terms marks bits s : List ℕ} {x : ℕ} (z : Followed tables t
             (other (need_at (2 * r + 1)) (omega arith) (λ n. omega (arith, n)) (λ n. m (omega (arith, n))))
             (g.needed.each r l)
           where
-            same : (j : ℕ) → j < 1_025 → j ≢ q.rule → word_at u j ≡ word_at t j
+            same : (j : ℕ) → j < rule_room → j ≢ q.rule → word_at u j ≡ word_at t j
             same j b n = d.others j n (λ m. omega (arith, m)) (λ m. omega (arith, m)) (λ m. omega (arith, m)) (λ m. omega (arith, m))
 
             other : (j : ℕ) → need_at 0 ≤ j → j ≢ need_at (2 * q.rule) → j ≢ need_at (2 * q.rule + 1) → word_at u j ≡ word_at t j

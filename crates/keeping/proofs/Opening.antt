@@ -1,6 +1,6 @@
 -- For callers: tallies counted anew, with the needs filled behind them, are kept like those that a flip leaves, and the next flip can be made on either.
 -- Assumes nothing.
-use Prim.Native.Nat.{ℕ, ◌≤◌}
+use Prim.Native.Nat.{◌-◌, ℕ, ◌≤◌}
 use native.Mathlib.Omega.{arith}
 use mathlib.Core.Path.{◌≡◌, sym, ap, ◌∙◌}
 use mathlib.Core.List.{List}
@@ -63,9 +63,9 @@ module _ {tables terms : List ℕ} (assignment : List ℕ) {s t : List ℕ} (l :
     where
       further : drop kept_size t ≡ drop kept_size s
       further =
-          sym (drop-drop 20_500 tally_size t)
-          ∙ ap (drop 20_500) (ap (drop tally_size) e ∙ drop_fresh p fits (bits_of p.variables assignment) (drop tally_size s))
-          ∙ drop-drop 20_500 tally_size s
+          sym (drop-drop (kept_size - tally_size) tally_size t)
+          ∙ ap (drop (kept_size - tally_size)) (ap (drop tally_size) e ∙ drop_fresh p fits (bits_of p.variables assignment) (drop tally_size s))
+          ∙ drop-drop (kept_size - tally_size) tally_size s
 
 -- The next flip.
 pub kept_keepable : {tables terms marks assignment s t : List ℕ} {x : ℕ} → Ready tables terms assignment → T (are_bits (plan_of_tables tables terms).variables assignment) → Weighed (plan_of_tables tables terms) marks → 1 ≤ x → x ≤ (plan_of_tables tables terms).variables → Kept (plan_of_tables tables terms) (bits_of (plan_of_tables tables terms).variables assignment) s t → Keepable tables terms marks assignment t x

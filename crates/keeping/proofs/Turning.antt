@@ -15,7 +15,7 @@ use Rattle.words.specs.Words.{word_at}
 use Rattle.words.specs.Writes.{Wrote}
 use Rattle.order.specs.Order.{Place}
 use Rattle.order.specs.Along.{moved, exchanged}
-use Rattle.format.specs.Layout.{holding_at, unsatisfied_at, tally_size}
+use Rattle.format.specs.Layout.{holding_at, unsatisfied_at, tally_size, rule_room}
 use Rattle.format.proofs.Bools.{true_T}
 use Rattle.columns.specs.Layout.{total_at, lower_size_at, upper_size_at, need_at, kept_size}
 use Rattle.flips.specs.Passing.{ClausePassed}
@@ -110,10 +110,10 @@ module _ {on : Bool} {w : ℕ} {q : Place} {s : List ℕ} (y : PlaceTurnable on 
       beyond = further ∙ d.beyond;
     }
       where
-        r : q.rule < 1_025
+        r : q.rule < rule_room
         r = y.rule.rule.rule
 
-        same : (i : ℕ) → i < 1_025 → word_at u i ≡ word_at t i
+        same : (i : ℕ) → i < rule_room → word_at u i ≡ word_at t i
         same i h = p.others i (λ e. omega (arith, e)) (λ e. omega (arith, e))
 
         high : (i : ℕ) → total_at 0 ≤ i → word_at u i ≡ word_at t i
@@ -121,4 +121,4 @@ module _ {on : Bool} {w : ℕ} {q : Place} {s : List ℕ} (y : PlaceTurnable on 
 
         further : drop kept_size u ≡ drop kept_size t
         further =
-            sym (drop-drop 20_500 tally_size u) ∙ ap (drop 20_500) p.inside.beyond ∙ drop-drop 20_500 tally_size t
+            sym (drop-drop (kept_size - tally_size) tally_size u) ∙ ap (drop (kept_size - tally_size)) p.inside.beyond ∙ drop-drop (kept_size - tally_size) tally_size t

@@ -22,7 +22,7 @@ use Rattle.rules.specs.declared.entry.Entry.{Entry}
 use Rattle.rules.specs.Rules.{EntryAt}
 use Rattle.rulelines.proofs.Entries.{entry_lower, entry_upper}
 use mir.Val.{bool_byte}
-use Rattle.format.specs.Layout.{clause_first_at, clause_count_at}
+use Rattle.format.specs.Layout.{clause_first_at, clause_count_at, rule_first_at}
 use Rattle.format.specs.Tables.{rule_of, clause_of, named, is_some, sparse}
 use Rattle.opb.specs.Tau.{lower_line, upper_line, straight, fixed, minus_lines, plus_lines, both_lines, rule_lines, rules_lines, or_lines, clause_lines, new_atoms, clauses_lines}
 use Rattle.clauselines.specs.Clauses.{atom_count, rules_in, clauses_in}
@@ -44,7 +44,7 @@ bit_small : (b : Bool) → bool_byte b ≤ 1
 bit_small true = omega arith
 bit_small false = omega arith
 
-module _ (tables : List ℕ) (r : ℕ) (e : Entry) (h : EntryAt (word_at tables) (1_542 + 5 * r) e) where
+module _ (tables : List ℕ) (r : ℕ) (e : Entry) (h : EntryAt (word_at tables) (rule_first_at r) e) where
   straight_length : (g : ℕ → ℕ) → bool_byte (there e.lower) + bool_byte (there e.upper) ≡ length (straight (rule_of (word_at tables) g r))
   unfolding straight
   straight_length g =

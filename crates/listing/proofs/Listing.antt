@@ -21,7 +21,7 @@ use Rattle.words.specs.Writes.{Wrote, put, put_words}
 use Rattle.words.proofs.Writes.{word_wrote, lent_part, word_bytes_zeros}
 use Rattle.order.specs.Order.{Place, occurrences, word_place}
 use Rattle.order.proofs.Runs.{Named}
-use Rattle.format.specs.Layout.{end_at, entry_at, lock_at}
+use Rattle.format.specs.Layout.{end_at, entry_at, lock_at, term_room, clause_room}
 use Rattle.format.specs.Tables.{plan_of_tables}
 use Rattle.format.proofs.Arranged.{Arranged}
 use Rattle.format.proofs.ReadBack.{holds_arranged}
@@ -73,7 +73,7 @@ module _ {tables terms : List ℕ} (l : Laid tables terms) {x k : ℕ} (low : 1 
   named : Named (plan_of_tables tables terms) x q
   named = run_named p (parts tables terms l) (word_at tables) (word_at terms) (sections tables terms l) arranged x low high _ inside
 
-  pub entry_few : k < 6_512
+  pub entry_few : k < term_room
   entry_few = omega (arith, run_few p (parts tables terms l) (word_at tables) (word_at terms) (sections tables terms l) arranged x low high)
 
   module _ {w c : ℕ} (e : w ≡ word_at tables (entry_at k)) (f : c ≡ (word_place w).clause) where
@@ -85,7 +85,7 @@ module _ {tables terms : List ℕ} (l : Laid tables terms) {x k : ℕ} (low : 1 
     pub below : c < length (plan_of_tables tables terms).clauses
     below = rw clause_here named.clause_there
 
-    pub clause_few : c < 513
+    pub clause_few : c < clause_room
     clause_few = omega (arith, below, (parts tables terms l).clause_count)
 
     module _ {at : ℕ} (start_here : at ≡ terms_ahead (plan_of_tables tables terms) c) where
@@ -99,7 +99,7 @@ module _ {tables terms : List ℕ} (l : Laid tables terms) {x k : ℕ} (low : 1 
         long : n ≡ length L
         long = u ∙ told.counted
 
-        pub list_room : at + n ≤ 6_512
+        pub list_room : at + n ≤ term_room
         list_room = omega (arith, start_here, long, list_few p x low free c below (k - word_at tables (end_at (x - 1))), ahead_next p c below, ahead_all p (suc c), (parts tables terms l).terms)
 
         -- The test says whether the clause has x already.
@@ -151,7 +151,7 @@ module _ {tables terms : List ℕ} (l : Laid tables terms) {x k : ℕ} (low : 1 
           list_space =
               omega (arith, start_here, long, ap length longer, length-append L (x ∷ []), list_few p x low free c below (k + 1 - word_at tables (end_at (x - 1))), ahead_next p c below)
 
-          pub place_few : at + n < 6_512
+          pub place_few : at + n < term_room
           place_few = omega (arith, list_space, ahead_all p (suc c), (parts tables terms l).terms)
 
           module _ {v m : ℕ} {a z : List ℕ} (ev : v ≡ x) (ea : a ≡ put_words (list_at (at + n)) (v ∷ []) s) (em : m ≡ n + 1) (ez : z ≡ put_words (list_count_at c) (m ∷ []) a) where
@@ -215,7 +215,7 @@ module _ {tables terms : List ℕ} (l : Laid tables terms) {x : ℕ} (low : 1 �
   pub run_begins : word_at tables (end_at (x - 1)) ≤ word_at tables (end_at x)
   run_begins = omega (arith, run_size (plan_of_tables tables terms) (parts tables terms l) (word_at tables) (word_at terms) (sections tables terms l) (holds_arranged (plan_of_tables tables terms) (parts tables terms l) tables terms l.holds) x low high)
 
-  pub run_ends : word_at tables (end_at x) ≤ 6_512
+  pub run_ends : word_at tables (end_at x) ≤ term_room
   run_ends = run_few (plan_of_tables tables terms) (parts tables terms l) (word_at tables) (word_at terms) (sections tables terms l) (holds_arranged (plan_of_tables tables terms) (parts tables terms l) tables terms l.holds) x low high
 
   pub run_listed : is_locked (plan_of_tables tables terms) x ≡ false → {k end first : ℕ} {t : List ℕ} → first ≡ word_at tables (end_at (x - 1)) → end ≡ word_at tables (end_at x) → k ≤ end → end ≤ k → Listing (plan_of_tables tables terms) x (k - word_at tables (end_at (x - 1))) t → Listing (plan_of_tables tables terms) (x + 1) 0 t

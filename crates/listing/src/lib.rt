@@ -8,7 +8,7 @@ ghost use Rattle.std.specs.Prelude.{◌≡◌, ◌+◌, ◌*◌, ◌-◌, ◌≤
 ghost use Rattle.plpb.specs.Lists.{◌and◌};
 ghost use Rattle.plpb.specs.Plan.{is_locked};
 ghost use Rattle.words.specs.Words.{word_at};
-ghost use Rattle.format.specs.Layout.{end_at};
+ghost use Rattle.format.specs.Layout.{end_at, term_room};
 ghost use Rattle.recount.specs.Plans.{plan as planOf};
 ghost use Rattle.columns.specs.Layout.{column_size, column_word_count, list_at, list_count_at};
 ghost use Rattle.columns.specs.Columns.{terms_ahead, Listed};
@@ -33,7 +33,7 @@ pub fn terms_ahead(t: &Tables<'_>, c: usize) -> usize
 // Whether x is the last of the n variables of a list. They are words in lent bytes: the library's `ends_with` would compare the last four bytes with another
 // four, and not the number that they stand for with x.
 fn ends_with(marks: &[u8], at: usize, n: usize, x: usize) -> bool
-    requires { (at + n ≤ 6_512) × (column_size ≤ length marks.now) }
+    requires { (at + n ≤ term_room) × (column_size ≤ length marks.now) }
     ensures { result ≡ (ltb 0 n and eqb (word_at marks.now (list_at (at + n - 1))) x) }
 {
     0 < n && index(marks, LISTS + (at + n - 1)) == x

@@ -12,12 +12,12 @@ use borrow.Author.Tests.{le-leb, lt-ltb, leb-true, eqb-false}
 use Rattle.plpb.specs.Lists.{◌and◌, ◌or◌, any, all}
 use Rattle.plpb.specs.Plan.{rising_above, rising}
 use Rattle.plpb.proofs.Lists.{all_map}
-use Rattle.format.specs.Limits.{weight_lawful, bound_lawful, is_present, rule_lawful, lawful}
+use Rattle.format.specs.Limits.{weight_lawful, bound_lawful, is_present, rule_lawful, lawful, term_within}
 use Rattle.format.specs.File as File
 use Rattle.format.specs.Writer.{write}
 use Rattle.format.proofs.Bools.{and_left, and_right, and_join}
 use Rattle.format.proofs.Bounds.{both_lawful}
-use Rattle.format.proofs.Lawful.{term_within, LawfulTerms, rule_whole, clause_lawful, clause_whole, plan_whole}
+use Rattle.format.proofs.Lawful.{LawfulTerms, rule_whole, clause_lawful, clause_whole, plan_whole}
 use Rattle.format.proofs.RoundTrip.{read_write}
 use Rattle.format.proofs.Sizes.{write_short}
 use Rattle.lists.specs.Lists.{Site, Zone, in_zone, terms_by, zone_terms, between, none_at_all, zone_clause, plan_for}

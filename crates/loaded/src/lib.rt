@@ -103,7 +103,7 @@ impl<'a> Counted<'a> {
     // A section that has a word for each variable, that of variable x at `before + x`: each word passes a test, and beyond the last they are 0. The range of
     // the loop leaves out its end: with an inclusive one, which keeps beside the number whether the last has come, it would no longer take 16 bytes at a time.
     fn section_good<F: Fn(u32) -> bool>(self, before: usize, test: F) -> bool
-        requires inside { 4 * (before + 513) ≤ length self.tables.now }
+        requires inside { 4 * (before + 1 + max_variables) ≤ length self.tables.now }
         requires callable { F.IsAlwaysCallable test }
         ensures { (good : ℕ → Bool) → ((w : ℕ) (r : Bool) → F.post test w r → r ≡ good w) → result
             ≡ (every_from (λ x. good (word_at self.entry.tables.now (before + x))) 1 self.entry.variables

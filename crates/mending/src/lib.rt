@@ -8,7 +8,7 @@ ghost use Rattle.plpb.specs.Count.{capped};
 ghost use Rattle.plpb.specs.Equations.{clause_make};
 ghost use Rattle.counting.specs.Count.{number};
 ghost use Rattle.counting.specs.Bound.{bound_of};
-ghost use Rattle.order.proofs.Groups.{reaches};
+ghost use Rattle.order.specs.Breaks.{reaches};
 ghost use Rattle.rules.specs.State.{Balanced, shares_from};
 ghost use Rattle.effects.specs.Run.{Inside, rule, bits as bits_of};
 ghost use Rattle.groups.specs.Group.{bits, clause, rules};

@@ -15,8 +15,8 @@ use lib.Seq.{length-take-le, take_at, drop_at}
 use borrow.Author.Tests.{leb-true, ltb-true, lt-ltb, eqb-true, eq-eqb, ne_eqb}
 use Rattle.plpb.specs.Lists.{◌and◌, ◌or◌, any, all, concat, sum_by}
 use Rattle.plpb.specs.Plan.{Bound, absent, present, Term, Rule, Clause, Lock, Plan, Assignment, value, is_variable, lock_among, lock_of, agrees, obeys, total, at_least, at_most, rule_holds, clause_holds, satisfies, rising_above, rising}
-use Rattle.format.specs.Limits.{lock_term, lock_terms, rule_lawful}
-use Rattle.format.proofs.Lawful.{term_within, clause_lawful, clause_rules, rule_parts, Within, plan_parts}
+use Rattle.format.specs.Limits.{lock_term, lock_terms, rule_lawful, term_within}
+use Rattle.format.proofs.Lawful.{clause_lawful, clause_rules, rule_parts, Within, plan_parts}
 use Rattle.plpb.proofs.Lists.{T_true, is_true, and_left, and_right, and_both, and_true, or_false, all_append, same_test}
 use Rattle.plpb.proofs.Locks.{all_in_row, obeyed}
 use Rattle.opb.specs.Opb.{Line, meets, Text, solves, line_rule, plan_of}

@@ -81,7 +81,7 @@ record Spared (s t : List ℕ) : Type 0 where
 stamp_before : (s t : List ℕ) (x : ℕ) → x ≤ 512 → take (4 * hint_at 1) t ≡ take (4 * hint_at 1) s → stamp_in t x ≡ stamp_in s x
 unfolding word_at
 stamp_before s t x h e =
-    let i = 4 * (127 + x) in
+    let i = 4 * stamp_at x in
     sym (num_at_take 4 (4 * hint_at 1) t i (omega arith)) ∙ ap (λ u. num_at 4 u i) e ∙ num_at_take 4 (4 * hint_at 1) s i (omega arith)
 
 noted_spared : {s t : List ℕ} → Noted s t → Spared s t

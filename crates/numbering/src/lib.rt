@@ -72,7 +72,7 @@ fn list_one(map: Map<'_>, x: usize, list: &mut [u8], i: usize) -> usize
 // "in a lent list, which old variable each new one was, 0 in unused places". Their number goes with the map here too. The index
 // goes on behind the loop, where the list is cleared from it on.
 pub fn list_old(map: Map<'_>, n: usize, list: &mut [u8])
-    requires { (n ≤ max_variables) × (length list.old ≡ 2_048) }
+    requires { (n ≤ max_variables) × (length list.old ≡ 4 * max_variables) }
     ensures { list.new ≡ word_bytes (pad_to 512 (keep (λ x. is_number (word_at map.entry.words.now x)) (row 1 n))) }
 {
     let mut i = 0;

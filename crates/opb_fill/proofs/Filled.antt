@@ -18,13 +18,13 @@ use Rattle.words.specs.Words.{word_bytes, unsigned}
 use Rattle.words.specs.Writes.{front}
 use Rattle.words.proofs.Words.{length_word_bytes}
 use Rattle.words.proofs.Writes.{front_none, length_front, lent_long, clear_same}
-use Rattle.format.specs.Limits.{term_count, rule_lawful, is_present, bound_lawful}
+use Rattle.format.specs.Limits.{term_count, rule_lawful, is_present, bound_lawful, term_within}
 use Rattle.format.specs.Tables.{pad_to, clause_entries, rule_entries, term_entries, all_terms, term_words, coefficient}
 use Rattle.format.specs.Writer.{mode, bound_number}
 use Rattle.format.proofs.Bools.{and_left, and_right, and_join}
-use Rattle.format.proofs.Lawful.{LawfulPlan, term_within, terms_short, rule_parts}
+use Rattle.format.proofs.Lawful.{LawfulPlan, terms_short, rule_parts}
 use Rattle.format.proofs.Sections.{length_rule_entries, length_term_entries, length_all_terms}
-use Rattle.format.specs.Layout.{clause_section_size, clause_word_count, rule_section_size, rule_word_count, term_size, term_word_count}
+use Rattle.format.specs.Layout.{clause_section_size, clause_word_count, rule_section_size, rule_word_count, term_size, term_word_count, objective_size}
 use Rattle.tables.specs.Sections.{objective_words, clause_words, rule_words, placed, in_range}
 use Rattle.tables.proofs.Entered.{entries_more, terms_lent, front_long}
 use Rattle.tables.proofs.Filled.{words_lent, rest_lent}
@@ -582,7 +582,7 @@ module _ (s : List ℕ) (e : Says s) (ts : List Term) (q : ts ≡ objective_of s
       let p = plan_of_text s in
       rw is_objective_lem (wider p.variables p.objective w.high w.objective.within, lawful_range p.variables 0 p.objective w.high w.objective.rise w.objective.within)
 
-  pub objective_done : (o t u : List ℕ) → length o ≡ 2_048 → t ≡ replicate (length o) 0 → u ≡ placed ts t → u ≡ word_bytes (objective_words (plan_of_text s))
+  pub objective_done : (o t u : List ℕ) → length o ≡ objective_size → t ≡ replicate (length o) 0 → u ≡ placed ts t → u ≡ word_bytes (objective_words (plan_of_text s))
   unfolding objective_words
   objective_done o t u n c f =
       let w = lawful_text s (plan_of_text s) e in

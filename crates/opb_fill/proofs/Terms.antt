@@ -17,7 +17,8 @@ use Rattle.words.proofs.Writes.{front_none}
 use Rattle.format.specs.Layout.{term_size}
 use Rattle.format.specs.Tables.{term_entries}
 use Rattle.format.proofs.Bools.{and_left, and_right}
-use Rattle.format.proofs.Lawful.{term_within, weight_small}
+use Rattle.format.proofs.Lawful.{weight_small}
+use Rattle.format.specs.Limits.{term_within}
 use Rattle.tables.proofs.Entered.{terms_lent, front_long}
 use Rattle.tables.proofs.Dense.{Placing, placing_more}
 use Rattle.tokens.specs.declared.text.Text.{Text}

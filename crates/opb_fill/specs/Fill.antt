@@ -4,7 +4,7 @@ use Rattle.std.specs.Prelude.{ℕ, ◌≤◌, ◌<◌, ◌≡◌, Bool, true, Li
 use Rattle.plpb.specs.Lists.{all, keep}
 use Rattle.plpb.specs.Plan.{Term}
 use Rattle.format.specs.File.{accepted}
-use Rattle.format.proofs.Lawful.{term_within}
+use Rattle.format.specs.Limits.{term_within}
 use Rattle.tokens.specs.declared.text.Text.{Text}
 use Rattle.statements.specs.declared.Kind.{Kind}
 use Rattle.statements.specs.declared.Kind.TheVariants.{Comment, Objective, Constraint}

@@ -6,7 +6,7 @@ ghost use Rattle.plpb.specs.Tallies.{rules_of};
 ghost use Rattle.words.specs.Words.{word_bytes, unsigned, bytes_of};
 ghost use Rattle.words.specs.Writes.{front, put};
 ghost use Rattle.format.specs.Limits.{term_count};
-ghost use Rattle.format.specs.Layout.{clause_section_size, rule_section_size, term_size};
+ghost use Rattle.format.specs.Layout.{clause_section_size, rule_section_size, term_size, objective_size};
 ghost use Rattle.format.specs.Tables.{rule_entries, term_entries, term_words};
 ghost use Rattle.tables.specs.Sections.{objective_words, clause_words, rule_words, placed, in_range};
 ghost use Rattle.statements.specs.Grammar.{sum_at, rule_at, with_sign};
@@ -103,7 +103,7 @@ fn put_sum(t: Text<'_>, out: &mut [u8]) -> usize
 }
 
 fn put_coefficient(out: &mut [u8], variable: u32, weight: u32)
-    requires { (1 ≤ variable) × (variable ≤ 512) × (length out.old ≡ 2_048) }
+    requires { (1 ≤ variable) × (variable ≤ 512) × (length out.old ≡ objective_size) }
     ensures { out.new ≡ put (4 * (variable - 1)) (bytes_of 4 weight) out.old }
 {
     let place = 4 * ((variable as usize) - 1);
@@ -114,7 +114,7 @@ fn put_coefficient(out: &mut [u8], variable: u32, weight: u32)
 // written so far would have to be said at each call. The length stands in each contract that has the section, since a section is a part of the lent table: an
 // array would have to be made of it first.
 fn put_coefficients(t: Text<'_>, out: &mut [u8])
-    requires { InRange (read sum_at t) × (in_range (read sum_at t) ≡ true) × (length out.old ≡ 2_048) }
+    requires { InRange (read sum_at t) × (in_range (read sum_at t) ≡ true) × (length out.old ≡ objective_size) }
     ensures { out.new ≡ placed (read sum_at t.entry) out.old }
 {
     let mut text = t;
@@ -141,7 +141,7 @@ fn objective_begins(s: &[u8]) -> Text<'_>
 impl<'a> Lawful<'a> {
     // The objective, a word for each variable.
     pub fn objective_section(self, out: &mut [u8])
-        requires out_len { length out.old ≡ 2_048 }
+        requires out_len { length out.old ≡ objective_size }
         ensures { out.new ≡ word_bytes (objective_words (plan_of_text self.entry.text.now)) }
     {
         clear(out);

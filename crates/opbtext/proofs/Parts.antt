@@ -105,10 +105,10 @@ small_size w h = rw (lt-ltb w 2_147_483_648 (omega (arith, h))) refl
 
 module _ (tables : List ℕ) where
   abbrev lock : ℕ → ℕ
-  lock i = word_at tables (6_666 + 1 + i)
+  lock i = word_at tables (lock_at 1 + i)
 
   lock_is : (i : ℕ) → word_at tables (lock_at (suc i)) ≡ lock i
-  lock_is i = let e : 6_666 + suc i ≡ 6_666 + 1 + i = omega arith in ap (word_at tables) e
+  lock_is i = let e : lock_at (suc i) ≡ lock_at 1 + i = omega arith in ap (word_at tables) e
 
   pub lock_none : (i : ℕ) → lock i ≡ 0 → [] ≡ lines_bytes (lock_lines tables i 1)
   unfolding lock_lines sparse row keep is_some named
@@ -126,10 +126,10 @@ module _ (tables : List ℕ) where
       positive (suc v) k = omega arith
 
   -- A lock as it is read.
-  pub read_lock : (i : ℕ) {w : ℕ} → w ≡ lock i → (w ≡ 0 → ⊥) → word_at tables (6_666 + (1 + i)) ≤ 2
+  pub read_lock : (i : ℕ) {w : ℕ} → w ≡ lock i → (w ≡ 0 → ⊥) → word_at tables (lock_at (1 + i)) ≤ 2
       → spell_line (lock_line (record { variable = i + 1; value = ltb 1 w })) ≡ lines_bytes (lock_lines tables i 1)
   read_lock i e h l =
-      let at : 6_666 + (1 + i) ≡ 6_666 + 1 + i = omega arith in
+      let at : lock_at (1 + i) ≡ lock_at 1 + i = omega arith in
       ap (λ v. spell_line (lock_line (record { variable = i + 1; value = ltb 1 v }))) e ∙ lock_some i (λ z. h (e ∙ z)) (rw at at l)
 
   module _ (n : ℕ) where

@@ -14,6 +14,7 @@ use Rattle.constraints.specs.Bytes.{lines_bytes}
 use Rattle.constraints.proofs.Bytes.{lines_append}
 use Rattle.clauselines.specs.Clauses.{clauses_in}
 use Rattle.opbtext.specs.Whole.{lock_lines}
+use Rattle.format.specs.Layout.{lock_at}
 
 module _ (tables terms : List ℕ) where
   abbrev f : ℕ → ℕ
@@ -29,13 +30,13 @@ module _ (tables terms : List ℕ) where
   variable_count = f 0 + sum_by new_atoms (clauses_in f g 0 (f 1))
 
   abbrev pub line_count : ℕ
-  line_count = length clause_lines_of + length (sparse (λ x. signed (f (6_666 + x))) 0 (f 0))
+  line_count = length clause_lines_of + length (sparse (λ x. signed (f (lock_at x))) 0 (f 0))
 
   count_is : length (clause_lines_of ++ lock_lines tables 0 (f 0)) ≡ line_count
   unfolding lock_lines
   count_is =
       length-append clause_lines_of (lock_lines tables 0 (f 0))
-      ∙ ap (λ n. length clause_lines_of + n) (length-map (map term_lock (sparse (λ x. signed (f (6_666 + x))) 0 (f 0))) lock_line ∙ length-map (sparse (λ x. signed (f (6_666 + x))) 0 (f 0)) term_lock)
+      ∙ ap (λ n. length clause_lines_of + n) (length-map (map term_lock (sparse (λ x. signed (f (lock_at x))) 0 (f 0))) lock_line ∙ length-map (sparse (λ x. signed (f (lock_at x))) 0 (f 0)) term_lock)
 
   pub whole_bytes :
       spell (tau (plan_of_tables tables terms))
@@ -50,6 +51,6 @@ module _ (tables terms : List ℕ) where
 
   -- The numbers of the first line, as they are counted.
   pub first_is :
-      {v m w n : ℕ} → v ≡ variable_count → m ≡ length clause_lines_of → w ≡ length (sparse (λ x. signed (f (6_666 + x))) 0 n) → n ≡ f 0
+      {v m w n : ℕ} → v ≡ variable_count → m ≡ length clause_lines_of → w ≡ length (sparse (λ x. signed (f (lock_at x))) 0 n) → n ≡ f 0
       → spell_first v (m + w) ≡ spell_first variable_count line_count
-  first_is d e h i = ap₂ spell_first d (ap₂ ◌+◌ e (h ∙ ap (λ k. length (sparse (λ x. signed (f (6_666 + x))) 0 k)) i))
+  first_is d e h i = ap₂ spell_first d (ap₂ ◌+◌ e (h ∙ ap (λ k. length (sparse (λ x. signed (f (lock_at x))) 0 k)) i))

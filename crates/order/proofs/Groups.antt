@@ -20,17 +20,12 @@ use Rattle.plpb.proofs.Theorem1.{is_false, spoiled_and_left}
 use Rattle.plpb.proofs.Theorem2.{rule_holds_lem}
 use Rattle.plpb.proofs.Equations.{equations}
 use Rattle.plpb.proofs.Unnamed.{unnamed_holds, unnamed_shares}
-use Rattle.order.specs.Breaks.{spoils_part, false_after, breaks_along}
+use Rattle.order.specs.Breaks.{spoils_part, false_after, breaks_along, reaches}
 use Rattle.order.specs.Grouped.{naming, others}
 use Rattle.order.proofs.Shares.{none_naming, break_by_naming, make_by_naming}
 use Rattle.order.proofs.Thresholds.{grows_absent, grows_empty, grows_still, grows_present, clause_breaks}
 
 -- ---- a rule's thresholds
-
--- A bound of size k that m and w more reach, where m alone does not choose as many: the threshold by which a rule is spoiled.
-unfoldable pub reaches : ℕ → ℕ → Bound ℕ → Bool
-reaches m w absent = false
-reaches m w (present k) = ltb 0 k and (ltb 0 w and leb k (m + w))
 
 -- More can be chosen of m + w than of m exactly where a bound's size is reached then.
 pub grows : (m w : ℕ) (b : Bound ℕ) → reaches m w b ≡ ltb 0 (over (m + w) b - over m b)

@@ -30,6 +30,7 @@ use Rattle.picks.specs.declared.choice.Choice.{Choice}
 use Rattle.picks.specs.Picks.{Noted, Picks, Pickable, Triable, Tried}
 use Rattle.picks.specs.Choice.{Marked}
 use Rattle.picks.proofs.Room.{list_room, choosable_within, choosable_most, keep_fewer}
+use Rattle.format.specs.Layout.{term_room}
 
 -- ---- nothing else changes
 
@@ -109,7 +110,7 @@ module _ {tables terms : List ℕ} (l : Laid tables terms) {c : ℕ} (h : c < le
   abbrev p : Plan
   p = plan_of_tables tables terms
 
-  pub list_inside : terms_ahead (plan_of_tables tables terms) c + length (choosable (plan_of_tables tables terms) (get_or (plan_of_tables tables terms).clauses c [])) ≤ 6_512
+  pub list_inside : terms_ahead (plan_of_tables tables terms) c + length (choosable (plan_of_tables tables terms) (get_or (plan_of_tables tables terms).clauses c [])) ≤ term_room
   list_inside = omega (arith, list_room p c h, (parts tables terms l).terms)
 
 -- ---- one variable tried
@@ -149,7 +150,7 @@ module _ {q : Footing} {s : List ℕ} {c : ℕ} (k : Pickable q s c) where
   pub list_few : length (choosable (plan_of_tables q.tables.now q.terms.now) (get_or (plan_of_tables q.tables.now q.terms.now).clauses c [])) ≤ 512
   list_few = omega (arith, choosable_most plan (get_or plan.clauses c []), (parts q.tables.now q.terms.now laid).high)
 
-  pub list_ends : terms_ahead (plan_of_tables q.tables.now q.terms.now) c + length (choosable (plan_of_tables q.tables.now q.terms.now) (get_or (plan_of_tables q.tables.now q.terms.now).clauses c [])) ≤ 6_512
+  pub list_ends : terms_ahead (plan_of_tables q.tables.now q.terms.now) c + length (choosable (plan_of_tables q.tables.now q.terms.now) (get_or (plan_of_tables q.tables.now q.terms.now).clauses c [])) ≤ term_room
   list_ends = list_inside laid k.there
 
   module _ {t : List ℕ} (n : Noted s t) {i first end : ℕ} (e : first ≡ list_at (terms_ahead (plan_of_tables q.tables.now q.terms.now) c)) (f : end ≡ first + length (choosable (plan_of_tables q.tables.now q.terms.now) (get_or (plan_of_tables q.tables.now q.terms.now).clauses c []))) (low : first ≤ i) (high : i < end) where

@@ -1,4 +1,5 @@
--- The full propositional expansion, as lists that could be written out, and the counts over it (document 01, "Rules and clauses" and "Tallies"; paper 004, section 3.1).
+-- The full propositional expansion, as lists that could be written out, and the counts over it (document 01, "Rules and clauses" and "Tallies"; paper 004,
+-- section 3.1).
 -- Assumes nothing.
 use Rattle.std.specs.Prelude.{ℕ, zero, suc, Bool, not, List, [], ◌∷◌, ◌++◌, map, length}
 use Rattle.plpb.specs.Lists.{◌and◌, any, keep, concat}

@@ -132,12 +132,14 @@ StoppedAt (Err (stop.Failed t)) r = (r.ending ≡ code.Ended) × (r.progress ≡
 StoppedAt (Err (stop.Short t)) r = (r.ending ≡ code.ShortFound) × (r.progress ≡ t)
 
 -- What the code does with the tables that hold the plan with an added clause: p is the plan without it.
-abbrev pub UnderBound : Settings → ℤ → (tables terms numbers : List ℕ) → Progress → Result Progress Halt → (tables' assignment assignment' : List ℕ) → (w w' : Work) → Type 0
+abbrev pub UnderBound : Settings → ℤ → (tables terms numbers : List ℕ) → Progress → Result Progress Halt →
+    (tables' assignment assignment' : List ℕ) → (w w' : Work) → Type 0
 UnderBound s m tables terms numbers from r tables' assignment assignment' w w' =
     CallsUnder s (basis tables terms) m numbers from r assignment assignment'
     × Leaves (basis tables terms) tables terms tables' assignment assignment' w w'
 
-abbrev pub Descent : Settings → Mode → (tables terms numbers : List ℕ) → Progress → Result Progress Halt → (tables' assignment assignment' : List ℕ) → (w w' : Work) → Type 0
+abbrev pub Descent : Settings → Mode → (tables terms numbers : List ℕ) → Progress → Result Progress Halt →
+    (tables' assignment assignment' : List ℕ) → (w w' : Work) → Type 0
 Descent s mode tables terms numbers from r tables' assignment assignment' w w' =
     let p = basis tables terms in
     Descends s mode p numbers from (bits_of p.variables assignment) (bits_of p.variables assignment') r

@@ -13,10 +13,10 @@ use borrow.Author.Tests.{leb-true, le-leb, lt-leb, le-ltb, eq-eqb}
 use Rattle.plpb.specs.Lists.{◌and◌, ◌or◌, any, all, keep, concat, sum_by, is_empty}
 use Rattle.plpb.specs.Plan.{Term, Clause, Plan}
 use Rattle.plpb.specs.Tallies.{rules_of}
-use Rattle.format.specs.Limits.{bound_lawful, rule_lawful, term_count}
+use Rattle.format.specs.Limits.{bound_lawful, rule_lawful, term_count, term_within}
 use Rattle.format.specs.File.{Reading, refused, accepted, refuse}
 use Rattle.format.proofs.Bools.{and_left, and_right}
-use Rattle.format.proofs.Lawful.{term_within, LawfulTerms, terms_whole, rule_parts, clause_lawful, clause_rules, LawfulPlan, plan_parts}
+use Rattle.format.proofs.Lawful.{LawfulTerms, terms_whole, rule_parts, clause_lawful, clause_rules, LawfulPlan, plan_parts}
 use Rattle.tokens.specs.Tokens.{line_end}
 use Rattle.statements.specs.Grammar.{is_constraint, sum_at, sum_from, terms_in, rule_at, objective_formed}
 use Rattle.opb_lines.specs.ReadText.{passes, lines_of, variables_in, constraints_in, objective_of, plan_of_text, first_formed, first_met, objective_fault, constraint_fault, fault, judging, read_text}

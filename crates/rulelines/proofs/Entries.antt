@@ -23,6 +23,7 @@ use Rattle.rulelines.specs.declared.Rule.{Rule}
 use Rattle.rulelines.specs.Rules.{bound_line, atom_lines, RuleFits}
 use Rattle.rulelines.specs.Read.{rule_in, RuleRead}
 use Rattle.rulelines.proofs.Lines.{rule_bytes, straight_bytes}
+use Rattle.format.specs.Layout.{rule_count_at, rule_first_at, rule_lower_at, rule_mode_at, rule_upper_at}
 
 -- A bound that is there is the number that was read for it, and so as small.
 size_in : Bound ℤ → ℕ
@@ -39,33 +40,33 @@ bound_small (Some b) without mode v {n} e h = rw (ap size_in e) (by (eqb mode wi
     by false = h
 
 -- Its bounds, whatever table its terms stand in.
-module _ (tables : List ℕ) (g : ℕ → ℕ) (r : ℕ) (e : Entry) (h : EntryAt (word_at tables) (1_542 + 5 * r) e) where
+module _ (tables : List ℕ) (g : ℕ → ℕ) (r : ℕ) (e : Entry) (h : EntryAt (word_at tables) (rule_first_at r) e) where
   pub entry_lower : bound_of e.lower ≡ (rule_of (word_at tables) g r).lower
   unfolding rule_of
   entry_lower =
-      let mode : 1_542 + 5 * r + 2 ≡ 1_544 + 5 * r = omega arith in
-      let lower : 1_542 + 5 * r + 3 ≡ 1_545 + 5 * r = omega arith in
+      let mode : rule_first_at r + 2 ≡ rule_mode_at r = omega arith in
+      let lower : rule_first_at r + 3 ≡ rule_lower_at r = omega arith in
       rw (mode, lower) at h.lower
 
   pub entry_upper : bound_of e.upper ≡ (rule_of (word_at tables) g r).upper
   unfolding rule_of
   entry_upper =
-      let mode : 1_542 + 5 * r + 2 ≡ 1_544 + 5 * r = omega arith in
-      let upper : 1_542 + 5 * r + 4 ≡ 1_546 + 5 * r = omega arith in
+      let mode : rule_first_at r + 2 ≡ rule_mode_at r = omega arith in
+      let upper : rule_first_at r + 4 ≡ rule_upper_at r = omega arith in
       rw (mode, upper) at h.upper
 
-module _ (tables terms : List ℕ) (r : ℕ) (e : Entry) (h : EntryAt (word_at tables) (1_542 + 5 * r) e) where
+module _ (tables terms : List ℕ) (r : ℕ) (e : Entry) (h : EntryAt (word_at tables) (rule_first_at r) e) where
   abbrev f : ℕ → ℕ
   f = word_at tables
 
   abbrev g : ℕ → ℕ
   g = word_at terms
 
-  first_is : e.first ≡ f (1_542 + 5 * r)
+  first_is : e.first ≡ f (rule_first_at r)
   first_is = h.first
 
-  count_is : e.count ≡ f (1_543 + 5 * r)
-  count_is = let n : 1_542 + 5 * r + 1 ≡ 1_543 + 5 * r = omega arith in h.count ∙ ap f n
+  count_is : e.count ≡ f (rule_count_at r)
+  count_is = let n : rule_first_at r + 1 ≡ rule_count_at r = omega arith in h.count ∙ ap f n
 
   entry_terms : terms_in g e.first e.count ≡ (rule_of f g r).terms
   unfolding rule_of terms_in

@@ -15,12 +15,12 @@ use Rattle.plpb.specs.Lists.{◌and◌, ◌or◌, keep, count, any, all, concat,
 use Rattle.plpb.specs.Plan.{Bound, absent, present, Term, Rule, Clause, Plan, lock_of, is_locked, is_present, at_least, at_most, negative_part, least_total, rising_above, rising}
 use Rattle.plpb.specs.Tallies.{rules_of}
 use Rattle.plpb.proofs.Lists.{count_le, length_row}
-use Rattle.format.specs.Limits.{bound_lawful, rule_lawful, term_count, lawful, weight_lawful}
+use Rattle.format.specs.Limits.{bound_lawful, rule_lawful, term_count, lawful, weight_lawful, term_within}
 use Rattle.format.specs.Limits as Limits
 use Rattle.format.proofs.Bools.{and_left, and_right, and_join, true_T}
 use Rattle.format.proofs.Bounds.{both_lawful}
 use Rattle.format.proofs.Lists.{sum_by_append}
-use Rattle.format.proofs.Lawful.{term_within, weight_small, LawfulTerms, LawfulRule, terms_short, rule_parts, rule_whole, clause_lawful, clause_rules, clause_whole, plan_parts, plan_whole}
+use Rattle.format.proofs.Lawful.{weight_small, LawfulTerms, LawfulRule, terms_short, rule_parts, rule_whole, clause_lawful, clause_rules, clause_whole, plan_parts, plan_whole}
 use Rattle.format.proofs.Sizes.{terms_of}
 use Rattle.counting.proofs.Signed.{size_sum}
 use Rattle.squeezed.specs.Squeezed.{Becomes, locked, renumbered, is_unlocked, unlocked, new_number, under_lock, becomes, stays, terms_left, put_in, positive_part, greatest_total, possible, always, trimmed, rules_left, remains, clauses_left, squeezed, all_locked, clause_lost}

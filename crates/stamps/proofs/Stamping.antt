@@ -31,7 +31,7 @@ module _ (k : ℕ) (s : List ℕ) where
     wiped_word x l u =
         let i = x - 1 in
         let before : length (take stamp_byte s) ≡ stamp_byte = length-take-le stamp_byte s (omega arith) in
-        let at : 4 * (127 + x) ≡ length (take stamp_byte s) + 4 * i = omega arith in
+        let at : 4 * stamp_at x ≡ length (take stamp_byte s) + 4 * i = omega arith in
         let rest = drop (length (replicate {A = ℕ} k 0)) (drop stamp_byte s) in
         ap (λ j. num_at 4 (take stamp_byte s ++ (replicate k 0 ++ rest)) j) at
         ∙ num_at_append 4 (take stamp_byte s) (replicate k 0 ++ rest) (4 * i)
@@ -80,8 +80,8 @@ module _ {n : ℕ} {flips s t : List ℕ} (k : Stamped n flips s) (x : ℕ) {num
 pub stamp_kept : (n : ℕ) (s t : List ℕ) (x : ℕ) → 1 ≤ x → n ≤ 512 → drop n t ≡ drop n s → stamp_in t x ≡ stamp_in s x
 unfolding word_at
 stamp_kept n s t x l h e =
-    let at : 4 * (127 + x) ≡ n + (4 * (127 + x) - n) = omega arith in
-    let i = 4 * (127 + x) - n in
+    let at : 4 * stamp_at x ≡ n + (4 * stamp_at x - n) = omega arith in
+    let i = 4 * stamp_at x - n in
     ap (num_at 4 t) at ∙ sym (num_at_drop 4 n t i) ∙ ap (λ w. num_at 4 w i) e ∙ num_at_drop 4 n s i ∙ ap (num_at 4 s) (sym at)
 
 pub stamped_kept : {n : ℕ} {flips s t : List ℕ} → n ≤ 512 → drop n t ≡ drop n s → Stamped n flips s → Stamped n flips t

@@ -19,11 +19,11 @@ use Rattle.words.specs.Words.{num_at, bytes_of, word_bytes, unsigned}
 use Rattle.words.specs.Writes.{put}
 use Rattle.words.proofs.Words.{Below, num_at_lt, length_bytes_of, unsigned_signed}
 use Rattle.words.proofs.Writes.{put_word, word_bytes_zeros, length_put}
-use Rattle.format.specs.Limits.{lock_term, lock_terms}
+use Rattle.format.specs.Limits.{lock_term, lock_terms, term_within}
 use Rattle.format.specs.File.{read, accepted, tag_at, length_at, term_at, terms_at, lock_entry, lock_entries, field_locks}
 use Rattle.format.specs.Tables.{coefficient, lock_word}
 use Rattle.format.proofs.Bools.{and_left, and_right, and_join}
-use Rattle.format.proofs.Lawful.{LawfulTerms, term_within}
+use Rattle.format.proofs.Lawful.{LawfulTerms}
 use Rattle.format.proofs.Lists.{length_row}
 use Rattle.format.proofs.Objective.{coefficient_below}
 use Rattle.format.proofs.Locks.{lock_dense}
@@ -33,6 +33,7 @@ use Rattle.bodies.proofs.Tags.{tag_byte}
 use Rattle.tables.proofs.Entered.{one_less, none_left, all_left}
 use Rattle.tables.proofs.Found.{begun_file, begun_front}
 use Rattle.tables.proofs.Filled.{lawful_file}
+use Rattle.format.specs.Layout.{objective_size}
 
 -- The words after the same writes.
 stands : List Term → List ℕ → List ℕ
@@ -129,7 +130,7 @@ get_d_row f x (suc k) (suc i) h = get_d_row f (suc x) k i (omega arith) ∙ ap f
 
 pub dense :
     (n : ℕ) (ts : List Term) (h : ℕ → ℕ) → n ≤ 512 → LawfulTerms n ts → ((x : ℕ) → 1 ≤ x → unsigned (coefficient ts x) ≡ h x)
-    → placed ts (replicate 2_048 0) ≡ word_bytes (map h (row 1 512))
+    → placed ts (replicate objective_size 0) ≡ word_bytes (map h (row 1 512))
 unfolding rising
 dense n ts h small q same =
     let zs : List ℕ = replicate 512 0 in
@@ -149,10 +150,10 @@ dense n ts h small q same =
 pub record Placing (ts : List Term) (o : List ℕ) (left : List Term) (t : List ℕ) : Type 0 where
   pub whole : placed left t ≡ placed ts o
   pub range : in_range left ≡ true
-  pub long : length t ≡ 2_048
+  pub long : length t ≡ objective_size
   pub same : length t ≡ length o
 
-pub placing_start : (ts : List Term) (o : List ℕ) → in_range ts ≡ true → length o ≡ 2_048 → Placing ts o ts o
+pub placing_start : (ts : List Term) (o : List ℕ) → in_range ts ≡ true → length o ≡ objective_size → Placing ts o ts o
 placing_start ts o r n = record { whole = refl; range = r; long = n; same = refl }
 
 module _ {ts : List Term} {o : List ℕ} {left : List Term} {t : List ℕ} (h : Placing ts o left t) where
@@ -276,7 +277,7 @@ module _ (s : List ℕ) (p : Plan) (a : read s ≡ accepted p) (k : ℕ) (e : k 
   objective_ranged i = range_of (λ j. term_at s (8 + 6 * j)) (k / 6) i (ap in_range (terms_by_place s 8 (k / 6)) ∙ objective_range)
 
   pub objective_done :
-      (o t u : List ℕ) → length o ≡ 2_048 → t ≡ replicate (length o) 0 → u ≡ placed (map (λ j. term_at s (8 + 6 * j)) (row 0 (k / 6))) t
+      (o t u : List ℕ) → length o ≡ objective_size → t ≡ replicate (length o) 0 → u ≡ placed (map (λ j. term_at s (8 + 6 * j)) (row 0 (k / 6))) t
       → u ≡ word_bytes (objective_words p)
   unfolding objective_words
   objective_done o t u n c r =
@@ -317,7 +318,7 @@ module _ (s : List ℕ) (p : Plan) (a : read s ≡ accepted p) (at k : ℕ) (pla
   locks_ranged i = range_of (λ j. lock_term (lock_entry s (at + 3 + 3 * j))) k i (ap in_range (locks_by_place s (at + 3) k) ∙ locks_range)
 
   pub locks_done :
-      (o t u : List ℕ) → length o ≡ 2_048 → t ≡ replicate (length o) 0 → u ≡ placed (map (λ j. lock_term (lock_entry s (at + 3 + 3 * j))) (row 0 k)) t
+      (o t u : List ℕ) → length o ≡ objective_size → t ≡ replicate (length o) 0 → u ≡ placed (map (λ j. lock_term (lock_entry s (at + 3 + 3 * j))) (row 0 k)) t
       → u ≡ word_bytes (lock_words p)
   unfolding lock_words
   locks_done o t u n c r =

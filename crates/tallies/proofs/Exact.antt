@@ -13,10 +13,10 @@ use Rattle.plpb.specs.Tallies.{rules_of, unsatisfied, fresh_count}
 use Rattle.plpb.proofs.Lists.{all_and, all_concat, count_le}
 use Rattle.plpb.proofs.Normal.{P_at_most_K}
 use Rattle.words.proofs.Words.{Below, below_nil, below_cons, below_append}
-use Rattle.format.specs.Limits.{rule_lawful, roomy}
+use Rattle.format.specs.Limits.{rule_lawful, roomy, term_within}
 use Rattle.format.specs.Tables.{pad_to}
 use Rattle.format.proofs.Bools.{and_left, and_right}
-use Rattle.format.proofs.Lawful.{term_within, weight_small, terms_short, rule_parts, clause_lawful, RoomyPlan, roomy_parts}
+use Rattle.format.proofs.Lawful.{weight_small, terms_short, rule_parts, clause_lawful, RoomyPlan, roomy_parts}
 use Rattle.tallies.specs.Layout.{tally_order, tally_words}
 use Rattle.tallies.proofs.Order.{padded}
 use Rattle.format.specs.Layout.{clause_room, rule_room}

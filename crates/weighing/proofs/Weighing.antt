@@ -15,7 +15,7 @@ use Rattle.words.proofs.Writes.{word_wrote}
 use Rattle.order.specs.Order.{Place, order, term_at, term_count, word_place}
 use Rattle.order.proofs.Mentions.{terms_after_lem}
 use Rattle.format.specs.Tables.{plan_of_tables}
-use Rattle.format.specs.Layout.{entry_at, rule_first_at}
+use Rattle.format.specs.Layout.{entry_at, rule_first_at, term_room}
 use Rattle.format.specs.Good.{term_here}
 use Rattle.format.proofs.Placed.{rule_first, rule_size}
 use Rattle.format.proofs.Arranged.{Arranged}
@@ -38,7 +38,7 @@ pub record WeighedTo (p : Plan) (k : ℕ) (s t : List ℕ) : Type 0 where
 pub weighed_none : (p : Plan) (s : List ℕ) → WeighedTo p 0 s s
 weighed_none p s = record { each = λ j h. absurd (omega arith); only = only_none (weight_at 0) (list_count_at 0) s }
 
-pub weighed_next : {p : Plan} {k v : ℕ} {s t u : List ℕ} → column_size ≤ length s → k < 6_512 → v < 4_294_967_296 → v ≡ size (term_at p (get_or (order p) k no_place)) → WeighedTo p k s t → u ≡ put_words (weight_at k) (v ∷ []) t → WeighedTo p (k + 1) s u
+pub weighed_next : {p : Plan} {k v : ℕ} {s t u : List ℕ} → column_size ≤ length s → k < term_room → v < 4_294_967_296 → v ≡ size (term_at p (get_or (order p) k no_place)) → WeighedTo p k s t → u ≡ put_words (weight_at k) (v ∷ []) t → WeighedTo p (k + 1) s u
 weighed_next {p} {k} {v} {s} {t} {u} room few small e w f =
     let wrote = word_wrote (weight_at k) v t u (omega (arith, w.only.size)) small f in
     record {
@@ -58,7 +58,7 @@ module _ {tables terms : List ℕ} (l : Laid tables terms) {k : ℕ} (h : k < te
   abbrev q : Place
   q = get_or (order p) k no_place
 
-  pub entries_few : k < 6_512
+  pub entries_few : k < term_room
   entries_few = omega (arith, (parts tables terms l).terms)
 
   module _ {w r : ℕ} (e : w ≡ word_at tables (entry_at k)) (f : r ≡ (word_place w).rule) where
@@ -75,7 +75,7 @@ module _ {tables terms : List ℕ} (l : Laid tables terms) {k : ℕ} (h : k < te
       term_place : first + i ≡ term_here (word_at tables) q
       term_place = ap₂ ◌+◌ (g ∙ ap (λ n. word_at tables (rule_first_at n)) rule_here) (o ∙ ap (λ z. z.term) here)
 
-      pub term_few : first + i < 6_512
+      pub term_few : first + i < term_room
       term_few =
           let rule = entry_rule p (parts tables terms l) (word_at tables) (word_at terms) (sections tables terms l) (arranged tables terms l) k h in
           let below = entry_term p (parts tables terms l) (word_at tables) (word_at terms) (sections tables terms l) (arranged tables terms l) k h in

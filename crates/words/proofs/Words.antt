@@ -12,10 +12,7 @@ use lib.Pow.{are_bytes}
 use lib.Seq.{get_or-append-add, get_or-drop, get_or-take, drop-cons, drop_at, take-add}
 use borrow.Author.Tests.{lt-ltb, le-ltb}
 use Rattle.words.specs.Words.{num_at, bytes_of, word_bytes, word_at, signed, unsigned}
-
--- Every element below b: what stands past the end counts as 0.
-abbrev pub Below : ℕ → List ℕ → Type 0
-Below b s = (i : ℕ) → get_or s i 0 < b
+pub use Rattle.words.specs.Words.{Below}
 
 pub below_nil : (b : ℕ) → 0 < b → Below b []
 below_nil b h i = h

@@ -1,6 +1,6 @@
 -- Numbers in lists of bytes: "All numbers are little-endian; coefficients and bounds are signed 32-bit, the rest unsigned." (document 01, "The plan file")
 -- Assumes nothing.
-use Rattle.std.specs.Prelude.{ℕ, zero, suc, ◌+◌, ◌*◌, ◌-◌, ◌/◌, ◌%◌, cond, List, [], ◌∷◌, ◌++◌, ltb, ℤ, pos, negsuc, get_or}
+use Rattle.std.specs.Prelude.{ℕ, zero, suc, ◌+◌, ◌*◌, ◌-◌, ◌/◌, ◌%◌, ◌<◌, cond, List, [], ◌∷◌, ◌++◌, ltb, ℤ, pos, negsuc, get_or}
 
 -- The number whose k bytes begin at a place, the lowest byte first.
 unfoldable pub num_at : ℕ → List ℕ → ℕ → ℕ
@@ -28,3 +28,7 @@ signed w = cond (ltb w 2_147_483_648) (pos w) (negsuc (4_294_967_295 - w))
 unfoldable pub unsigned : ℤ → ℕ
 unsigned (pos n) = n
 unsigned (negsuc n) = 4_294_967_295 - n
+
+-- Every element is below b: what stands past the end counts as 0.
+abbrev pub Below : ℕ → List ℕ → Type 0
+Below b s = (i : ℕ) → get_or s i 0 < b

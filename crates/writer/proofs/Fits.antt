@@ -11,12 +11,12 @@ use Rattle.plpb.specs.Lists.{all, concat, sum_by, row}
 use Rattle.plpb.specs.Plan.{Term, Clause, Plan, rising, rising_above}
 use Rattle.plpb.specs.Tallies.{rules_of}
 use Rattle.words.specs.Words.{word_at}
-use Rattle.format.specs.Limits.{weight_lawful, lawful}
+use Rattle.format.specs.Limits.{weight_lawful, lawful, term_within}
 use Rattle.format.specs.Layout.{table_size, term_size, clause_first_at, clause_count_at, rule_first_at, rule_count_at}
 use Rattle.format.specs.Tables.{term_of, rule_of, plan_in, plan_of_tables, is_loaded}
 use Rattle.format.proofs.Bools.{and_left, and_right, and_join}
 use Rattle.format.proofs.Bounds.{bounds_tested}
-use Rattle.format.proofs.Lawful.{term_within, terms_short, plan_parts, room_for}
+use Rattle.format.proofs.Lawful.{terms_short, plan_parts, room_for}
 use Rattle.format.proofs.Lists.{length_spread}
 use Rattle.format.proofs.IsLoaded.{is_loaded_lawful, is_loaded_holds}
 use Rattle.format.proofs.ReadBack.{holds_sections}

@@ -15,10 +15,10 @@ use Rattle.plpb.specs.Plan.{Bound, absent, present, Term, Rule, Clause, Lock, Pl
 use Rattle.plpb.specs.Tallies.{rules_of}
 use Rattle.counting.proofs.Signed.{size_sum}
 use Rattle.integers.proofs.Sizes.{size_less, size_negated}
-use Rattle.format.specs.Limits.{bound_lawful, rule_lawful, lock_term, lock_terms, lawful}
+use Rattle.format.specs.Limits.{bound_lawful, rule_lawful, lock_term, lock_terms, lawful, term_within}
 use Rattle.format.proofs.Bools.{and_left, and_right, and_join}
 use Rattle.format.proofs.Lists.{all_append}
-use Rattle.format.proofs.Lawful.{term_within, weight_small, terms_short, terms_parts, clause_lawful, Within, plan_parts}
+use Rattle.format.proofs.Lawful.{weight_small, terms_short, terms_parts, clause_lawful, Within, plan_parts}
 use Rattle.texts.specs.Texts.{text, decimal, signed_decimal}
 use Rattle.texts.proofs.Decimal.{twenty}
 use Rattle.opb.specs.Opb.{Line, Text}

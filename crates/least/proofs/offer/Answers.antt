@@ -15,6 +15,7 @@ use Rattle.least.specs.declared.Best.{Best}
 use Rattle.least.specs.Best.{place_for}
 use Rattle.least.proofs.Leading.{offered_in, offered_same, place_few}
 use Rattle.least.proofs.offer.Goals as goal
+use Rattle.columns.specs.Layout.{picks_at}
 
 -- The variable is one of the plan's,
 few : {q : Footing} {marks : List ℕ} {i count x : ℕ} → Triable q marks i count → x ≡ word_at marks i → x ≤ 512
@@ -31,7 +32,7 @@ returns c =
     let e = c.of-run.ensures in
     let d = rw (e.0, e.2) at c.in-Some.ensures in
     let exact = d.0 in
-    let wrote = word_wrote (1_152 + c.place_for-at.result) c.narrow.result c.args.marks.now _ (omega (arith, low _ c.args.best c.place_for-at.ensures c.requires.few, c.requires.run.weighed.room)) (omega (arith, c.narrow.ensures, few c.requires c.index-x.ensures)) c.write_word.ensures in
+    let wrote = word_wrote (picks_at + c.place_for-at.result) c.narrow.result c.args.marks.now _ (omega (arith, low _ c.args.best c.place_for-at.ensures c.requires.few, c.requires.run.weighed.room)) (omega (arith, c.narrow.ensures, few c.requires c.index-x.ensures)) c.write_word.ensures in
     offered_same p a c.index-x.ensures
     (offered_in (omega (arith, exact, d.1)) (c.place_for-at.ensures ∙ ap (λ n. place_for n c.args.best) exact) c.requires.few c.requires.run.weighed.room wrote c.narrow.ensures exact refl)
 

@@ -6,7 +6,7 @@ use mathlib.Core.Path.{◌≡◌}
 use Rattle.plpb.specs.Lists.{◌and◌}
 use Rattle.counting.specs.Bound.{bound_of}
 use Rattle.counting.proofs.Bounds.{by_bound}
-use Rattle.order.proofs.Groups.{reaches}
+use Rattle.order.specs.Breaks.{reaches}
 use Rattle.mending.proofs.reached.Goals as goal
 
 pub returns : goal.returns

@@ -16,6 +16,7 @@ use Rattle.effects.proofs.Visits.{going_on}
 use Rattle.picks.specs.Picks.{Triable}
 use Rattle.picks.proofs.Noting.{tried_not, tried_so}
 use Rattle.picks.proofs.free_one.Goals as goal
+use Rattle.columns.specs.Layout.{picks_at}
 
 -- The variable is one of the plan's.
 few : {q : Footing} {marks : List ℕ} {i count x : ℕ} → Triable q marks i count → x ≡ word_at marks i → (1 ≤ x) × (x ≤ 512)
@@ -33,7 +34,7 @@ returns c =
     let hint = c.is_free.ensures.1 in
     let same = ap (λ x. eqb (capped_break (plan_on c.args.footing.now) (bits_on c.args.footing.now) x) 0) c.index-x.ensures in
     tried_so hint x.0 x.1 c.requires.run.weighed.room c.args.count (sym same ∙ sym c.is_free.ensures.0 ∙ not-false _ c.if-not-is_free.false-raw)
-    (word_wrote (1_152 + c.args.count) c.narrow.result _ _ (omega (arith, c.requires.few, hint.size, c.requires.run.weighed.room)) (omega (arith, c.narrow.ensures, x.1)) c.write_word.ensures)
+    (word_wrote (picks_at + c.args.count) c.narrow.result _ _ (omega (arith, c.requires.few, hint.size, c.requires.run.weighed.room)) (omega (arith, c.narrow.ensures, x.1)) c.write_word.ensures)
     c.requires.few (c.narrow.ensures ∙ c.index-x.ensures)
 
 pub narrow-requires : goal.narrow-requires

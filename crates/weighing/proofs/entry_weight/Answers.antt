@@ -10,8 +10,9 @@ use Rattle.recount.proofs.Laid.{tables_long, rules_few}
 use Rattle.weighing.proofs.Weighing.{entries_few, rule_there, term_few, term_inside, weight_here}
 use Rattle.weighing.proofs.entry_weight.Goals.{After-rule_in}
 use Rattle.weighing.proofs.entry_weight.Goals as goal
+use Rattle.format.specs.Layout.{rule_room}
 
-rule_few : (c : After-rule_in) → c.rule_in.result < 1_025
+rule_few : (c : After-rule_in) → c.rule_in.result < rule_room
 rule_few c = omega (arith, rule_there c.args.t.now.laid c.requires c.word-w.ensures c.rule_in.ensures, rules_few _ _ c.args.t.now.laid)
 
 pub overflow_add-k : goal.overflow_add-k

@@ -10,7 +10,7 @@ use Rattle.plpb.specs.Lists.{◌and◌}
 use Rattle.plpb.specs.Plan.{is_locked}
 use Rattle.words.specs.Words.{word_at}
 use Rattle.order.specs.Order.{word_place}
-use Rattle.format.specs.Layout.{end_at, entry_at}
+use Rattle.format.specs.Layout.{end_at, entry_at, term_room, clause_room}
 use Rattle.recount.specs.Plans.{plan}
 use Rattle.recount.proofs.Laid.{tables_long}
 use Rattle.columns.specs.Layout.{list_at, list_count_at}
@@ -28,14 +28,14 @@ Entry v k s =
     × Listing (plan v.plan) v.x (k - word_at v.plan.tables.now (end_at (v.x - 1))) s
 
 module _ (v : Variable) {k w d : ℕ} {s : List ℕ} (y : Entry v k s) (e : w ≡ word_at v.plan.tables.now (entry_at k)) (f : d ≡ (word_place w).clause) where
-  few : d < 513
+  few : d < clause_room
   few = clause_few v.plan.laid v.low v.high y.1 y.2 e f
 
   module _ {at n : ℕ} (o : at ≡ terms_ahead (plan v.plan) d) (u : n ≡ word_at s (list_count_at d)) where
-    room : at + n ≤ 6_512
+    room : at + n ≤ term_room
     room = list_room v.plan.laid v.low v.high y.1 y.2 e f o y.0 y.3 u
 
-    space : {b : Bool} → b ≡ (ltb 0 n and eqb (word_at s (list_at (at + n - 1))) v.x) → b ≡ false → at + n < 6_512
+    space : {b : Bool} → b ≡ (ltb 0 n and eqb (word_at s (list_at (at + n - 1))) v.x) → b ≡ false → at + n < term_room
     space h t = place_few v.plan.laid v.low v.high y.1 y.2 e f o y.0 y.3 u h t
 
 pub returns-then-ends_with : goal.returns-then-ends_with
