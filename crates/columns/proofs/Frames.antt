@@ -4,8 +4,6 @@ use Prim.Native.Nat.{ℕ, ◌+◌, ◌*◌, ◌≤◌, ◌<◌}
 use native.Mathlib.Omega.{arith}
 use mathlib.Core.Path.{◌≡◌, refl, ◌∙◌}
 use mathlib.Core.List.{List}
-use lib.ListN.{length}
-use Rattle.words.specs.Words.{word_at}
 use Rattle.words.specs.Writes.{Wrote}
 use Rattle.plpb.specs.Plan.{Plan}
 use Rattle.order.specs.Order.{term_count}
@@ -50,6 +48,3 @@ only_wider l h o = record {
 
 pub weighed_kept : {p : Plan} {from end : ℕ} {s t : List ℕ} → term_count p ≤ term_room → list_count_at 0 ≤ from → Only from end s t → Weighed p s → Weighed p t
 weighed_kept few l o w = record { room = rw o.size w.room; each = λ k h. o.low (weight_at k) (omega (arith, few, l, h)) ∙ w.each k h }
-
-pub weighed_ahead : {p : Plan} {from end : ℕ} {s t : List ℕ} → end ≤ weight_at 0 → Only from end s t → Weighed p s → Weighed p t
-weighed_ahead l o w = record { room = rw o.size w.room; each = λ k h. o.high (weight_at k) (omega (arith, l)) ∙ w.each k h }

@@ -11,8 +11,8 @@ use Rattle.plpb.specs.Tallies.{rules_of}
 use Rattle.words.specs.Words.{num_at, word_at}
 use Rattle.words.proofs.Words.{num_at_drop}
 use Rattle.format.specs.Layout.{rule_room, tally_size}
-use Rattle.columns.specs.Layout.{total_at, lower_size_at, upper_size_at, need_at, kept_word_count}
-use Rattle.columns.specs.Columns.{SizedRule, Sized, NeededRule, Needed, need}
+use Rattle.columns.specs.Layout.{total_at, lower_size_at, upper_size_at, need_at}
+use Rattle.columns.specs.Columns.{SizedRule, Sized, NeededRule, need}
 use Rattle.columns.specs.Frames.{Only}
 
 -- ---- one rule
@@ -38,15 +38,6 @@ module _ {p : Plan} {s t : List ℕ} (few : length (rules_of p) ≤ rule_room) w
     room = rw size k.room;
     each = λ r h. sized_rule_kept (omega (arith, few)) same (k.each r h);
   }
-
-  pub needed_kept : ((i : ℕ) → i < rule_room → word_at t i ≡ word_at s i) → ((i : ℕ) → need_at 0 ≤ i → i < kept_word_count → word_at t i ≡ word_at s i) → Needed p s → Needed p t
-  needed_kept weights needs k = record {
-    each = λ r h. needed_rule_kept (weights r (omega (arith, few))) (needs (need_at (2 * r)) (omega arith) (omega (arith, few))) (needs (need_at (2 * r + 1)) (omega arith) (omega (arith, few))) (k.each r h);
-  }
-
-  -- Words ahead of them or behind them are written.
-  pub sized_ahead : {from end : ℕ} → end ≤ total_at 0 → Only from end s t → Sized p s → Sized p t
-  sized_ahead l o = sized_kept o.size (λ i a b. o.high i (omega arith))
 
   pub sized_behind : {from end : ℕ} → need_at 0 ≤ from → Only from end s t → Sized p s → Sized p t
   sized_behind l o = sized_kept o.size (λ i a b. o.low i (omega arith))

@@ -3,7 +3,7 @@
 use Prim.Native.Nat.{ℕ, zero, suc, ◌+◌, ◌*◌, ◌-◌, ◌≤◌, ◌<◌}
 use native.Mathlib.Omega.{arith}
 use mathlib.Core.Path.{◌≡◌, refl, sym, ap, ap₂, ◌∙◌}
-use mathlib.Core.List.{List, [], ◌∷◌, map}
+use mathlib.Core.List.{List, [], ◌∷◌}
 use lib.ListN.{length, get_or, drop}
 use lib.Seq.{drop-drop}
 use Rattle.plpb.specs.Lists.{row}
@@ -12,17 +12,13 @@ use Rattle.plpb.specs.Choice.{choosable}
 use Rattle.words.specs.Words.{num_at, word_at}
 use Rattle.words.proofs.Words.{num_at_drop}
 use Rattle.words.specs.Writes.{Wrote}
-use Rattle.columns.specs.Layout.{hint_at, picks_at, weight_at, list_count_at, list_at}
-use Rattle.columns.specs.Frames.{Only}
-use Rattle.columns.specs.Columns.{Weighed, words_from, terms_ahead, ListedClause, Listed}
+use Rattle.columns.specs.Layout.{weight_at, list_count_at, list_at}
+use Rattle.columns.specs.Columns.{Weighed, words_from, terms_ahead, Listed}
 
 -- Marks that are as long and the same from the weights on.
 pub record Behind (s t : List ℕ) : Type 0 where
   pub size : length t ≡ length s
   pub same : (i : ℕ) → weight_at 0 ≤ i → word_at t i ≡ word_at s i
-
-pub behind_self : (s : List ℕ) → Behind s s
-behind_self s = record { size = refl; same = λ i h. refl }
 
 pub behind_more : {s t u : List ℕ} → Behind s t → Behind t u → Behind s u
 behind_more a b = record { size = b.size ∙ a.size; same = λ i h. b.same i h ∙ a.same i h }
@@ -46,10 +42,6 @@ listed_behind {p} {s} {t} b l = record {
     listed = words_same (word_at t) (word_at s) (list_at (terms_ahead p c)) (length (choosable p (get_or p.clauses c []))) (λ j k. b.same j (omega arith)) ∙ (l.each c h).listed;
   };
 }
-
--- A frame that ends before the weights.
-pub only_behind : {from end : ℕ} {s t : List ℕ} → end ≤ weight_at 0 → Only from end s t → Behind s t
-only_behind h o = record { size = o.size; same = λ i l. o.high i (omega arith) }
 
 -- What is the same behind a place before the weights.
 pub dropped_behind : (n : ℕ) {s t : List ℕ} → n ≤ 4 * weight_at 0 → length t ≡ length s → drop n t ≡ drop n s → Behind s t

@@ -55,9 +55,6 @@ module _ (l v : ℤ) (small : nat_abs l < 4294967296) (small' : nat_abs v < 4294
   pub sum_is : read l +ℤ read (pos 2 *ℤ read v) ≡ l +ℤ pos 2 *ℤ v
   sum_is = rw (to_z-of_z f, to_z-of_z f', to_z-of_z double_fits)
 
-  pub double_read_fits : SFits w64 (pos 2 *ℤ read v)
-  double_read_fits = rw (to_z-of_z f') double_fits
-
   pub sum_read_fits : SFits w64 (read l +ℤ read (pos 2 *ℤ read v))
   sum_read_fits = rw sum_is sum_fits
 

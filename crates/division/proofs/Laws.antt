@@ -4,7 +4,7 @@ use Prim.Native.Nat.{ℕ, zero, suc, ◌+◌, ◌-◌, ◌*◌, ◌/◌, ◌%◌
 use mathlib.Core.Path.{◌≡◌, refl, sym, ap, ◌∙◌}
 use mathlib.Core.Bool.{Bool, true, false, not, cond}
 use mathlib.Core.List.{List, [], ◌∷◌}
-use native.Mathlib.Nat.{add-zero, le_trans, mul-le-mul_left, div-mul-le_self, mul-div-le, mod-add-div, add-mul-div_left, le_of_mul-le-mul_left, mul_assoc, mul_comm, mul-add, add-mul, add_comm, div-le_of_le-mul}
+use native.Mathlib.Nat.{add-zero, le_trans, mul-le-mul_left, mul-div-le, mod-add-div, add-mul-div_left, le_of_mul-le-mul_left, mul_assoc, mul_comm, mul-add, add-mul, add_comm}
 use native.Mathlib.Numerals.{add-one}
 use native.Mathlib.Omega.{arith}
 use lib.Dec.{leb, ltb, eqb}
@@ -43,12 +43,6 @@ share_split n s t h =
     let e : n * s ≡ n % t * s + t * (n / t * s) =
     ap (λ (k : ℕ). k * s) (sym (mod-add-div n t)) ∙ add-mul (n % t) (t * (n / t)) s ∙ ap (λ (k : ℕ). n % t * s + k) (mul_assoc t (n / t) s) in
     sym (ap (λ (k : ℕ). k / t) e ∙ add-mul-div_left (n % t * s) (n / t * s) h ∙ add_comm (n % t * s / t) (n / t * s))
-
-pub whole_fits : (n s t : ℕ) → s ≤ t → n / t * s ≤ n
-whole_fits n s t h = le_trans (mul-le-mul_left (n / t) h) (div-mul-le_self n t)
-
-pub share_fits : (n s t : ℕ) → s ≤ t → n * s / t ≤ n
-share_fits n s t h = div-le_of_le-mul t (rw (mul_comm t n) (mul-le-mul_left n h))
 
 -- The shares are at most the numbers.
 whole_parts_sum : (n t : ℕ) (ss : List ℕ) → t * sum (whole_parts n t ss) ≤ n * sum ss

@@ -177,9 +177,6 @@ module _ (f : ℕ → Becomes) (s : List ℕ) where
   abbrev pub Keeping : ℕ → ℕ → Type 0
   Keeping from at = (n : ℕ) (cs : List Clause) → Rest n s from [] cs → Kept at n cs
 
-  pub keep_start : (from : ℕ) → Keeping from from
-  keep_start from n cs h = record { left = cs; rest = h; same = refl }
-
   -- What stands at the place.
   pub keep_rest : (from at : ℕ) → Keeping from at → Begins s from → Begins s at
   keep_rest from at keeping (n, cs, z) = let k = keeping n cs z in (n, k.left, k.rest)

@@ -61,9 +61,6 @@ most_more n m s h a =
       cost = omega (arith, a.cost);
     }
 
-pub most_none : AtMost 0 (sums 0 0 (pos 0))
-most_none = record { found = omega arith; flips = omega arith; cost = omega arith }
-
 -- ---- all of them
 
 unfoldable pub total : Sums → List Answer → Sums

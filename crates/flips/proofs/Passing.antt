@@ -3,7 +3,7 @@
 use Prim.Native.Nat.{ℕ, ◌+◌, ◌-◌, ◌≤◌, ◌<◌}
 use native.Mathlib.Omega.{arith}
 use mathlib.Core.Path.{◌≡◌, sym, ap, ap₂, ◌∙◌}
-use mathlib.Core.Bool.{Bool, cond}
+use mathlib.Core.Bool.{Bool}
 use mathlib.Core.List.{List}
 use lib.Dec.{eqb}
 use Rattle.plpb.specs.Lists.{◌and◌}
@@ -39,10 +39,6 @@ clause_passed {c} {before} {total} {after} {last} {held} {holds} {s} {a} {t} k e
   where
     here : word_at t (holding_at c) ≡ after
     here = v.others (holding_at c) (λ z. omega (arith, k.clause)) ∙ w.here
-
--- Where the clause's count is 0 the total counts it.
-pub total_ready : {c before total : ℕ} {held : Bool} {s : List ℕ} → Countable c held s → before ≡ word_at s (holding_at c) → total ≡ word_at s unsatisfied_at → (cond (eqb before 0) 1 0 ≤ total) × (total < 4_294_967_295)
-total_ready k e f = (rw (e, f) k.total, omega (arith, k.most))
 
 -- ---- the rule
 

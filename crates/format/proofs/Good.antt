@@ -24,16 +24,6 @@ module _ (p : ℕ → Bool) where
   unfolding every_from
   every_go i k h = and_first _ _ h
 
-  pub every_stop : (i k : ℕ) → p i ≡ false → every_from p i (suc k) ≡ false
-  unfolding every_from
-  every_stop i k h = and_stop _ _ h
-
-  pub every_step : (i e : ℕ) → i < e → p i ≡ true → every_from p i (e - i) ≡ every_from p (i + 1) (e - (i + 1))
-  every_step i e h t = rw (left_of i e h, every_go i (e - (i + 1)) t, add-one i)
-
-  pub every_fail : (i e : ℕ) → i < e → p i ≡ false → every_from p i (e - i) ≡ false
-  every_fail i e h t = rw (left_of i e h, every_stop i (e - (i + 1)) t)
-
   pub every_split : (i a b : ℕ) → every_from p i (a + b) ≡ (every_from p i a and every_from p (i + a) b)
   unfolding every_from
   every_split i zero b = rw (zero-add b, add-zero i) (sym (and_first _ _ refl))

@@ -76,10 +76,6 @@ module _ (p : Plan) (l : RoomyPlan p) (f g : ℕ → ℕ) (s : Sections p f g) w
     pub clause_end : f (clause_first_at c) + f (clause_count_at c) ≡ first_rule p.clauses (suc c)
     clause_end = omega (arith, clause_first, clause_size, first_next p.clauses c h)
 
-    pub clause_inside : f (clause_first_at c) + f (clause_count_at c) ≤ length (rules_of p)
-    unfolding rules_of
-    clause_inside = omega (arith, clause_end, first_within p.clauses (suc c))
-
     pub clause_is : get_or p.clauses c [] ≡ clause_of f g c
     clause_is = sym (rw zero-add at (spells_at (clause_of f g) 0 p.clauses (clauses_spelt p l f g s) [] c h))
 

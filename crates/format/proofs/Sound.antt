@@ -4,15 +4,14 @@ use mathlib.Core.Path.{◌≡◌, refl, ◌∙◌}
 use mathlib.Core.Bool.{true}
 use mathlib.Core.List.{map}
 use mathlib.Core.Logic.{⊎_elim}
-use native.Mathlib.Nat.{eq-or-lt_of_le}
 use native.Mathlib.Omega.{arith}
 use lib.IntN.{nat_abs}
 use lib.ListN.{length-map}
-use borrow.Author.Tests.{leb-true, ltb-true, le-leb}
+use borrow.Author.Tests.{leb-true, le-leb}
 use Rattle.plpb.specs.Lists.{all, row}
 use Rattle.plpb.specs.Plan.{rising_above, rising}
 use Rattle.words.specs.Words.{signed}
-use Rattle.format.specs.Limits.{max_variables, max_clauses, max_rules, max_terms, max_weight, weight_lawful, term_within}
+use Rattle.format.specs.Limits.{max_variables, max_clauses, max_rules, max_terms, max_weight, term_within}
 use Rattle.format.specs.File.{bounds_lawful}
 use Rattle.format.specs.Tables.{term_of, rule_of}
 use Rattle.format.proofs.Bools.{and_left, and_right, and_join}
@@ -47,19 +46,6 @@ module _ (g : ℕ → ℕ) (n : ℕ) where
   terms_good v i (suc k) r w =
       and_join _ _ (and_join _ _ (and_join _ _ (and_left _ _ r) (and_left _ _ (and_left _ _ w))) (and_right _ _ (and_left _ _ w)))
       (terms_good (g (2 * i)) (suc i) k (and_right _ _ r) (and_right _ _ w))
-
-  -- One of them.
-  pub term_range :
-      (v i k : ℕ) → terms_from g n v i k ≡ true → (j : ℕ) → i ≤ j → j < i + k
-      → (v < g (2 * j)) × (g (2 * j) ≤ n) × (weight_lawful (signed (g (2 * j + 1))) ≡ true)
-  unfolding terms_from term_good
-  term_range v i zero h j a b = absurd (omega arith)
-  term_range v i (suc k) h j a b =
-      let t = and_left _ _ h in
-      let above : v < g (2 * i) = ltb-true _ _ (and_left _ _ (and_left _ _ t)) in
-      ⊎_elim (λ e. rw (← e) (above, leb-true _ _ (and_right _ _ (and_left _ _ t)), and_right _ _ t))
-      (λ m. let (p, q, w) = term_range (g (2 * i)) (suc i) k (and_right _ _ h) j m (omega arith) in (omega arith, q, w))
-      (eq-or-lt_of_le a)
 
 pub record Sound (f g : ℕ → ℕ) : Type 0 where
   pub some : 1 ≤ f 0

@@ -4,7 +4,7 @@
 use Prim.Native.Nat.{ℕ, ◌+◌, ◌-◌, ◌≤◌, ◌<◌}
 use native.Mathlib.Omega.{arith}
 use mathlib.Core.Path.{◌≡◌, refl, sym, ap, ◌∙◌}
-use Rattle.std.specs.Prelude.{Option, Some, None}
+use Rattle.std.specs.Prelude.{Option, Some}
 use Rattle.std.specs.Bool.{then_some}
 use mathlib.Core.Bool.{Bool, true, false, cond}
 use mathlib.Core.List.{List}
@@ -65,11 +65,6 @@ module _ (tables terms bits s : List ℕ) (c end holding r : ℕ) (d : RulesDone
       let g : FoundAt tables terms bits s r (Some b) = rw e at f in
       rules_step tables terms bits c s end holding r s d (rule_holds (bits_in bits) (rule_of (word_at tables) (word_at terms) r)) v s h
       (record { holds = refl; here = g.0; kept = kept_none _ s }) (n ∙ ap (λ t. cond t 1 0) g.1)
-
-  pub check_stop : (k : Option Bool) → r < end → FoundAt tables terms bits s r k → k ≡ None → ClauseCounted tables terms bits c s s → ⊥
-  check_stop k h f e n =
-      let g : FoundAt tables terms bits s r None = rw e at f in
-      g (n.weights r d.low (omega (arith, d.ends)))
 
   -- The clause's count tells the rest.
   pub check_end : Laid tables terms → c < word_at tables 1 → (w : ℕ) → end ≤ r → w ≡ word_at s (holding_at c) → Decides (eqb w holding) (ClauseCounted tables terms bits c s s)

@@ -4,7 +4,6 @@ use Prim.Native.Nat.{◌-◌, ℕ, ◌≤◌}
 use native.Mathlib.Omega.{arith}
 use mathlib.Core.Path.{◌≡◌, sym, ap, ◌∙◌}
 use mathlib.Core.List.{List}
-use lib.Dec.{T}
 use lib.ListN.{length, take, drop, length-append, length-drop}
 use lib.Seq.{drop-drop}
 use Rattle.plpb.specs.Plan.{Plan}
@@ -12,17 +11,17 @@ use Rattle.plpb.specs.Tallies.{fresh_count}
 use Rattle.plpb.proofs.Normal.{P_at_most_K}
 use Rattle.order.specs.Order.{rule_at, no_rule}
 use Rattle.format.specs.Tables.{plan_of_tables}
-use Rattle.tallies.specs.Layout.{tally_size, tally_bytes, bits_of, are_bits}
+use Rattle.tallies.specs.Layout.{tally_size, tally_bytes, bits_of}
 use Rattle.tallies.proofs.TallyBytes.{Fits, roomy_fits, length_fresh, take_fresh, drop_fresh}
 use Rattle.tallies.proofs.Tallied.{fresh_words, rule_word}
-use Rattle.recount.specs.Core.{Laid, Ready, recounted}
+use Rattle.recount.specs.Core.{Laid, recounted}
 use Rattle.recount.proofs.Laid.{parts}
 use Rattle.columns.specs.Layout.{need_at, kept_word_count, kept_size}
-use Rattle.columns.specs.Columns.{Sized, Needed, Weighed}
+use Rattle.columns.specs.Columns.{Sized, Needed}
 use Rattle.columns.specs.Frames.{Only}
 use Rattle.columns.proofs.Kept.{sized_recounted}
 use Rattle.needs.specs.Needs.{Weighable}
-use Rattle.keeping.specs.Flip.{Keepable, Kept}
+use Rattle.keeping.specs.Flip.{Kept}
 
 module _ {tables terms : List ℕ} (assignment : List ℕ) {s t : List ℕ} (l : Laid tables terms) (z : Sized (plan_of_tables tables terms) s) (e : t ≡ recounted tables terms assignment s) where
   abbrev p : Plan
@@ -66,12 +65,3 @@ module _ {tables terms : List ℕ} (assignment : List ℕ) {s t : List ℕ} (l :
           sym (drop-drop (kept_size - tally_size) tally_size t)
           ∙ ap (drop (kept_size - tally_size)) (ap (drop tally_size) e ∙ drop_fresh p fits (bits_of p.variables assignment) (drop tally_size s))
           ∙ drop-drop (kept_size - tally_size) tally_size s
-
--- The next flip.
-pub kept_keepable : {tables terms marks assignment s t : List ℕ} {x : ℕ} → Ready tables terms assignment → T (are_bits (plan_of_tables tables terms).variables assignment) → Weighed (plan_of_tables tables terms) marks → 1 ≤ x → x ≤ (plan_of_tables tables terms).variables → Kept (plan_of_tables tables terms) (bits_of (plan_of_tables tables terms).variables assignment) s t → Keepable tables terms marks assignment t x
-kept_keepable y b w low high k = record {
-  flip = record { ready = y; bits = b; low = low; high = high; fresh = k.fresh };
-  sized = k.sized;
-  needed = k.needed;
-  weighed = w;
-}

@@ -2,7 +2,7 @@
 -- Assumes nothing.
 use Prim.Native.Nat.{ℕ, ◌+◌, ◌≤◌, ◌<◌}
 use native.Mathlib.Omega.{arith}
-use mathlib.Core.Path.{◌≡◌, refl, sym, ap, ◌∙◌}
+use mathlib.Core.Path.{◌≡◌, sym, ap, ◌∙◌}
 use mathlib.Core.Bool.{cond}
 use mathlib.Core.List.{List, [], ◌∷◌, ◌++◌, map}
 use lib.ListN.{length, get_or, take, drop, set, length-map, length-set}
@@ -37,9 +37,6 @@ pub record Copied (xs o t : List ℕ) (i : ℕ) : Type 0 where
   pub within : i ≤ length xs
   pub filled : t ≡ take i xs ++ drop i o
   pub same : length t ≡ length o
-
-pub copied_none : (xs o : List ℕ) → Copied xs o o 0
-copied_none xs o = record { within = omega arith; filled = refl; same = refl }
 
 module _ {xs o t : List ℕ} {i : ℕ} (h : Copied xs o t i) where
   pub copied_more : (b : ℕ) → i < length xs → length xs ≤ length o → b ≡ get_or xs i 0 → Copied xs o (set t i b) (i + 1)

@@ -18,11 +18,11 @@ use Rattle.format.specs.Writer.{write}
 use Rattle.format.proofs.Bools.{and_join}
 use Rattle.cells.specs.Grammar.{column_of, same_bytes}
 use Rattle.lists.specs.Lists.{Site, Zone, in_zone}
-use Rattle.lists.specs.Refusals.{Entry, number_of, site_of, zone_of, site_formed, zone_formed, site_fault, zone_fault, entry_at, has, repeated, row_fault, unused, judged, Refusal, accepted, plan_of, too_large, refusal_of}
+use Rattle.lists.specs.Refusals.{Entry, number_of, site_of, zone_of, site_formed, zone_formed, site_fault, zone_fault, entry_at, has, repeated, row_fault, unused, judged, accepted, plan_of, too_large, refusal_of}
 use Rattle.lists.proofs.Bytes.{same_eq, same_comm}
 use Rattle.lists.proofs.Counts.{or_left_false, or_right_false, Apart, Used, Few, few, size_alone}
-use Rattle.lists.proofs.Lawful.{Bounded, Sound, plan_read, plan_short}
-use Rattle.lists.proofs.Judging.{judged_none, list_on, list_none}
+use Rattle.lists.proofs.Lawful.{Bounded, Sound, plan_read}
+use Rattle.lists.proofs.Judging.{judged_none, list_none}
 
 all_by_index : {A : Type 0} (p : A → Bool) (d : A) (xs : List A) → ((k : ℕ) → k < length xs → p (get_or xs k d) ≡ true) → all p xs ≡ true
 unfolding all
@@ -213,22 +213,3 @@ module _ (sites zones : List Entry) where
   -- "The plan file": it is accepted by loading, and loading gives the plan back.
   pub accepted_read : (refusal_of sites zones).number ≡ 0 → File.read (write (plan_of sites zones)) ≡ File.accepted (plan_of sites zones)
   accepted_read e = plan_read ss zs (accepted_sound e)
-
-  -- It fits into the plan buffer.
-  pub accepted_short : (refusal_of sites zones).number ≡ 0 → length (write (plan_of sites zones)) ≤ 54_446
-  accepted_short e = plan_short ss zs (accepted_sound e)
-
-  -- A refusal with number 0 is none: list and row are 0 too.
-  pub accepted_is : (refusal_of sites zones).number ≡ 0 → refusal_of sites zones ≡ accepted
-  unfolding refusal_of
-  accepted_is e =
-      let a = list_none 1 _ _ e in
-      let b = list_none 2 _ _ a.1 in
-      let c = list_none 1 _ _ b.1 in
-      let d = list_none 2 _ _ c.1 in
-      let four : Refusal = record { number = 4; list = 0; row = 0 } in
-      list_on 1 _ _ a.0
-      ∙ list_on 2 _ _ b.0
-      ∙ list_on 1 _ _ c.0
-      ∙ list_on 2 _ _ d.0
-      ∙ ap (λ (t : Bool). cond t four accepted) (four_none (eqb (length sites) 0 or too_large (plan_of sites zones)) d.1)

@@ -19,7 +19,6 @@ use Rattle.format.proofs.Bools.{and_left, and_right, and_join}
 use Rattle.format.proofs.Bounds.{both_lawful}
 use Rattle.format.proofs.Lawful.{LawfulTerms, rule_whole, clause_lawful, clause_whole, plan_whole}
 use Rattle.format.proofs.RoundTrip.{read_write}
-use Rattle.format.proofs.Sizes.{write_short}
 use Rattle.lists.specs.Lists.{Site, Zone, in_zone, terms_by, zone_terms, between, none_at_all, zone_clause, plan_for}
 use Rattle.lists.specs.Refusals.{too_large}
 use Rattle.lists.proofs.Counts.{any_count, terms_count, Used, small_enough}
@@ -138,6 +137,3 @@ plan_lawful ss zs h =
 -- "the written file is accepted by loading, and gives that plan back"
 pub plan_read : (ss : List Site) (zs : List Zone) → Sound ss zs → File.read (write (plan_for ss zs)) ≡ File.accepted (plan_for ss zs)
 plan_read ss zs h = read_write (plan_for ss zs) (plan_lawful ss zs h)
-
-pub plan_short : (ss : List Site) (zs : List Zone) → Sound ss zs → length (write (plan_for ss zs)) ≤ 54_446
-plan_short ss zs h = write_short (plan_for ss zs) (plan_lawful ss zs h)

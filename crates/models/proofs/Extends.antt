@@ -276,14 +276,6 @@ kept_agrees a (k ∷ ks) x t = by (eqb k.variable x) refl (kept_agrees a ks x (a
     by true e h = subst (λ y. T (agrees (present k.value) (value a y))) (eqb-true k.variable x e) (and_left _ _ t)
     by false e h = h
 
--- Above a number no lock is found at or below it.
-found_above : (ks : List Lock) (v x : ℕ) → rising_above v (map lock_term ks) ≡ true → x ≤ v → lock_among ks x ≡ absent
-unfolding lock_among rising_above lock_term
-found_above [] v x r l = refl
-found_above (k ∷ ks) v x r l =
-    let h = ltb-true v k.variable (is_true _ (and_left _ _ (T_true r))) in
-    rw (ne_eqb k.variable x (λ e. omega (arith, e, h, l))) (found_above ks k.variable x (is_true _ (and_right (ltb v k.variable) _ (T_true r))) (omega (arith, h, l)))
-
 agrees_kept :
     (a : Assignment) (n v : ℕ) (ks : List Lock) → rising_above v (map lock_term ks) ≡ true → all (λ k. leb k.variable n) ks ≡ true
     → ((x : ℕ) → v < x → x ≤ n → T (agrees (lock_among ks x) (value a x))) → T (all (kept a) ks)

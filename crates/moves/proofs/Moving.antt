@@ -12,7 +12,7 @@ use Rattle.plpb.specs.Lists.{all, count, keep, is_empty, row}
 use Rattle.plpb.specs.Plan.{Clause, Plan, Assignment, flip, is_variable, rule_holds}
 use Rattle.plpb.specs.Tallies.{unsatisfied}
 use Rattle.plpb.specs.Numbers.{take_pick}
-use Rattle.plpb.specs.Walk.{Walk, at, ends, short, run}
+use Rattle.plpb.specs.Walk.{Walk, at, ends, run}
 use Rattle.plpb.specs.Settings.{Settings}
 use Rattle.plpb.specs.Try.{turn_over}
 use Rattle.plpb.specs.Novelty.{last_flip}
@@ -104,18 +104,10 @@ module _ {walk : Walk ℕ} {ns : List ℕ} {used n : ℕ} {r : Result Chosen Sho
     unfolding used_by
     chosen_uses = let u : used_by r ≡ x.used = ap used_by e in (omega (arith, h.uses), omega (arith, h.within))
 
-    pub chosen_ends : (f : ℕ) (fs : List Assignment) → run walk ns (at used f fs) ≡ ends x.value (at x.used f fs)
-    unfolding outcome_of
-    chosen_ends f fs = h.outcome f fs ∙ ap (λ q. outcome_of q f fs) e
-
   module _ {z : Short} (e : r ≡ Err z) where
     pub gone_uses : (used ≤ z.used) × (z.used ≤ length ns)
     unfolding used_by
     gone_uses = let u : used_by r ≡ z.used = ap used_by e in (omega (arith, h.uses), omega (arith, h.within))
-
-    pub gone_short : (f : ℕ) (fs : List Assignment) → run walk ns (at used f fs) ≡ short (at z.used f fs)
-    unfolding outcome_of
-    gone_short f fs = h.outcome f fs ∙ ap (λ q. outcome_of q f fs) e
 
 module _ {tables terms : List ℕ} {w : Work} (k : Walking tables terms w) where
   pub keepable : {x : ℕ} {marks : List ℕ} → (1 ≤ x) × (x ≤ (plan_of_tables tables terms).variables) → Noted w.marks marks → Keepable tables terms marks w.assignment w.tallies x

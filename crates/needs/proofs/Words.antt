@@ -2,18 +2,18 @@
 -- Assumes nothing.
 use Prim.Native.Nat.{ℕ, zero, suc, ◌+◌, ◌-◌, ◌≤◌, ◌<◌}
 use native.Mathlib.Omega.{arith}
-use mathlib.Core.Path.{◌≡◌, refl, ap, ap₂, ◌∙◌}
+use mathlib.Core.Path.{◌≡◌, refl, ap, ◌∙◌}
 use mathlib.Core.Bool.{Bool, true, false, not, cond}
 use lib.Dec.{ltb}
 use borrow.Author.Tests.{eq-eqb, ne_eqb, lt-ltb}
 use Rattle.plpb.specs.Lists.{◌and◌, ◌or◌}
 use Rattle.plpb.specs.Plan.{Bound, absent, present, Rule}
 use Rattle.plpb.specs.Normal.{K, size_a, size_b, below_size}
-use Rattle.order.specs.Along.{holds_by, moved}
+use Rattle.order.specs.Along.{moved}
 use Rattle.columns.specs.Columns.{SizedRule, never, need, size_word}
 use Rattle.sizing.specs.Sizing.{Small}
 use Rattle.needs.specs.declared.KeptRule.{KeptRule}
-use Rattle.needs.specs.Rules.{ReadAs, holds_in, Movable, Moved}
+use Rattle.needs.specs.Rules.{ReadAs, Moved}
 use Rattle.needs.specs.Needs.{need_word}
 
 -- ---- a need
@@ -62,13 +62,6 @@ kept_read {q} {f} {r} s l m k = record {
   small = m;
 }
 
-pub kept_holds : {q : Rule} {n : ℕ} {k : KeptRule} → KeptOf q n k → holds_in k ≡ holds_by q n
-unfolding holds_in holds_by
-kept_holds {q} {n} {k} h =
-    ap₂ (λ x y. x and y)
-    (ap₂ ltb h.falses h.lower ∙ below_word (K q.terms - n) (size_a q) (omega (arith, h.small)))
-    (ap₂ ltb h.trues h.upper ∙ below_word n (size_b q) (omega (arith, h.small, h.within)))
-
 -- A literal is turned over, by cases.
 pub true_moved : {on : Bool} {w : ℕ} {k m : KeptRule} → on ≡ true → m.n ≡ k.n + w → m.p ≡ k.p - w → m.a ≡ k.a → m.b ≡ k.b → Moved on w k m
 unfolding moved
@@ -78,23 +71,7 @@ pub false_moved : {on : Bool} {w : ℕ} {k m : KeptRule} → on ≡ false → m.
 unfolding moved
 false_moved e f g a b = record { falses = rw e f; trues = rw e g; lower = a; upper = b }
 
--- A literal that is part of it.
-pub kept_movable : {q : Rule} {n w : ℕ} {on : Bool} {k : KeptRule} → KeptOf q n k → w ≤ cond on n (K q.terms - n) → Movable on w k
-kept_movable {q} {n} {w} {on} {k} h l = record { part = rw (h.trues, h.falses) l; small = rw (h.trues, h.falses) (omega (arith, h.within, h.small)) }
-
 pub moved_rest : (on : Bool) (w n k : ℕ) → n ≤ k → w ≤ cond on n (k - n) → (moved (not on) w (k - n) ≡ k - moved on w n) × (moved on w n ≤ k)
 unfolding moved
 moved_rest true w n k l h = (omega arith, omega arith)
 moved_rest false w n k l h = (omega arith, omega arith)
-
-pub kept_moved : {q : Rule} {n w : ℕ} {on : Bool} {k m : KeptRule} → KeptOf q n k → w ≤ cond on n (K q.terms - n) → Moved on w k m → KeptOf q (moved on w n) m
-kept_moved {q} {n} {w} {on} {k} {m} h l d =
-    let e = moved_rest on w n (K q.terms) h.within l in
-    record {
-      falses = d.falses ∙ ap (moved (not on) w) h.falses ∙ e.0;
-      trues = d.trues ∙ ap (moved on w) h.trues;
-      lower = d.lower ∙ h.lower;
-      upper = d.upper ∙ h.upper;
-      within = e.1;
-      small = h.small;
-    }

@@ -9,7 +9,7 @@ use mathlib.Core.List.{List, [], ◌∷◌, map}
 use lib.Dec.{T, ltb, lt→ltb, ltb→lt}
 use lib.ListN.{length, get_or, length-map}
 use Rattle.plpb.specs.Lists.{◌and◌, keep, count, all, row}
-use Rattle.plpb.proofs.Lists.{true_and, false_and, and_left, and_right, and_both, all_keep, all_still, all_at, is_true}
+use Rattle.plpb.proofs.Lists.{true_and, false_and, and_left, and_right, and_both, all_still, all_at}
 
 -- ---- elements that pass
 
@@ -60,28 +60,10 @@ unfolding row all
 row_below i zero n h = tt
 row_below i (suc k) n h = and_both (ltb i n) (all (λ j. ltb j n) (row (suc i) k)) (lt→ltb i n (omega arith)) (row_below (suc i) k n (omega arith))
 
-row_above : (i k n : ℕ) → n < i → T (all (λ j. ltb n j) (row i k))
-unfolding row all
-row_above i zero n h = tt
-row_above i (suc k) n h = and_both (ltb n i) (all (λ j. ltb n j) (row (suc i) k)) (lt→ltb n i h) (row_above (suc i) k n (omega arith))
-
 -- What is kept of the variables 1 to n is one of them, and passes.
 module _ (q : ℕ → Bool) (n k d : ℕ) (few : k < length (keep q (row 1 n))) where
   abbrev kth : ℕ
   kth = get_or (keep q (row 1 n)) k d
-
-  pub kept_low : 1 ≤ kth
-  kept_low = ltb→lt 0 kth (all_at (λ j. ltb 0 j) (keep q (row 1 n)) k d (all_still q (λ j. ltb 0 j) (row 1 n) (row_above 1 n 0 (omega arith))) few)
-
-  pub kept_high : kth ≤ n
-  kept_high =
-      let h : kth < suc n =
-      ltb→lt kth (suc n) (all_at (λ j. ltb j (suc n)) (keep q (row 1 n)) k d (all_still q (λ j. ltb j (suc n)) (row 1 n) (row_below 1 n (suc n) (omega arith))) few)
-      in
-      omega arith
-
-  pub kept_passes : q kth ≡ true
-  kept_passes = is_true (q kth) (all_at q (keep q (row 1 n)) k d (all_keep q (row 1 n)) few)
 
 -- ---- the k-th that passes, by its index
 

@@ -5,9 +5,6 @@ use native.Mathlib.Omega.{arith}
 use mathlib.Core.Path.{◌≡◌, ap, ◌∙◌}
 use mathlib.Core.List.{List, [], ◌∷◌}
 use lib.ListN.{length}
-use lib.IntN.{ℤ, pos, negsuc, nat_abs}
-use mir.Syntax.{w32}
-use mir.Val.{SFits}
 use Rattle.words.specs.Words.{word_at}
 use Rattle.words.specs.Writes.{put_words}
 use Rattle.words.proofs.Writes.{words_next}
@@ -47,8 +44,3 @@ pub entries_added :
     → out ≡ added_entries count bound s
 unfolding added_entries
 entries_added s count bound e f g p q o = o ∙ rw (q, p, e, f, g)
-
--- A bound fits a word.
-pub word_fits : (z : ℤ) → nat_abs z ≤ 1_000_000_000 → SFits w32 z
-word_fits (pos n) h = record { sfits = omega arith }
-word_fits (negsuc n) h = record { sfits = omega arith }

@@ -371,9 +371,6 @@ module _ {lent s o : List ℕ} {at end : ℕ} {t : List ℕ} (h : TermFill lent 
   pub term_limit : length (mid_of end (length t - end) t) ≤ term_size
   term_limit = omega (arith, lent_long end t, h.size, h.same)
 
-  pub term_same : (ys : List ℕ) → ys ≡ replicate (length (mid_of end (length t - end) t)) 0 → length (put_mid end (length t - end) t ys) ≡ length o
-  term_same ys k = clear_same end t ys k ∙ h.same
-
   module _ (l : at < length s) where
     abbrev behind' : List Term
     behind' = concat (map (sum_at s) (constraints_from s (next_line s at)))
@@ -445,19 +442,10 @@ unfolding clause_entries singles
 single_entries f first [] = refl
 single_entries f first (k ∷ ks) = ap (λ ws. first ∷ 1 ∷ ws) (single_entries f (first + 1) ks)
 
-singles_long : (first k : ℕ) → length (singles first k) ≡ 2 * k
-unfolding singles
-singles_long first zero = refl
-singles_long first (suc k) = omega (arith, singles_long (first + 1) k)
-
 singles_more : (first k : ℕ) → 0 < k → first ∷ 1 ∷ singles (first + 1) (k - 1) ≡ singles first k
 unfolding singles
 singles_more first zero h = absurd (omega arith)
 singles_more first (suc k) h = ap (λ j. first ∷ 1 ∷ singles (first + 1) j) (let e : suc k - 1 ≡ k = omega arith in e)
-
-pub clause_number : (s : List ℕ) → length (plan_of_text s).clauses ≡ length (rules_of (plan_of_text s))
-unfolding plan_of_text
-clause_number s = length-map (constraint_places s) (λ at. rule_at s at ∷ []) ∙ sym (ap length (rules_are s) ∙ length-map (constraint_places s) (rule_at s))
 
 pub record ClauseFill (clauses : ℕ) (o : List ℕ) (c : ℕ) (t : List ℕ) : Type 0 where
   pub size : length o ≡ clause_section_size
@@ -486,9 +474,6 @@ clause_start clauses o n l =
 module _ {clauses : ℕ} {o : List ℕ} {c : ℕ} {t : List ℕ} (h : ClauseFill clauses o c t) where
   pub clause_space : 8 * c ≤ length t
   clause_space = omega (arith, h.few, h.within, h.size, h.same)
-
-  pub clause_same : (e : ℕ) (ys : List ℕ) → ys ≡ replicate (length (mid_of e (length t - e) t)) 0 → length (put_mid e (length t - e) t ys) ≡ length o
-  clause_same e ys k = clear_same e t ys k ∙ h.same
 
   pub clause_all_space : 8 * clauses ≤ length t
   clause_all_space = omega (arith, h.few, h.size, h.same)

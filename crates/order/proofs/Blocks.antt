@@ -4,26 +4,26 @@ use Prim.Native.Nat.{ℕ, zero, suc, ◌+◌, ◌-◌, ◌≤◌, ◌<◌}
 use native.Mathlib.Nat.{zero-add, add-zero, le_refl}
 use native.Mathlib.Numerals.{add-one}
 use native.Mathlib.Omega.{arith}
-use mathlib.Core.Path.{◌≡◌, refl, sym, ap, ap₂, ◌∙◌, subst}
+use mathlib.Core.Path.{◌≡◌, refl, sym, ap, ap₂, ◌∙◌}
 use mathlib.Core.Bool.{Bool, true, false, cond}
-use mathlib.Core.Logic.{◌⊎◌, inl, inr}
+use mathlib.Core.Logic.{◌⊎◌}
 use mathlib.Core.List.{List, [], ◌∷◌, ◌++◌, map, append-nil}
-use lib.Dec.{T, eqb}
-use lib.ListN.{length, get_or, take, drop, length-append, length-drop, length-map}
-use lib.Seq.{drop-cons, drop-length, take-take, drop-drop, take-append_seam, drop-append_seam}
-use borrow.Author.Tests.{eq-eqb, ne_eqb, ltb-false}
-use Rattle.plpb.specs.Lists.{◌or◌, keep, any, all, sum_by, concat}
+use lib.Dec.{T}
+use lib.ListN.{length, get_or, take, drop, length-append}
+use lib.Seq.{drop-cons, drop-length, take-append_seam, drop-append_seam}
+use borrow.Author.Tests.{eq-eqb, ne_eqb}
+use Rattle.plpb.specs.Lists.{◌or◌, keep, any, all, sum_by}
 use Rattle.plpb.specs.Plan.{Rule, Clause, Plan, rising, numbers_rise, named_in, names}
 use Rattle.plpb.specs.Tallies.{rules_of}
 use Rattle.plpb.specs.Count.{capped}
 use Rattle.plpb.proofs.Lists.{and_left, and_right, all_at}
-use Rattle.plpb.proofs.Capped.{sum_of, same_sum, capped_twice}
-use Rattle.order.specs.Order.{Place, in_rules, in_clauses, occurrences, order, run_end, cut, no_rule, rule_at, first_rule, has_several, numbers_within}
+use Rattle.plpb.proofs.Capped.{same_sum, capped_twice}
+use Rattle.order.specs.Order.{Place, in_rules, in_clauses, occurrences, order, run_end, cut, rule_at, first_rule, numbers_within}
 use Rattle.order.specs.Grouped.{naming}
 use Rattle.order.specs.Blocks.{rules_along, same_clause, Group}
 use Rattle.order.proofs.Occurrences.{place_in, placed, terms_placed}
 use Rattle.order.proofs.Runs.{first_none, first_next, rule_in_clause}
-use Rattle.order.proofs.Tested.{cut_length, cut_none, cut_join, run_cut, order_length, end_next, ends_ordered, last_end}
+use Rattle.order.proofs.Tested.{cut_length, cut_join, run_cut, order_length, ends_ordered, last_end}
 use Rattle.order.proofs.Shares.{group_rules}
 use Rattle.order.proofs.Grouped.{rule_first}
 
@@ -306,14 +306,3 @@ module _ (p : Plan) (x : ℕ) (rise : T (numbers_rise p)) where
                   same_sum next (sum + count (get_or ks c [])) rest rest
                   (ap capped t ∙ capped_twice (sum + share) ∙ same_sum sum sum share (count (get_or ks c [])) refl (ap capped s ∙ capped_twice _)) refl
                   ∙ ap capped assoc
-
-        -- A clause of one rule has one place.
-        pub single_end : has_several (get_or p.clauses (get_or (order p) k d).clause []) ≡ false → k + 1 ≡ k + same_clause (get_or (order p) k d).clause (cut k (run_end p x) (order p))
-        unfolding has_several rules_along naming
-        single_end h =
-            let c = (get_or (order p) k d).clause in
-            let j = k + same_clause c (cut k (run_end p x) (order p)) in
-            let o = along_group {j = j} refl in
-            let few : length (get_or ks c []) ≤ 1 = ltb-false 1 (length (get_or ks c [])) h in
-            let room : j ≤ length (order p) = omega (arith, o.last, long) in
-            omega (arith, few, keep_fewer (λ q. named_in x q.terms) (get_or ks c []), o.some, sym (cut_length k j (order p) (omega arith) room) ∙ sym (length-map (cut k j (order p)) (λ q. rule_at p q.rule)) ∙ ap length o.rules)

@@ -8,7 +8,7 @@ use mathlib.Core.Bool.{Bool, true, false, not, cond}
 use mathlib.Core.List.{List, [], ◌∷◌, map}
 use lib.Dec.{ltb, eqb}
 use borrow.Author.Tests.{ltb-true, ltb-false, eq-eqb, ne_eqb}
-use lib.ListN.{length, length-append, length-map, length-replicate, replicate}
+use lib.ListN.{length, length-append, length-replicate, replicate}
 use Rattle.plpb.specs.Lists.{◌and◌, count, all, sum_by}
 use Rattle.plpb.specs.Plan.{Bound, absent, present, Term, Assignment, value}
 use Rattle.plpb.specs.Normal.{Literal, opposite, literal, literal_true, size, K, P, N, copies}
@@ -36,12 +36,6 @@ module _ {A : Type 0} where
       ∙ ap₂ ◌+◌ (count_map (all p) (λ c. x ∷ c) (choose k xs)) (count_choose p (suc k) xs)
       ∙ with_first p (p x) (count p xs) k (choose k xs) (count_choose p k xs)
       ∙ ap (λ n. binom n (suc k)) (sym (count_cons p x xs))
-
-  pub length_choose : (k : ℕ) (xs : List A) → length (choose k xs) ≡ binom (length xs) k
-  unfolding choose binom
-  length_choose zero xs = refl
-  length_choose (suc k) [] = refl
-  length_choose (suc k) (x ∷ xs) = simp (length-append, length-map, length_choose k xs, length_choose (suc k) xs)
 
 pub count_choices : (p : Literal → Bool) (b : Bound ℕ) (ks : List Literal) → count (all p) (choices b ks) ≡ over (count p ks) b
 unfolding choices over

@@ -1,6 +1,6 @@
 -- Costs and bounds: a cost is the sum of the negative coefficients and a natural number, its gap; l(O) is a floor of what obeys the locks; each bound of the
 -- tightening is a smaller gap.
-use Prim.Native.Nat.{ℕ, zero, suc, ◌+◌, ◌*◌, ◌-◌, ◌/◌, ◌≤◌, ◌<◌, zero-le}
+use Prim.Native.Nat.{ℕ, zero, suc, ◌+◌, ◌*◌, ◌/◌, ◌≤◌, ◌<◌, zero-le}
 use mathlib.Core.Bool.{Bool, true, false, cond}
 use mathlib.Core.List.{List, [], ◌∷◌}
 use mathlib.Core.Logic.{◌≢◌}
@@ -174,11 +174,6 @@ third_below (negsuc n) =
     let e : 3 * suc (n / 3) ≡ suc (3 * (n / 3) + 2) = omega arith in
     rw e (le→leb n (3 * (n / 3) + 2) (omega arith))
 
-step_up : (n q : ℕ) → 3 * q ≤ n → T (lt_z (negsuc n) (negsuc (3 * q + 2) +ℤ pos 3))
-step_up n zero h = tt
-step_up n (suc q) h =
-    rw (lt-ltb 3 (suc (3 * suc q + 2)) (omega arith)) (lt→ltb (suc (3 * suc q + 2) - 4) n (omega arith))
-
 pub third_above : (z : ℤ) → T (lt_z z (pos 3 *ℤ third z +ℤ pos 3))
 unfolding third
 third_above (pos n) = lt→ltb n (3 * (n / 3) + 3) (omega arith)
@@ -192,11 +187,6 @@ unfolding tightened satisfies clause_holds rule_holds at_least at_most cost all 
 satisfies_tightened p m a =
     all_append (clause_holds a) p.clauses _
     ∙ ap (λ b. satisfies a p and b) (and_true (le_z (cost p a) m or false) ∙ or_false (le_z (cost p a) m))
-
--- It locks nothing.
-pub tightened_lock : (p : Plan) (m : ℤ) (x : ℕ) → lock_of (tightened p m) x ≡ lock_of p x
-unfolding tightened lock_of is_variable
-tightened_lock p m x = refl
 
 pub tightened_obeys : (p : Plan) (m : ℤ) (a : Assignment) → obeys a (tightened p m) ≡ obeys a p
 unfolding tightened obeys lock_of is_variable

@@ -73,11 +73,6 @@ unfolding ◌or◌
 or_false true = refl
 or_false false = refl
 
-pub and_self : (a : Bool) → a and a ≡ a
-unfolding ◌and◌
-and_self true = refl
-and_self false = refl
-
 pub and_not_self : (a : Bool) → a and not a ≡ false
 unfolding ◌and◌
 and_not_self true = refl
@@ -225,10 +220,6 @@ module _ {A : Type 0} where
   pub count_false : (xs : List A) → count (λ x. false) xs ≡ 0
   count_false [] = count_nil (λ x. false)
   count_false (x ∷ xs) = simp (count_cons, count_false xs)
-
-  pub count_true : (xs : List A) → count (λ x. true) xs ≡ length xs
-  count_true [] = count_nil (λ x. true)
-  count_true (x ∷ xs) = simp (count_cons, count_true xs, one-add)
 
   -- Those that pass q are those that pass p too and those that do not.
   pub count_split : (p q : A → Bool) (xs : List A) → count (λ x. not (p x) and q x) xs + count (λ x. p x and q x) xs ≡ count q xs

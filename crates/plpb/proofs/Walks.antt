@@ -196,15 +196,6 @@ Draws P (look b w) = ⊥
 Draws P (flipped w) = ⊥
 Draws P (found b w) = ⊥
 
-pub draws_bind : {A B : Type 0} (P : A → Type 0) (Q : B → Type 0) (k : A → Walk B) (w : Walk A) → Draws P w → ((a : A) → P a → Draws Q (k a)) → Draws Q (w >>= k)
-unfolding Draws ◌>>=◌
-draws_bind P Q k (done a) d h = h a d
-draws_bind P Q k (words n f) d h = λ ws. draws_bind P Q k (f ws) (d ws) h
-draws_bind P Q k (pick n f) d h = λ r. draws_bind P Q k (f r) (d r) h
-draws_bind P Q k (look b w) d h = d
-draws_bind P Q k (flipped w) d h = d
-draws_bind P Q k (found b w) d h = d
-
 -- It meets what holds however many numbers it draws.
 module _ {A : Type 0} (P : A → Type 0) (I : Claim) (Q : A → Claim) (f : ℕ) (fs ls : List Assignment) where
   pub draws_meets : (w : Walk A) (u : ℕ) → Draws P w → ((v : ℕ) → u ≤ v → I (at v f fs) ls) → ((a : A) (v : ℕ) → P a → u ≤ v → Q a (at v f fs) ls)

@@ -210,16 +210,6 @@ pub record Since (s : Settings) (mode : Mode) (p : Plan) (terms numbers tables�
       → Concludes (λ q. descending s q mode (o q)) p numbers t (bits_of p.variables assignment) r
       → Concludes (λ q. descending s q mode (o q)) p numbers from (bits_of p.variables assignment₀) r
 
-pub since_first : {s : Settings} {mode : Mode} {p : Plan} {terms numbers tables assignment : List ℕ} {w : Work} {t : Progress}
-    → Room p tables terms assignment w → Tracks p numbers assignment t → Since s mode p terms numbers tables assignment w t tables assignment w t
-since_first room tracks =
-    record {
-      room = room;
-      tracks = tracks;
-      leaves = record { bounded = room.bounded; table = refl; find = refl; beyond = record { assignment = refl; tallies = refl; marks = refl } };
-      comes = λ o r c. c;
-    }
-
 leaves_then : {p : Plan} {terms tables tables' tables'' assignment assignment' assignment'' : List ℕ} {w v u : Work}
     → Leaves p tables terms tables' assignment assignment' w v → Leaves p tables' terms tables'' assignment' assignment'' v u
     → Leaves p tables terms tables'' assignment assignment'' w u

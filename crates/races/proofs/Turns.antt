@@ -174,14 +174,6 @@ putting (p ∷ ps) (suc i) (a ∷ b ∷ c ∷ ns) h =
     let two : 3 * suc i + 2 ≡ suc (suc (suc (3 * i + 2))) = omega arith in
     rw (one, two) (ap (λ (xs : List ℕ). a ∷ p.first ∷ p.length ∷ xs) (putting ps i ns (omega (arith, h))))
 
-pub put_length : (ps : List Part) (ns : List ℕ) → length (parts_put ps ns) ≡ length ns
-unfolding parts_put
-put_length [] ns = refl
-put_length (p ∷ ps) [] = refl
-put_length (p ∷ ps) (a ∷ []) = refl
-put_length (p ∷ ps) (a ∷ b ∷ []) = refl
-put_length (p ∷ ps) (a ∷ b ∷ c ∷ ns) = ap (λ (k : ℕ). suc (suc (suc k))) (put_length ps ns)
-
 pub putting_first : (ps : List Part) (ns : List ℕ) → ns ≡ parts_put (take 0 ps) ns
 unfolding parts_put
 putting_first ps ns = refl

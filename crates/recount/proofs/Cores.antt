@@ -6,7 +6,7 @@ use mathlib.Core.Path.{◌≡◌, refl, sym, ap, ap₂, ◌∙◌}
 use mathlib.Core.List.{List, ◌++◌}
 use lib.ListN.{length, take, drop, replicate, length-append, length-replicate}
 use lib.Seq.{length-take-le, drop_at}
-use Rattle.plpb.specs.Plan.{Plan, flip}
+use Rattle.plpb.specs.Plan.{Plan}
 use Rattle.plpb.specs.Tallies.{fresh_count}
 use Rattle.words.specs.Words.{word_at}
 use Rattle.words.proofs.Writes.{zero_word}
@@ -35,9 +35,6 @@ module _ (tables terms assignment : List ℕ) (y : Ready tables terms assignment
 
   pub first_counted : (t r u : List ℕ) → r ≡ drop tally_size t → u ≡ tally_bytes (fresh_count (plan_of_tables tables terms) (bits_in (take n assignment))) ++ r → u ≡ recounted tables terms assignment t
   first_counted t r u h k = k ∙ ap₂ (λ a l. tally_bytes (fresh_count (plan_of_tables tables terms) a) ++ l) first_bits_of h
-
-  pub first_fresh : (x : ℕ) (s : List ℕ) → s ≡ tally_bytes (fresh_count (plan_of_tables tables terms) (flip (bits_of (plan_of_tables tables terms).variables assignment) x)) → s ≡ tally_bytes (fresh_count (plan_of_tables tables terms) (flip (bits_in (take n assignment)) x))
-  first_fresh x s h = h ∙ ap (λ b. tally_bytes (fresh_count (plan_of_tables tables terms) (flip b x))) (sym first_bits_of)
 
 -- ---- cleared tallies
 

@@ -283,15 +283,6 @@ module _ (x : Option Record) (r : RowT) (h : Holds x r) where
   pub column_0 : {k : ℕ} → k ≡ 0 → r.first ≡ gather (column_of k x)
   column_0 e = rw e h.first_is
 
-  pub column_1 : {k : ℕ} → k ≡ 1 → r.second ≡ gather (column_of k x)
-  column_1 e = rw e h.second_is
-
-  pub column_2 : {k : ℕ} → k ≡ 2 → r.third ≡ gather (column_of k x)
-  column_2 e = rw e h.third_is
-
-  pub column_3 : {k : ℕ} → k ≡ 3 → r.fourth ≡ gather (column_of k x)
-  column_3 e = rw e h.fourth_is
-
 -- ---- a value among the first rows
 
 or_else : (b : Bool) → false or (b or false) ≡ b

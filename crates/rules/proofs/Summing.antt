@@ -12,7 +12,7 @@ use lib.ListN.{length}
 use Rattle.plpb.specs.Lists.{all, sum_by}
 use Rattle.plpb.specs.Plan.{Term, Assignment, value}
 use Rattle.plpb.specs.Normal.{literal, literal_true, is_negative, size, rise, K, P}
-use Rattle.plpb.proofs.Lists.{and_left, and_right, sum_by_each}
+use Rattle.plpb.proofs.Lists.{and_left, and_right}
 use Rattle.plpb.proofs.Normal.{P_at_most_K}
 use Rattle.words.specs.Words.{word_at, signed}
 use Rattle.format.specs.Tables.{term_of}
@@ -146,8 +146,3 @@ module _ (n : ℕ) (a b : Assignment) (same : (v : ℕ) → v ≤ n → value a 
   pub literal_same : (t : Term) → T (term_legal n t) → literal_true a (literal t) ≡ literal_true b (literal t)
   unfolding literal_true literal
   literal_same t l = ap (λ v. cond (is_negative t.weight) (not v) v) (same t.variable (legal_high n t l))
-
-  pub P_same : (ts : List Term) → T (all (term_legal n) ts) → P a ts ≡ P b ts
-  unfolding P
-  P_same ts l =
-      sum_by_each (term_legal n) (λ t. cond (literal_true a (literal t)) (size t) 0) (λ t. cond (literal_true b (literal t)) (size t) 0) ts (λ t h. ap (λ c. cond c (size t) 0) (literal_same t h)) l

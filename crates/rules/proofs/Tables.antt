@@ -1,25 +1,20 @@
 -- For callers: the rules of tables that hold a plan of n variables can be read, and their states are those under the first n bytes of the assignment.
 -- Assumes nothing.
-use Prim.Native.Nat.{ℕ, ◌+◌, ◌*◌, ◌-◌, ◌≤◌, ◌<◌}
+use Prim.Native.Nat.{ℕ, ◌+◌, ◌*◌, ◌≤◌, ◌<◌}
 use native.Mathlib.Omega.{arith}
-use mathlib.Core.Path.{◌≡◌, refl, ap, ◌∙◌}
+use mathlib.Core.Path.{◌≡◌, refl, ◌∙◌}
 use mathlib.Core.List.{List}
 use lib.Dec.{T}
-use lib.ListN.{length, take}
-use Rattle.plpb.specs.Plan.{Rule, Assignment, value, rising}
-use Rattle.plpb.specs.Normal.{K, P, N}
+use lib.ListN.{length}
+use Rattle.plpb.specs.Plan.{Rule, rising}
 use Rattle.words.specs.Words.{word_at}
 use Rattle.format.specs.Limits.{max_variables, terms_lawful, rule_lawful}
 use Rattle.format.specs.Tables.{rule_of}
 use Rattle.format.proofs.Bools.{T_true, true_T}
 use Rattle.format.proofs.Lawful.{rule_parts, terms_whole}
-use Rattle.rules.specs.declared.state.State.{State}
-use Rattle.rules.specs.Terms.{bits_in, terms_at}
+use Rattle.rules.specs.Terms.{terms_at}
 use Rattle.rules.specs.Rules.{rule_at, RuleReadable}
-use Rattle.rules.specs.State.{StateOf}
-use Rattle.rules.proofs.Terms.{first_bits, lawful_legal, readable}
-use Rattle.rules.proofs.Summing.{P_same}
-use Rattle.rules.proofs.Finding.{standing_same}
+use Rattle.rules.proofs.Terms.{readable}
 use Rattle.format.specs.Layout.{rule_count_at, rule_first_at, rule_lower_at, rule_mode_at, rule_room, rule_upper_at, table_size}
 
 -- A rule with lawful terms can be read ..
@@ -28,24 +23,6 @@ module _ (tables terms assignment : List ℕ) (at n : ℕ) where
   unfolding rule_at
   rule_readable entry inside small bytes t =
       record { entry = entry; body = readable terms assignment (word_at tables at) (word_at tables (at + 1)) n inside small bytes t }
-
--- .. and its state is that under any assignment that says the same of the plan's variables, so that under the first n bytes.
-pub state_same : (n : ℕ) {a b : Assignment} {x : ℕ} {q : Rule} {s : State} → ((v : ℕ) → v ≤ n → value a v ≡ value b v) → T (terms_lawful n q.terms) → StateOf a x q s → StateOf b x q s
-unfolding N
-state_same n {a} {b} {x} {q} {s} same t h =
-    let l = lawful_legal n q.terms t in
-    let trues : P a q.terms ≡ P b q.terms = P_same n a b same q.terms l in
-    record {
-      falses = h.falses ∙ ap (λ p. K q.terms - p) trues;
-      trues = h.trues ∙ trues;
-      stands = h.stands ∙ standing_same n a b same x q.terms l;
-      lower = h.lower;
-      upper = h.upper;
-      balanced = h.balanced;
-    }
-
-pub state_first : (n : ℕ) (bytes : List ℕ) {x : ℕ} {q : Rule} {s : State} → T (terms_lawful n q.terms) → StateOf (bits_in bytes) x q s → StateOf (bits_in (take n bytes)) x q s
-state_first n bytes t h = state_same n (first_bits n bytes) t h
 
 -- A lawful rule has lawful terms, whose numbers rise.
 module _ (n : ℕ) (q : Rule) (t : T (rule_lawful n q)) where
@@ -74,7 +51,3 @@ module _ (tables terms assignment : List ℕ) (n r : ℕ) (t : T (rule_lawful n 
   table_rule_readable whole few inside small bytes =
       let one : rule_first_at r + 1 ≡ rule_count_at r = omega arith in
       rule_readable tables terms assignment (rule_first_at r) n (omega arith) (rw one inside) small bytes terms_at_lem
-
-  pub table_rule_state : {x : ℕ} {s : State} → StateOf (bits_in assignment) x (rule_at (word_at tables) (word_at terms) (rule_first_at r)) s → StateOf (bits_in (take n assignment)) x (rule_of (word_at tables) (word_at terms) r) s
-  table_rule_state {x} {s} h =
-      rw (rule_at_lem (word_at tables) (word_at terms) r) at (state_first n assignment terms_at_lem h)

@@ -4,13 +4,12 @@ use Prim.Native.Nat.{ℕ, zero, suc, ◌+◌, ◌*◌, ◌-◌, ◌≤◌, ◌<�
 use native.Mathlib.Nat.{zero-add, add-zero, suc-add, add-suc}
 use native.Mathlib.Numerals.{add-one}
 use native.Mathlib.Omega.{arith}
-use mathlib.Core.Path.{◌≡◌, refl, sym, ap, ◌∙◌, subst}
+use mathlib.Core.Path.{◌≡◌, refl, sym, ◌∙◌, subst}
 use mathlib.Core.Bool.{Bool}
 use mathlib.Core.List.{List, [], ◌∷◌}
 use lib.Dec.{T, leb, ltb, eqb, leb→le, le→leb, ltb→lt, lt→ltb}
 use lib.IntN.{ℤ, nat_abs}
-use lib.ListN.{length, get_or, take, length-map, get_or-map}
-use lib.Seq.{get_or-take}
+use lib.ListN.{length, get_or, length-map, get_or-map}
 use Rattle.plpb.specs.Lists.{◌and◌, all, row}
 use Rattle.plpb.specs.Plan.{Term, value, rising_above, rising}
 use Rattle.plpb.proofs.Lists.{and_left, and_right, and_both, length_row}
@@ -26,15 +25,6 @@ use Rattle.rules.specs.Terms.{bits_in, terms_at, TermReadable, Readable}
 pub value_read : (bytes : List ℕ) (i v : ℕ) → i + 1 ≡ v → eqb (get_or bytes i 0) 1 ≡ value (bits_in bytes) v
 unfolding bits_in value
 value_read bytes i v h = rw (← h, add-one) (sym (get_or-map (λ b. eqb b 1) bytes i 0))
-
--- The first n bytes say the same of the variables up to n as all of them.
-pub first_bits : (n : ℕ) (bytes : List ℕ) (v : ℕ) → v ≤ n → value (bits_in bytes) v ≡ value (bits_in (take n bytes)) v
-unfolding bits_in value
-first_bits n bytes zero h = refl
-first_bits n bytes (suc i) h =
-    get_or-map (λ b. eqb b 1) bytes i 0
-    ∙ ap (λ b. eqb b 1) (sym (get_or-take n bytes i 0 h))
-    ∙ sym (get_or-map (λ b. eqb b 1) (take n bytes) i 0)
 
 -- ---- terms in a row
 

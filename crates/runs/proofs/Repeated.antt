@@ -20,7 +20,7 @@ use Rattle.figures.specs.Figures.{AtMost, plus_run}
 use Rattle.figures.specs.Runs.{answers}
 use Rattle.figures.proofs.Adding.{plus_most, most_more, total}
 use Rattle.runs.specs.declared.Ran.{Ran}
-use Rattle.runs.specs.Repeating.{Ready, AsBefore, WithinLimits}
+use Rattle.runs.specs.Repeating.{AsBefore, WithinLimits}
 use Rattle.runs.proofs.Once.{cost_bounded}
 
 -- ---- the buffers
@@ -50,28 +50,6 @@ then a b =
       work_assignment = both a.work_assignment b.work_assignment;
       work_tallies = both a.work_tallies b.work_tallies;
       work_marks = both a.work_marks b.work_marks;
-    }
-
--- With the same tables, what was ready still is.
-pub still_ready : (l m : Lent) → l.tables ≡ m.tables → l.terms ≡ m.terms → WithinLimits l m → Ready l → Ready m
-still_ready l m e f w r =
-    record {
-      searchable =
-          record {
-            loaded = rw (sym e, sym f) r.searchable.loaded;
-            long = rw (sym e) r.searchable.long;
-            long_terms = rw (sym f) r.searchable.long_terms;
-            room = omega (arith, w.assignment.size, r.searchable.room);
-            work_long = omega (arith, w.work_tables.size, r.searchable.work_long);
-            work_long_terms = omega (arith, w.work_terms.size, r.searchable.work_long_terms);
-            work =
-                record {
-                  assignment = omega (arith, w.work_assignment.size, r.searchable.work.assignment);
-                  tallies = omega (arith, w.work_tallies.size, r.searchable.work.tallies);
-                  marks = omega (arith, w.work_marks.size, r.searchable.work.marks);
-                };
-          };
-      numbers = omega (arith, w.numbers.size, r.numbers);
     }
 
 -- ---- the sums

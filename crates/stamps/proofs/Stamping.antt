@@ -13,7 +13,7 @@ use borrow.Rule.Slice.PartMut.{mid_of, put_mid, mid_len}
 use Rattle.plpb.specs.Novelty.{last_flip}
 use Rattle.words.specs.Words.{num_at, word_at}
 use Rattle.words.specs.Writes.{front, put, Wrote}
-use Rattle.words.proofs.Words.{num_at_append, num_at_drop}
+use Rattle.words.proofs.Words.{num_at_append}
 use Rattle.words.proofs.Writes.{zero_word, drop_put, length_put, lent_part}
 use Rattle.format.specs.Layout.{mark_size, stamp_at, stamp_byte, stamp_size}
 use Rattle.stamps.specs.Stamps.{stamp_in, Stamped, unstamped}
@@ -76,13 +76,3 @@ module _ {n : ℕ} {flips s t : List ℕ} (k : Stamped n flips s) (x : ℕ) {num
   stamped_more = record { last = λ y l u. stamp_more y l u (eqb x y) refl }
 
 -- ---- marks before the stamps
-
-pub stamp_kept : (n : ℕ) (s t : List ℕ) (x : ℕ) → 1 ≤ x → n ≤ 512 → drop n t ≡ drop n s → stamp_in t x ≡ stamp_in s x
-unfolding word_at
-stamp_kept n s t x l h e =
-    let at : 4 * stamp_at x ≡ n + (4 * stamp_at x - n) = omega arith in
-    let i = 4 * stamp_at x - n in
-    ap (num_at 4 t) at ∙ sym (num_at_drop 4 n t i) ∙ ap (λ w. num_at 4 w i) e ∙ num_at_drop 4 n s i ∙ ap (num_at 4 s) (sym at)
-
-pub stamped_kept : {n : ℕ} {flips s t : List ℕ} → n ≤ 512 → drop n t ≡ drop n s → Stamped n flips s → Stamped n flips t
-stamped_kept {n} {s = s} {t = t} h e k = record { last = λ x l u. stamp_kept n s t x l h e ∙ k.last x l u }

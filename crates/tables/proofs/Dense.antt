@@ -153,9 +153,6 @@ pub record Placing (ts : List Term) (o : List ℕ) (left : List Term) (t : List 
   pub long : length t ≡ objective_size
   pub same : length t ≡ length o
 
-pub placing_start : (ts : List Term) (o : List ℕ) → in_range ts ≡ true → length o ≡ objective_size → Placing ts o ts o
-placing_start ts o r n = record { whole = refl; range = r; long = n; same = refl }
-
 module _ {ts : List Term} {o : List ℕ} {left : List Term} {t : List ℕ} (h : Placing ts o left t) where
   module _ (x : Term) (rest : List Term) (e : left ≡ x ∷ rest) where
     range_here : in_range (x ∷ rest) ≡ true

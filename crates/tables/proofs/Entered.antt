@@ -12,7 +12,6 @@ use Rattle.words.specs.Writes.{front, put, put_words}
 use Rattle.words.proofs.Words.{Below, num_at_lt, unsigned_signed, length_word_bytes}
 use Rattle.words.proofs.Writes.{front_none, front_put, length_front, lent_tail, word_bytes_append, words_behind}
 use Rattle.std.proofs.lemmas.List.{take_more, length-take-le}
-use Rattle.std.proofs.Math.Seq.{take-length}
 use Rattle.format.specs.File.{tag_at, length_at, terms_in, term_at, terms_at, field_terms, rule_at, mode_at, lower_at, upper_at}
 use Rattle.format.specs.Tables.{rule_entries, term_entries}
 use Rattle.format.proofs.Bounds.{Meant, bounds_tested, bounds_meant}
@@ -92,11 +91,6 @@ module _ (ws o : List ℕ) (i : ℕ) where
   entry_more h p q =
       words_behind o (take i ws) (get_or ws i 0 ∷ []) i p (sym (length-take-le i ws (omega (arith, h)))) q
       ∙ ap (λ (us : List ℕ). front (word_bytes us) o) (sym (take_more ws i 0 h))
-
-  pub entry_end : {s : List ℕ} → length ws ≤ i → i ≤ length ws → s ≡ front (word_bytes (take i ws)) o → s ≡ front (word_bytes ws) o
-  entry_end h l p =
-      let all : i ≡ length ws = omega (arith, h, l) in
-      p ∙ ap (λ (n : ℕ). front (word_bytes (take n ws)) o) all ∙ ap (λ (us : List ℕ). front (word_bytes us) o) (take-length ws)
 
 -- How many entries are left behind i of them.
 pub one_less : {i n : ℕ} → i < n → n - i ≡ suc (n - (i + 1))

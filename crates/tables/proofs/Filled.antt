@@ -214,9 +214,6 @@ module _ {s : List ℕ} {p : Plan} {o : List ℕ} {at end : ℕ} {t : List ℕ} 
   pub term_space : end ≤ length t
   term_space = omega (arith, term_total, h.place, h.size, h.same)
 
-  pub term_same : (ys : List ℕ) → ys ≡ replicate (length (mid_of (end) (length t - end) t)) 0 → length (put_mid (end) (length t - end) t ys) ≡ length o
-  term_same ys k = clear_same (end) t ys k ∙ h.same
-
   module _ (e : get_or s at 0 ≡ 4) where
     term_tag : tag_at s at ≡ 4
     term_tag = sym (tag_byte s at) ∙ e
@@ -351,9 +348,6 @@ module _ {s : List ℕ} {p : Plan} {o : List ℕ} {at clauses first : ℕ} {t : 
   pub clause_on : (count on : ℕ) → Ran s (at + 3) count on → at < on
   unfolding Ran
   clause_on count on r = omega (arith, r.0)
-
-  pub clause_same : (ys : List ℕ) → ys ≡ replicate (length (mid_of (8 * clauses) (length t - 8 * clauses) t)) 0 → length (put_mid (8 * clauses) (length t - 8 * clauses) t ys) ≡ length o
-  clause_same ys k = clear_same (8 * clauses) t ys k ∙ h.same
 
   module _ (e : get_or s at 0 ≡ 3) where
     clause_tag : tag_at s at ≡ 3

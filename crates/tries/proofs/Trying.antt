@@ -93,12 +93,6 @@ pub record Flipping (s : Settings) (tables terms numbers : List ℕ) (begun : Sp
   pub within : spent.used ≤ length numbers / 4
   pub beyond : Beyond (plan_of_tables tables terms).variables w v
 
-pub flips_begin : (s : Settings) {tables terms numbers : List ℕ} {begun : Spent} {w : Work} → Walking tables terms w → begun.used ≤ length numbers / 4 → begun.flips ≤ begun.used
-    → Stamped (plan_of_tables tables terms).variables [] w.marks
-    → Flipping s tables terms numbers begun w begun 0 w
-flips_begin s k l h t =
-    record { flips = []; stamped = t; counted = refl; walking = k; outcome = λ fs. rw (sub-zero s.flips) refl; uses = omega arith; flipped = h; within = l; beyond = beyond_same _ _ }
-
 module _ {s : Settings} {tables terms numbers : List ℕ} {begun : Spent} {w : Work} {spent : Spent} {turn : ℕ} {v : Work} (i : Flipping s tables terms numbers begun w spent turn v) where
   abbrev p : Plan
   p = plan_of_tables tables terms
@@ -420,9 +414,6 @@ module _ {tables terms : List ℕ} {w : Work} (k : Startable tables terms w) {ta
     × Only (total_at 0) (need_at 0) w.tallies tallies × Only (hint_at 1) column_word_count w.marks marks) where
   pub prepared_start : Startable tables terms (record { assignment = w.assignment; tallies = tallies; marks = marks })
   prepared_start = record { ready = k.ready; room = omega (arith, k.room, g.3.size); columns = omega (arith, k.columns, g.4.size) }
-
-  pub prepared_now : Prepared tables terms (record { assignment = w.assignment; tallies = tallies; marks = marks })
-  prepared_now = record { sized = g.0; weighed = g.1; listed = g.2 }
 
   pub tried_prepared : {walk : Walk Reached} {numbers : List ℕ} {used flips least : ℕ} {r : Result Spent Unreached} {v : Work}
       → Tries walk tables terms numbers used flips least r (record { assignment = w.assignment; tallies = tallies; marks = marks }) v

@@ -26,7 +26,7 @@ use Rattle.columns.specs.Layout.{column_size, weight_at, list_count_at}
 use Rattle.columns.specs.Columns.{no_place, Weighed}
 use Rattle.columns.specs.Frames.{Only}
 use Rattle.columns.proofs.Entries.{entry_place, entry_rule, entry_term, entry_weight}
-use Rattle.columns.proofs.Frames.{only_none, only_next, wrote_only}
+use Rattle.columns.proofs.Frames.{only_next, wrote_only}
 
 pub arranged : (tables terms : List ℕ) → Laid tables terms → Arranged (plan_of_tables tables terms) (word_at tables)
 arranged tables terms l = holds_arranged (plan_of_tables tables terms) (parts tables terms l) tables terms l.holds
@@ -34,9 +34,6 @@ arranged tables terms l = holds_arranged (plan_of_tables tables terms) (parts ta
 pub record WeighedTo (p : Plan) (k : ℕ) (s t : List ℕ) : Type 0 where
   pub each : (j : ℕ) → j < k → word_at t (weight_at j) ≡ size (term_at p (get_or (order p) j no_place))
   pub only : Only (weight_at 0) (list_count_at 0) s t
-
-pub weighed_none : (p : Plan) (s : List ℕ) → WeighedTo p 0 s s
-weighed_none p s = record { each = λ j h. absurd (omega arith); only = only_none (weight_at 0) (list_count_at 0) s }
 
 pub weighed_next : {p : Plan} {k v : ℕ} {s t u : List ℕ} → column_size ≤ length s → k < term_room → v < 4_294_967_296 → v ≡ size (term_at p (get_or (order p) k no_place)) → WeighedTo p k s t → u ≡ put_words (weight_at k) (v ∷ []) t → WeighedTo p (k + 1) s u
 weighed_next {p} {k} {v} {s} {t} {u} room few small e w f =

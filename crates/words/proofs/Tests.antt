@@ -1,6 +1,6 @@
 -- A test that goes on past what it finds: with each word more it decides of one word more.
 -- Assumes nothing.
-use Prim.Native.Nat.{ℕ, ◌+◌, ◌-◌, ◌≤◌}
+use Prim.Native.Nat.{ℕ, ◌+◌, ◌≤◌}
 use native.Mathlib.Nat.{eq-or-lt_of_le}
 use native.Mathlib.Omega.{arith}
 use mathlib.Core.Path.{◌≡◌, refl, sym, ◌∙◌}
@@ -23,9 +23,6 @@ module _ (s : List ℕ) (from : ℕ) where
   zeros_more : (i : ℕ) → ZeroWords s from i → word_at s i ≡ 0 → ZeroWords s from (i + 1)
   zeros_more i h e j l u = ⊎_elim (λ z. rw z e) (λ m. h j l m) (eq-or-lt_of_le {n = j} {m = i} (omega arith))
 
-  pub zeros_none : Decides true (ZeroWords s from from)
-  zeros_none = so_decides refl (λ j l u. absurd (omega arith))
-
   pub zeros_turn : (i w : ℕ) (b : Bool) → from ≤ i → w ≡ word_at s i → Decides b (ZeroWords s from i) → Decides (b && eqb w 0) (ZeroWords s from (i + 1))
   zeros_turn i w false l e d = not_decides refl (λ z. d.not_so refl (λ j m u. z j m (omega arith)))
   zeros_turn i w true l e d = go (eqb w 0) refl
@@ -33,10 +30,3 @@ module _ (s : List ℕ) (from : ℕ) where
       go : (t : Bool) → eqb w 0 ≡ t → Decides t (ZeroWords s from (i + 1))
       go true z = so_decides refl (zeros_more i (d.so refl) (sym e ∙ eqb-true w 0 z))
       go false z = not_decides refl (λ h. eqb-false w 0 z (e ∙ h i l (omega arith)))
-
-  pub zeros_done : (i end : ℕ) {b : Bool} → end ≤ i → i ≤ from + (end - from) → Decides b (ZeroWords s from i) → Decides b (ZeroWords s from end)
-  zeros_done i end l h d =
-      record {
-        so = λ t j m u. d.so t j m (omega arith);
-        not_so = λ f z. d.not_so f (λ j m u. z j m (omega arith));
-      }

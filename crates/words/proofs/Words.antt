@@ -126,11 +126,6 @@ unfolding word_bytes
 length_word_bytes [] = refl
 length_word_bytes (w ∷ ws) = rw (length-append (bytes_of 4 w) (word_bytes ws), length_bytes_of 4 w, length_word_bytes ws) (omega arith)
 
-pub word_bytes_below : (ws : List ℕ) → Below 256 (word_bytes ws)
-unfolding word_bytes
-word_bytes_below [] = below_nil 256 (omega arith)
-word_bytes_below (w ∷ ws) = below_append 256 (bytes_of 4 w) (word_bytes ws) (bytes_of_below 4 w) (word_bytes_below ws)
-
 -- Bytes are told by their words.
 pub words_determine :
     (ws s : List ℕ) → Below 256 s → 4 * length ws ≤ length s → ((i : ℕ) → i < length ws → word_at s i ≡ get_or ws i 0)
