@@ -15,7 +15,6 @@ use Rattle.format.specs.Limits.{max_variables, weight_lawful, terms_lawful, lock
 use Rattle.format.proofs.Bools.{and_left, and_right, and_join, T_true, true_T}
 use Rattle.format.proofs.Bounds.{both_lawful}
 use Rattle.format.specs.Layout.{clause_room, rule_room, term_room}
-
 unfoldable pub use Rattle.format.specs.Limits.{term_within}
 
 pub weight_small : (w : ℤ) → weight_lawful w ≡ true → nat_abs w ≤ 1_000_000

@@ -54,7 +54,9 @@ impl Group<'_> {
     }
 
     // Whether the flip breaks the clause. How many of its rules hold is known, so it is asked first whether the group has room for them; where none holds,
-    // none of the group does, and none is counted.
+    // none of the group does, and none is counted. It is put into its callers: as a call it is handed the group and the run by their places in memory, and
+    // each variable's run is then written there first.
+    #[inline(always)]
     pub fn breaks(&self) -> bool
         ensures { result ≡ ltb 0 (clause_break (bits self.now) self.now.run.now.x (clause self.now)) }
     {

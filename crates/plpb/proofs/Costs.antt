@@ -1,6 +1,6 @@
 -- Costs and bounds: a cost is the sum of the negative coefficients and a natural number, its gap; l(O) is a floor of what obeys the locks; each bound of the
 -- tightening is a smaller gap.
-use Prim.Native.Nat.{ℕ, zero, suc, ◌+◌, ◌*◌, ◌/◌, ◌≤◌, ◌<◌, zero-le}
+use Prim.Native.Nat.{ℕ, zero, suc, ◌+◌, ◌*◌, ◌-◌, ◌/◌, ◌≤◌, ◌<◌, zero-le}
 use mathlib.Core.Bool.{Bool, true, false, cond}
 use mathlib.Core.List.{List, [], ◌∷◌}
 use mathlib.Core.Logic.{◌≢◌}
@@ -173,6 +173,11 @@ third_below (pos n) = le→leb (3 * (n / 3)) n (omega arith)
 third_below (negsuc n) =
     let e : 3 * suc (n / 3) ≡ suc (3 * (n / 3) + 2) = omega arith in
     rw e (le→leb n (3 * (n / 3) + 2) (omega arith))
+
+step_up : (n q : ℕ) → 3 * q ≤ n → T (lt_z (negsuc n) (negsuc (3 * q + 2) +ℤ pos 3))
+step_up n zero h = tt
+step_up n (suc q) h =
+    rw (lt-ltb 3 (suc (3 * suc q + 2)) (omega arith)) (lt→ltb (suc (3 * suc q + 2) - 4) n (omega arith))
 
 pub third_above : (z : ℤ) → T (lt_z z (pos 3 *ℤ third z +ℤ pos 3))
 unfolding third

@@ -33,10 +33,10 @@ returns c =
     let word = holding_word s g.whole c.index-holding.ensures in
     -- All that hold are in the group: they were counted, or there are none.
     let inside : count (rule_holds (bits g)) (clause g) ≡ count (rule_holds (bits g)) (rules g) =
-        elim c.else-holding-gt0.branch [
-          | else-holding-gt0-via-then-holding-gt0+else-holding-held w ↦ sym word ∙ w.if-holding-held.false ∙ w.held.ensures
-          | else-holding-gt0-via-else-holding-gt0 w ↦ none_held s g.whole (omega (arith, word, w.if-holding-gt0.false))
-        ] in
+    elim c.else-holding-gt0.branch [
+      | else-holding-gt0-via-then-holding-gt0+else-holding-held w ↦ sym word ∙ w.if-holding-held.false ∙ w.held.ensures
+      | else-holding-gt0-via-else-holding-gt0 w ↦ none_held s g.whole (omega (arith, word, w.if-holding-gt0.false))
+    ] in
     group_decides s g.whole (sym c.any_spoils.ensures ∙ c.if-not-any_spoils.false) inside c.all_fail.ensures
 
 pub overflow_add-self : goal.overflow_add-self
