@@ -49,7 +49,8 @@ impl Add for Counts {
     }
 }
 
-// Whether no part is spoiled, mended or left unsatisfied: then some rule so far holds before the flip and after it, and no rule behind it changes that.
+// Whether no part is spoiled, mended or left unsatisfied: then one of the rules so far holds before the flip and one after it, and no rule behind them changes
+// that.
 fn settled(shares: Shares) -> bool
     ensures { result ≡ (eqb (number shares.e) 0 and eqb (number shares.f) 0 and eqb (number shares.g) 0) }
 {

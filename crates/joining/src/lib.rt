@@ -1,6 +1,6 @@
 // What a flip spoils, or mends, of a clause of several rules: the shares of its rules joined, each from what is kept of the rule. The places of the group tell
 // which rules name the variable. The rule and the next place stay two numbers beside the group: the loop steps each by itself, and a struct of the three would
-// be made anew for each rule, to be asked for one state and one place.
+// be made anew for each rule, to be asked only whether the place is the rule's.
 #![tactic(auto)]
 
 ghost use Rattle.std.specs.Prelude.{◌≡◌};

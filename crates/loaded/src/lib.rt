@@ -1,7 +1,7 @@
-// The test of tables: refusal 22 is for "tables that no accepted loading leaves". One pass over both tables, each loop one piece of the
-// definition `good_by`; the order has its own (crate ordered). Good tables are the rule and are read whole in any case, so a loop that only
-// compares words does not stop at the first fault: without a way out it takes 16 bytes at a time. For that the tests of a word are joined by `&`, where those
-// of crate bodies, which look alike, have a way out at the first fault of a file; and a mode is any word here, not a byte.
+// The test of tables: refusal 22 is for "tables that no accepted loading leaves". Each loop is one piece of the definition `good_by`, but for two that
+// together tell whether the variables of each rule rise; the order has its own test (crate ordered). Good tables are the rule and are read whole in any case,
+// so a loop that only compares words does not stop at the first fault: without a way out it takes 16 bytes at a time. For that the tests of a word are joined
+// by `&`, where those of crate bodies, which look alike, have a way out at the first fault of a file; and a mode is any word here, not a byte.
 #![tactic(auto)]
 
 ghost use Rattle.std.specs.Prelude.{◌≡◌, ℕ, Bool, true, cond, ◌+◌, ◌*◌, ◌-◌, ◌≤◌, ◌<◌, leb, ltb, eqb, nat_abs, length};
@@ -45,7 +45,7 @@ fn link_good(first: usize, count: usize, at: usize, end: usize) -> bool
     (first == at) & (1 <= count) & (count <= end - at)
 }
 
-// A term by itself: "a term's variable outside 1 to n" is refused, and a weight.
+// A term by itself: "a term's variable outside 1 to n" is refused, and so is a weight that is not lawful.
 fn term_good(variable: u32, weight: u32, variables: u32) -> bool
     ensures { result ≡ (ltb 0 variable and leb variable variables and weight_lawful (signed weight)) }
 {

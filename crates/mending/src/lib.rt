@@ -69,7 +69,8 @@ fn any_mends(group: &Group<'_>) -> bool
     (group.first..group.end).any(|i| mends_at(group.run, i))
 }
 
-// Whether the flip may mend something of the group's clause: where it says no, it mends nothing.
+// Whether the flip may mend something of the group's clause: where it says no, it mends nothing. It asks again whether a rule holds, so that it says so of any
+// group.
 pub fn group_mends(group: &Group<'_>) -> bool
     ensures { result ≡ false → clause_make (bits group.now) group.now.run.now.x (clause group.now) ≡ 0 }
 {

@@ -89,10 +89,10 @@ pub fn start(numbers: &[u8], used: usize, n: usize, assignment: &mut [u8]) -> Re
     Ok(after)
 }
 
-// How many words are counted at once on the way to the word that is sought,
+// So many words are counted at once on the way to the block that has the word sought.
 const FAR: usize = 64;
 
-// and how many in the block of those that has it.
+// So many are counted at once in the block that has it.
 const NEAR: usize = 8;
 
 // A place among words, and how many words that are 0 stand from it on before the one that is sought.

@@ -6,7 +6,6 @@ ghost use Rattle.std.specs.Prelude.{◌≡◌, true, ◌-◌, ◌≤◌, ◌<◌
 ghost use Rattle.words.specs.Words.{word_at};
 ghost use Rattle.order.specs.Order.{word_place};
 ghost use Rattle.format.specs.Good.{every_from, entry_good, entries_from, run_good, order_good};
-ghost use Rattle.format.specs.Layout.{end_at};
 ghost use Rattle.ordered.specs.Ready.{Ready};
 ghost use Rattle.ordered.specs.Stands.{rule_stands, term_stands};
 
@@ -63,7 +62,7 @@ impl<'a> Base<'a> {
         sign.wrapping_add(word(self.terms, 2 * k + 1)) < NEGATIVE
     }
 
-    // The word of an entry of x and its rule, whatever the rules before it are.
+    // Whether a word is an entry of x, whatever rules stand before it; r is its rule.
     fn entry_good(self, x: u32, w: u32, r: usize) -> bool
         requires { r ≡ (word_place w).rule }
         ensures { result ≡ entry_good (word_at self.entry.tables.now) (word_at self.entry.terms.now) x 0 w }

@@ -42,7 +42,7 @@ impl Top {
     };
 }
 
-// "make minus break, where a cut count stands as 4,294,967,295", raised by 4,294,967,295: None where it is below the least. The break count is made behind the
+// "make minus break, where a cut count stands as 4,294,967,295", raised by 4,294,967,295; None says that it is below the least. The break count is made behind the
 // make count, and given up once it takes the score there; where even a cut one leaves the score at the least, none is too great. Among counts a cut one stands
 // above 4,294,967,295, which is all that it takes off a score.
 fn score_of(run: &Run<'_, '_>, least: u64) -> Option<u64>

@@ -20,7 +20,7 @@ use rules::state::State;
 use words::index;
 
 // e of a rule in this state: equation (10). It is put into its callers: as a call it makes a search of short clauses
-// take a tenth more instructions. Why 32 bits are widened by `as` here, in `mending`, `joining`, `least` and `ranking` stands at `rules::State::shares`.
+// take a tenth more instructions. Why 32 bits are widened by `as` here, in `mending` and in `joining` stands at `rules::State::shares`.
 #[inline(always)]
 pub fn spoiled(s: State) -> Count
     requires { Balanced s }
@@ -67,7 +67,7 @@ fn cut_at_last(run: &Run<'_, '_>) -> bool
     shows_cut(run, run.end - 1)
 }
 
-// Whether the place where the flip broke something the last time shows it, if the hint names one of the run: so it is in a plan of long rules.
+// Whether the place where the flip broke something the last time shows it, if the hint names one of the run. In a plan of long rules it often does.
 fn cut_at_hint(run: &Run<'_, '_>) -> bool
     ensures { result ≡ true → suc cap ≡ capped_break (plan run.now) (bits run.now) run.now.x }
 {

@@ -7,7 +7,6 @@ use Rattle.plpb.specs.Equations.{clause_break}
 use Rattle.plpb.specs.Count.{cap, capped, capped_break}
 use Rattle.plpb.proofs.Capped.{capped_zero, capped_twice}
 use Rattle.counting.specs.Count.{number}
-use Rattle.counting.specs.declared.count.Count.{Count}
 use Rattle.order.specs.Order.{run_end}
 use Rattle.order.proofs.Groups.{no_break}
 use Rattle.effects.specs.declared.run.Run.{Run}
