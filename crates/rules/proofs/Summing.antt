@@ -1,6 +1,6 @@
 -- Laws of the sums of a rule's terms: they are made term by term from the last to the first, and none is larger than K.
 -- Assumes nothing.
-use Prim.Native.Nat.{ℕ, suc, ◌+◌, ◌*◌, ◌-◌, ◌%◌, ◌≤◌, ◌<◌, zero-le}
+use Prim.Native.Nat.{ℕ, suc, ◌+◌, ◌*◌, ◌-◌, ◌/◌, ◌%◌, ◌≤◌, ◌<◌, zero-le}
 use native.Mathlib.Nat.{add-zero, sub-zero}
 use native.Mathlib.Omega.{arith}
 use mathlib.Core.Path.{◌≡◌, refl, sym, ap, ◌∙◌}
@@ -19,7 +19,7 @@ use Rattle.format.specs.Tables.{term_of}
 use Rattle.rules.specs.declared.sums.Sums.{Sums}
 use Rattle.rules.specs.declared.sums.Running.{Running}
 use Rattle.rules.specs.Terms.{terms_at, Readable}
-use Rattle.rules.specs.Sums.{Summed, Room, AddedTerm, AddedWeight, held_in}
+use Rattle.rules.specs.Sums.{Summed, AddedWeight, rise_in, held_in}
 use Rattle.rules.proofs.Terms.{term_legal, lawful_legal, legal_high, legal_weight, legal_at, legal_rest, terms_none, terms_next, length_terms}
 
 -- ---- bounds
@@ -49,12 +49,24 @@ weight_word w h = at (ltb w 2_147_483_648) refl
     at true e = refl
     at false e = omega arith
 
+-- A weight more still fits, and twice as much does.
+pub record Room (w : ℕ) (s : Sums) : Type 0 where
+  pub whole : w + s.k < 2_147_483_648
+  pub rises : s.rise ≤ s.k
+  pub trues : s.p ≤ s.k
+
+-- What one term more changes.
+pub record AddedTerm (a : Assignment) (t : Term) (s r : Sums) : Type 0 where
+  pub whole : r.k ≡ size t + s.k
+  pub rises : r.rise ≡ cond (is_negative t.weight) (size t) 0 + s.rise
+  pub trues : r.p ≡ cond (literal_true a (literal t)) (size t) 0 + s.p
+
 -- Added to the sums as they are kept, it is added to those that they come to.
-module _ (w m rise k p : ℕ) (fits : w < 4_294_967_296) where
-  whole_held : (b : Bool) (weights : ℕ) → m ≡ cond b (4_294_967_296 - w) w → k ≡ (weights + rise + rise) % 4_294_967_296 → m + k < 4_294_967_296
-      → ((weights + w) % 4_294_967_296 + (cond b m 0 + rise) + (cond b m 0 + rise)) % 4_294_967_296 ≡ m + k
-  whole_held true weights e h r = omega arith
-  whole_held false weights e h r = omega arith
+module _ (w m k rise p : ℕ) (fits : w < 4_294_967_296) where
+  rise_held : (b : Bool) (weights : ℕ) → weights < 4_294_967_296 → m ≡ cond b (4_294_967_296 - w) w → rise ≡ (k + (4_294_967_296 - weights)) % 4_294_967_296 / 2 → rise ≤ k → m + k < 2_147_483_648
+      → (m + k + (4_294_967_296 - (weights + w) % 4_294_967_296)) % 4_294_967_296 / 2 ≡ cond b m 0 + rise
+  rise_held true weights l e h n r = omega arith
+  rise_held false weights l e h n r = omega arith
 
   trues_held : (b v : Bool) (trues : ℕ) → m ≡ cond b (4_294_967_296 - w) w → p ≡ (trues + rise) % 4_294_967_296 → m + p < 4_294_967_296
       → ((trues + cond v w 0) % 4_294_967_296 + (cond b m 0 + rise)) % 4_294_967_296 ≡ cond (cond b (not v) v) m 0 + p
@@ -64,20 +76,23 @@ module _ (w m rise k p : ℕ) (fits : w < 4_294_967_296) where
   trues_held false false trues e h r = omega arith
 
 module _ (g : ℕ → ℕ) (i : ℕ) (s : Running) {w : ℕ} (e : w ≡ g (2 * i + 1)) (room : Room (size (term_of g i)) (held_in s)) where
-  pub weight_room : nat_abs (signed w) + s.rise < 4_294_967_296
+  pub weight_room : nat_abs (signed w) + s.sizes < 4_294_967_296
   unfolding size term_of
-  weight_room = rw e (omega (arith, room.whole, room.rises))
+  weight_room = rw e (omega (arith, room.whole))
 
-  pub weight_added : {a : Assignment} {r : Running} {b : Bool} → w < 4_294_967_296 → b ≡ value a (g (2 * i)) → AddedWeight w b s r → AddedTerm a (term_of g i) (held_in s) (held_in r)
+  pub weight_added : {a : Assignment} {r : Running} {b : Bool} → w < 4_294_967_296 → s.weights < 4_294_967_296 → b ≡ value a (g (2 * i)) → AddedWeight w b s r
+      → AddedTerm a (term_of g i) (held_in s) (held_in r)
   unfolding size term_of literal literal_true
-  weight_added {a} {r} {b} fits h d =
+  weight_added {a} {r} {b} fits low h d =
       let small = rw (sym e) at room in
       let n = is_negative (signed w) in
+      let word = weight_word w fits in
+      let more : rise_in r ≡ cond n (nat_abs (signed w)) 0 + rise_in s = rw (d.sizes, d.weights) (rise_held w _ s.sizes _ 0 fits n s.weights low word refl small.rises small.whole) in
       let same : AddedTerm a (record { variable = g (2 * i); weight = signed w }) (held_in s) (held_in r) =
       record {
-        whole = rw (d.weights, d.rises) (whole_held w _ s.rise _ 0 fits n s.weights (weight_word w fits) refl small.whole);
-        rises = d.rises;
-        trues = rw (d.trues, d.rises, h) (trues_held w _ s.rise 0 _ fits n (value a (g (2 * i))) s.trues (weight_word w fits) refl (omega (arith, small.whole, small.trues)));
+        whole = d.sizes;
+        rises = more;
+        trues = rw (more, d.trues, h) (trues_held w _ 0 (rise_in s) _ fits n (value a (g (2 * i))) s.trues word refl (omega (arith, small.whole, small.trues)));
       } in
       rw e at same
 

@@ -16,13 +16,13 @@ pub struct Sums {
     pub p: u32,
 }
 
-// The three as they are kept over the terms: the sum of all weights, that of the negative ones' sizes, and that of the weights of true variables. The
-// first and the last are sums of words as they stand in the table, and wrap where a weight is negative. So a term costs three additions, and whether its
-// literal is true is not asked: what a negative weight takes too much from K and P, the rise gives back at the end.
+// What is kept over the terms: the sum of the weights' sizes, that of the weights and that of the weights of true variables. The last two are sums of words as
+// they stand in the table, and wrap where a weight is negative. So a term costs three additions, and whether its literal is negated or true is not asked: the
+// sizes are above the weights by twice what the bounds rise by, and what a negative weight takes too much from P, the rise gives back at the end.
 #[derive(Clone, Copy)]
 struct Running {
+    sizes: u32,
     weights: u32,
-    rise: u32,
     trues: u32,
 }
 
@@ -36,20 +36,19 @@ fn only_if(test: bool, n: u32) -> u32
 impl Running {
     // Those of no terms.
     const NONE: Running = Running {
+        sizes: 0,
         weights: 0,
-        rise: 0,
         trues: 0,
     };
 
     // Those with one more term in front, of which these are the weight's word and the variable's value.
     fn with(self, weight: u32, value: bool) -> Running
-        requires { nat_abs (signed weight) + self.rise < 4294967296 }
+        requires { nat_abs (signed weight) + self.sizes < 4294967296 }
         ensures { AddedWeight weight value self result }
     {
-        let w = to_signed(weight);
         Running {
+            sizes: magnitude(to_signed(weight)) + self.sizes,
             weights: self.weights.wrapping_add(weight),
-            rise: only_if(w.is_negative(), magnitude(w)) + self.rise,
             trues: self.trues.wrapping_add(only_if(value, weight)),
         }
     }
@@ -58,10 +57,11 @@ impl Running {
     fn sums(self) -> Sums
         ensures { result ≡ held_in self }
     {
+        let rise = self.sizes.wrapping_sub(self.weights) / 2;
         Sums {
-            k: self.weights.wrapping_add(self.rise).wrapping_add(self.rise),
-            rise: self.rise,
-            p: self.trues.wrapping_add(self.rise),
+            k: self.sizes,
+            rise,
+            p: self.trues.wrapping_add(rise),
         }
     }
 }
