@@ -5,7 +5,7 @@ ghost use Rattle.std.specs.Prelude.{◌≡◌, ◌++◌, ◌≤◌, length};
 ghost use Rattle.words.specs.Words.{word_at};
 ghost use Rattle.words.specs.Writes.{front};
 ghost use Rattle.answers.specs.Found.{has_plan};
-ghost use Rattle.lines.specs.Text.{ending_of, result_line, assignment_line};
+ghost use Rattle.lines.specs.Text.{ending_of, result_line, assignment_line, output_size};
 
 use lines::{assignment_line, result_line};
 use words::index;
@@ -32,7 +32,7 @@ fn is_found(ending: u32) -> bool
 // The lines of a search's answer. Answers their length.
 pub fn write_answer(tables: &[u8], assignment: &[u8], r: Answer, out: &mut [u8]) -> usize
     requires { (4 ≤ length tables.now) × (word_at tables.now 0 ≤ 512) × (word_at tables.now 0 ≤ length assignment.now)
-        × (2_048 ≤ length out.old) }
+        × (output_size ≤ length out.old) }
     ensures { (out.new
         ≡ front (result_line (ending_of r.ending) r.cost r.finds r.flips r.used
         ++ assignment_line (has_plan r.ending) (word_at tables.now 0) assignment.now) out.old)

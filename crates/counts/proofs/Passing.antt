@@ -23,7 +23,7 @@ use Rattle.words.specs.Words.{word_at}
 use Rattle.order.specs.Order.{order, run_end, cut}
 use Rattle.order.specs.Blocks.{same_clause}
 use Rattle.order.proofs.Groups.{no_make}
-use Rattle.format.specs.Layout.{holding_at}
+use Rattle.format.specs.Layout.{clause_room, holding_at}
 use Rattle.tallies.proofs.Tallied.{clause_word, fresh_words}
 use Rattle.tallies.proofs.TallyBytes.{roomy_fits}
 use Rattle.recount.proofs.Laid.{parts}
@@ -48,7 +48,7 @@ module _ (r : Run) where
       let t = r.going.kept in
       let laid = t.ready.laid in
       let there = (place_named (visited r v)).clause_there in
-      let few : (place r k).clause < 513 = omega (arith, there, (parts _ _ laid).clause_count) in
+      let few : (place r k).clause < clause_room = omega (arith, there, (parts _ _ laid).clause_count) in
       e ∙ fresh_words (plan r) laid.room (bits r) r.footing.now.tallies.now t.fresh (holding_at (place r k).clause) (omega arith) ∙ clause_word (plan r) (roomy_fits (plan r) laid.room) (bits r) (place r k).clause there
 
   -- ---- the first place of a clause that is not met

@@ -8,6 +8,7 @@ ghost use Rattle.std.specs.Option.{is_some, unwrap_or};
 ghost use Rattle.words.specs.Words.{bytes_of};
 ghost use Rattle.words.specs.Writes.{front};
 ghost use Rattle.format.specs.Writer.{field, clause_fields, write};
+ghost use Rattle.format.specs.Layout.{largest_file};
 ghost use Rattle.cells.specs.Grammar.{column_of};
 ghost use Rattle.cells.specs.Values.{gather};
 ghost use Rattle.lists.specs.Lists.{zone_clause};
@@ -175,7 +176,7 @@ fn put_front(out: &mut [u8], sites: Sites<'_>) -> usize
 // The whole file of two lists that have n rows each. Answers its length.
 pub fn put_plan(out: &mut [u8], sites: &[u8], zones: &[u8], n: Counts) -> usize
     requires { ((refusal_of (site_rows sites.now) (zone_rows zones.now)).number ≡ 0) × (n.sites ≡ length (site_rows sites.now))
-        × (n.zones ≡ length (zone_rows zones.now)) × (54_446 ≤ length out.old) }
+        × (n.zones ≡ length (zone_rows zones.now)) × (largest_file ≤ length out.old) }
     ensures { (out.new ≡ front (write (plan_of (site_rows sites.now) (zone_rows zones.now))) out.old)
         × (result ≡ length (write (plan_of (site_rows sites.now) (zone_rows zones.now)))) }
 {

@@ -120,9 +120,6 @@ pub well_own : (zones : Bool) (s : List ℕ) → Well zones s → (k : ℕ) → 
 well_own zones s h k l =
     own_sound zones (entries_of zones s) k (judged_none (row_fault zones (entries_of zones s)) (length (entries_of zones s)) 0 h k (omega arith) (omega arith))
 
-pub judge_start : (f : ℕ → ℕ) (n : ℕ) → judged_from f (n - 0) 0 ≡ judged_from f n 0
-judge_start f n = let e : n - 0 ≡ n = omega arith in ap (λ (j : ℕ). judged_from f j 0) e
-
 -- Whether bytes are left, as the code asks it.
 module _ {b : Bool} (s : List ℕ) (e : b ≡ eqb (length s) 0) where
   pub bytes_left : b ≡ false → 0 < length s

@@ -17,6 +17,7 @@ use Rattle.format.proofs.Lawful.{terms_short, plan_parts}
 use Rattle.format.proofs.Places.{length_field}
 use Rattle.format.proofs.WrittenRule.{length_terms, body_of, length_body}
 use Rattle.format.proofs.LockField.{length_locks}
+use Rattle.format.specs.Layout.{largest_file}
 
 abbrev pub terms_of : Rule → ℕ
 terms_of r = length r.terms
@@ -56,7 +57,7 @@ length_file_with between p =
     (arith, length-append n (field 2 ts ++ (between ++ (cs ++ field 5 []))), length-append (field 2 ts) (between ++ (cs ++ field 5 [])), length-append between (cs ++ field 5 []), length-append cs (field 5 []), length_field 1 (bytes_of 2 p.variables), length_bytes_of 2 p.variables, length_field 2 ts, length_terms p.objective, length_clauses p.clauses, length_field 5 [])
 
 -- "the largest file is then 54,446 bytes"
-pub write_short : (p : Plan) → T (lawful p) → length (write p) ≤ 54_446
+pub write_short : (p : Plan) → T (lawful p) → length (write p) ≤ largest_file
 unfolding write rising
 write_short p h =
     let l = plan_parts p h in

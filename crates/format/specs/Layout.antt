@@ -23,6 +23,10 @@ table_size = 56_816
 abbrev pub term_size : ℕ
 term_size = 52_096
 
+-- "the largest file is then 54,446 bytes"
+abbrev pub largest_file : ℕ
+largest_file = 54_446
+
 -- The tables have room for one clause and rule more than a plan may have, with its 512 terms.
 abbrev pub clause_room : ℕ
 clause_room = 513

@@ -31,7 +31,7 @@ max_bound = 1_000_000_000
 unfoldable pub weight_lawful : ℤ → Bool
 weight_lawful w = ltb 0 (nat_abs w) and leb (nat_abs w) max_weight
 
--- A term whose number and weight are in range.
+-- A term whose variable is at most n and whose weight is lawful.
 unfoldable pub term_within : ℕ → Term → Bool
 term_within n t = leb t.variable n and weight_lawful t.weight
 

@@ -62,6 +62,3 @@ characters n bytes = map character (take n bytes)
 
 pub length_characters : (n : ℕ) (bytes : List ℕ) → n ≤ length bytes → length (characters n bytes) ≡ n
 length_characters n bytes h = length-map (take n bytes) character ∙ length-take-le n bytes h
-
-pub bit_at : (bits : List ℕ) (i b : ℕ) → i < length bits → b ≡ character (get_or bits i 0) → b ≡ get_or (map character bits) i 0
-bit_at bits i b l e = e ∙ sym (get_d_map character bits i 0 0 l)

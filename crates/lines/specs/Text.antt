@@ -35,6 +35,10 @@ unfoldable pub bits_line : Option (List ℕ) → List ℕ
 bits_line None = line (text "-" ∷ [])
 bits_line (Some bits) = line (map (λ b. cond (eqb b 0) (digit 0) (digit 1)) bits ∷ [])
 
+-- The bytes that are lent for what the program prints.
+abbrev pub output_size : ℕ
+output_size = 2_048
+
 -- The two lines of an answer.
 unfoldable pub answer_text : Answer → List ℕ
 answer_text a = result_line a.ending a.cost a.finds a.flips a.used ++ found_line a.assignment

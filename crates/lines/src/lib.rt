@@ -9,6 +9,9 @@ ghost use Rattle.lines.specs.Text.{digit as digitOf, decimal, signed_decimal, en
 
 use spelling::put_decimal;
 
+// The bytes that are lent for what the program prints.
+pub const OUTPUT: usize = 2048;
+
 const SPACE: u8 = b' ';
 
 const LINE_FEED: u8 = b'\n';

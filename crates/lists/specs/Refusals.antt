@@ -6,6 +6,7 @@ use Rattle.plpb.specs.Lists.{◌and◌, ◌or◌, any, all}
 use Rattle.plpb.specs.Plan.{Plan}
 use Rattle.plpb.specs.Tallies.{rules_of}
 use Rattle.format.specs.Limits.{max_variables, max_clauses, max_rules, max_terms, term_count}
+use Rattle.format.specs.Layout.{largest_file}
 use Rattle.cells.specs.Grammar.{Record, rows_of, column_of, same_bytes}
 use Rattle.cells.specs.Values.{is_digit}
 use Rattle.rows.specs.Reading.{is_some}
@@ -144,4 +145,4 @@ zone_rows s = rows_of 4 s
 -- "21, for a plan buffer below 54,446 bytes too, before either"
 unfoldable pub map_refusal : ℕ → List ℕ → List ℕ → Refusal
 map_refusal room sites zones =
-    cond (ltb room 54_446) (record { number = 21; list = 0; row = 0 }) (refusal_of (site_rows sites) (zone_rows zones))
+    cond (ltb room largest_file) (record { number = 21; list = 0; row = 0 }) (refusal_of (site_rows sites) (zone_rows zones))

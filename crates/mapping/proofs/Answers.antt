@@ -7,6 +7,7 @@ use lib.ListN.{length}
 use borrow.Author.Tests.{ne_eqb, lt-ltb, le-ltb}
 use Rattle.words.specs.Writes.{front}
 use Rattle.format.specs.Writer.{write}
+use Rattle.format.specs.Layout.{largest_file}
 use Rattle.lists.specs.Refusals.{Refusal, accepted, site_rows, zone_rows, refusal_of, map_refusal}
 use Rattle.entries.specs.declared.Refusal.{Refusal as RefusalT}
 use native.Mathlib.Omega.{arith}
@@ -29,13 +30,13 @@ module _ (s z plan : List ℕ) where
   abbrev Says : Mapped → List ℕ → Type 0
   Says r after = ((r.refusal ≡ f.number) × (r.list ≡ f.list) × (r.row ≡ f.row) × (r.length ≡ length_for s z plan)) × (after ≡ plan_after s z plan)
 
-  pub small_room : length plan < 54_446 → f ≡ record { number = 21; list = 0; row = 0 }
+  pub small_room : length plan < largest_file → f ≡ record { number = 21; list = 0; row = 0 }
   unfolding map_refusal
-  small_room h = rw (lt-ltb (length plan) 54_446 h)
+  small_room h = rw (lt-ltb (length plan) largest_file h)
 
-  pub room : 54_446 ≤ length plan → f ≡ refusal_of (site_rows s) (zone_rows z)
+  pub room : largest_file ≤ length plan → f ≡ refusal_of (site_rows s) (zone_rows z)
   unfolding map_refusal
-  room h = rw (le-ltb (length plan) 54_446 h)
+  room h = rw (le-ltb (length plan) largest_file h)
 
   no_length : (f.number ≡ 0 → ⊥) → 0 ≡ length_for s z plan
   unfolding length_for

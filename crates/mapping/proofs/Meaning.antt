@@ -15,6 +15,7 @@ use Rattle.plpb.specs.Plan.{satisfies, cost}
 use Rattle.words.specs.Writes.{front}
 use Rattle.format.specs.File.{read, accepted}
 use Rattle.format.specs.Writer.{write}
+use Rattle.format.specs.Layout.{largest_file}
 use Rattle.lists.specs.Choices.{obeys_zones, carried}
 use Rattle.lists.specs.Refusals.{site_rows, zone_rows, refusal_of, map_refusal}
 use Rattle.lists.proofs.Solutions.{solutions, costs_metres}
@@ -34,7 +35,7 @@ module _ (s z plan : List ℕ) where
 
   lists_pass : (refusal_for s z plan).number ≡ 0 → (refusal_of (site_rows s) (zone_rows z)).number ≡ 0
   unfolding map_refusal
-  lists_pass e = go (ltb (length plan) 54_446) e
+  lists_pass e = go (ltb (length plan) largest_file) e
     where
       go : (t : Bool) → (cond t (record { number = 21; list = 0; row = 0 }) (refusal_of (site_rows s) (zone_rows z))).number ≡ 0 → (refusal_of (site_rows s) (zone_rows z)).number ≡ 0
       go true h = absurd (omega (arith, h))

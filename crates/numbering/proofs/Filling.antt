@@ -20,11 +20,12 @@ use Rattle.words.proofs.Words.{Below, below_cons, length_word_bytes, word_at_wor
 use Rattle.words.proofs.Writes.{lent_part, words_next, first_words, front_whole}
 use Rattle.format.specs.Tables.{lock_word}
 use Rattle.format.proofs.Lists.{length_row}
+use Rattle.format.specs.Layout.{lock_section_size}
 use Rattle.tables.specs.Sections.{lock_words}
 use Rattle.squeezed.specs.Squeezed.{locked, renumbered, is_unlocked, unlocked, new_number, under_lock, becomes}
 use Rattle.squeezed.proofs.Alike.{map_row_at}
 use Rattle.squeezed.proofs.Numbers.{up_suc, in_range_lem}
-use Rattle.fates.specs.Codes.{decode, decoded}
+use Rattle.fates.specs.Codes.{decode, decoded, map_size}
 use Rattle.fates.proofs.Parts.{decode_other}
 use Rattle.numbering.specs.Numbered.{code_by, free_to, Numbered}
 
@@ -56,18 +57,18 @@ module _ (p : Plan) where
   ws = 0 ∷ lock_words p
 
   -- A map whose first word is 0, filled behind it.
-  pub filled : (o t ys : List ℕ) → length o ≡ 2_052 → t ≡ put_words 0 (0 ∷ []) o → ys ≡ word_bytes (lock_words p) → put_mid 4 2_048 t ys ≡ word_bytes ws
+  pub filled : (o t ys : List ℕ) → length o ≡ map_size → t ≡ put_words 0 (0 ∷ []) o → ys ≡ word_bytes (lock_words p) → put_mid 4 lock_section_size t ys ≡ word_bytes ws
   unfolding put_words
   filled o t ys n e f =
-      let long : length ys ≡ 2_048 = ap length f ∙ length_word_bytes (lock_words p) ∙ ap (λ k. 4 * k) length_locks in
-      let whole : length (word_bytes ws) ≡ length o = length_word_bytes ws ∙ (let k : 4 * suc (length (lock_words p)) ≡ 2_052 = omega (arith, length_locks) in k) ∙ sym n in
-      lent_part 4 2_052 t ys (omega arith) long
+      let long : length ys ≡ lock_section_size = ap length f ∙ length_word_bytes (lock_words p) ∙ ap (λ k. 4 * k) length_locks in
+      let whole : length (word_bytes ws) ≡ length o = length_word_bytes ws ∙ (let k : 4 * suc (length (lock_words p)) ≡ map_size = omega (arith, length_locks) in k) ∙ sym n in
+      lent_part 4 map_size t ys (omega arith) long
       ∙ ap₂ (λ bs s. put 4 bs s) f e
       ∙ words_next 0 (0 ∷ []) (lock_words p) o (omega arith)
       ∙ first_words ws o ∙ front_whole (word_bytes ws) o whole
 
-  pub filled_long : (o t ys : List ℕ) → length o ≡ 2_052 → t ≡ put_words 0 (0 ∷ []) o → ys ≡ word_bytes (lock_words p) → length (put_mid 4 2_048 t ys) ≡ 2_052
-  filled_long o t ys n e f = ap length (filled o t ys n e f) ∙ length_word_bytes ws ∙ (let k : 4 * suc (length (lock_words p)) ≡ 2_052 = omega (arith, length_locks) in k)
+  pub filled_long : (o t ys : List ℕ) → length o ≡ map_size → t ≡ put_words 0 (0 ∷ []) o → ys ≡ word_bytes (lock_words p) → length (put_mid 4 lock_section_size t ys) ≡ map_size
+  filled_long o t ys n e f = ap length (filled o t ys n e f) ∙ length_word_bytes ws ∙ (let k : 4 * suc (length (lock_words p)) ≡ map_size = omega (arith, length_locks) in k)
 
   past : (k : ℕ) (s : List ℕ) (i : ℕ) → length s ≤ i → num_at k s i ≡ 0
   unfolding num_at

@@ -19,6 +19,7 @@ use Rattle.format.specs.File.{Reading, refused, accepted}
 use Rattle.format.specs.Tables.{coefficient, lock_word, table_words, term_words, table_size, term_size}
 use Rattle.format.proofs.Lawful.{room_for}
 use Rattle.format.proofs.Sections.{length_table_words}
+use Rattle.format.specs.Layout.{lock_section_size}
 use Rattle.verdict.specs.Answers.{Answer, Accepted, Refused}
 use Rattle.verdict.specs.Answers.{outcome}
 use Rattle.tables.specs.Load.{too_small, tables_of, terms_of}
@@ -68,12 +69,12 @@ free p x e = rw e (go (is_variable p x))
     go true = refl
     go false = refl
 
-no_locks : (s : List ℕ) → replicate 2_048 0 ≡ word_bytes (lock_words (plan_of_text s))
+no_locks : (s : List ℕ) → replicate lock_section_size 0 ≡ word_bytes (lock_words (plan_of_text s))
 unfolding lock_words placed coefficient unsigned rising rising_above all plan_of_text
 no_locks s =
     dense 0 [] (λ x. lock_word (lock_of (plan_of_text s) x)) (omega arith) (record { rise = refl; within = refl }) (λ x l. free (plan_of_text s) x refl)
 
-pub zeros_free : (s : List ℕ) {n : ℕ} {z : List ℕ} → z ≡ replicate n 0 → n ≡ 2_048 → z ≡ word_bytes (lock_words (plan_of_text s))
+pub zeros_free : (s : List ℕ) {n : ℕ} {z : List ℕ} → z ≡ replicate n 0 → n ≡ lock_section_size → z ≡ word_bytes (lock_words (plan_of_text s))
 zeros_free s e f = e ∙ ap (λ n. replicate n 0) f ∙ no_locks s
 
 module _ (s : List ℕ) (e : Says s) where

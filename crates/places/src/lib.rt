@@ -51,17 +51,6 @@ pub fn is_negative_word(weight: u32) -> bool
 }
 
 impl Place {
-    // The place that a word tells. It is no `From`, because the word tells more, so that what it is read from is not the same said otherwise.
-    pub fn of(w: u32) -> Place
-        ensures { place_of result ≡ word_place w }
-    {
-        Place {
-            clause: clause_in(w),
-            rule: rule_in(w),
-            term: term_in(w),
-        }
-    }
-
     // The word of a place, with what is asked of it first.
     pub fn spell(self, several: bool, negated: bool) -> u32
         ensures { result ≡ spelled several (place_of self) negated }

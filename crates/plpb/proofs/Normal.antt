@@ -15,7 +15,7 @@ use Rattle.plpb.proofs.Integers.{le_z_suc, le_z_plus_both}
 
 -- ---- N and P together are K
 
-at_most_lem : (b : Bool) (n : ℕ) → cond b n 0 ≤ n
+pub at_most_lem : (b : Bool) (n : ℕ) → cond b n 0 ≤ n
 at_most_lem true n = omega arith
 at_most_lem false n = zero-le
 

@@ -10,7 +10,7 @@ ghost use Rattle.format.specs.Tables.{table_size, term_size, plan_of_tables, is_
 ghost use Rattle.numbers.specs.Numbers.{numbers_of};
 ghost use Rattle.settings.specs.Settings.{settings_refusal, settings_of};
 ghost use Rattle.folder.specs.Files.{read_walk, numbers_refusal};
-ghost use Rattle.lines.specs.Text.{answer_text};
+ghost use Rattle.lines.specs.Text.{answer_text, output_size};
 ghost use Rattle.report.specs.Report.{with_settings, Turns};
 
 use answers::write_answer;
@@ -23,7 +23,7 @@ use settings::Settings;
 // tables go on to the search as the C interface lends them: it judges them anew, so that a struct of both would be taken apart at once.
 fn search_plan(tables: &[u8], terms: &[u8], numbers: &[u8], s: Settings, out: &mut [u8]) -> usize
     requires { T (is_loaded tables.now terms.now) × (table_size ≤ length tables.now) × (term_size ≤ length terms.now)
-        × (settings_refusal s ≡ 0) × (2_048 ≤ length out.old) }
+        × (settings_refusal s ≡ 0) × (output_size ≤ length out.old) }
     ensures { (out.new
         ≡ front (answer_text (searchOf (settings_of s) (plan_of_tables tables.now terms.now)
         (numbers_of numbers.now))) out.old)
@@ -69,7 +69,7 @@ pub fn respond_loaded(
     out: &mut [u8],
 ) -> usize
     requires { T (is_loaded tables.now terms.now) × (table_size ≤ length tables.now) × (term_size ≤ length terms.now)
-        × (2_048 ≤ length out.old) }
+        × (output_size ≤ length out.old) }
     ensures { (out.new
         ≡ front (with_settings (plan_of_tables tables.now terms.now)
         numbers.now (read_walk walk.now)) out.old)

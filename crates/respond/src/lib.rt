@@ -6,6 +6,7 @@ ghost use Rattle.std.specs.Prelude.{◌≡◌, ◌≤◌, length};
 ghost use Rattle.words.specs.Writes.{front};
 ghost use Rattle.format.specs.Tables.{table_size, term_size};
 ghost use Rattle.respond.specs.Program.{output};
+ghost use Rattle.lines.specs.Text.{output_size};
 
 use folder::files::any_too_long;
 use lines::refusal_line;
@@ -23,7 +24,7 @@ pub fn respond(
     terms: &mut [u8],
     out: &mut [u8],
 ) -> usize
-    requires { (table_size ≤ length tables.old) × (term_size ≤ length terms.old) × (2_048 ≤ length out.old) }
+    requires { (table_size ≤ length tables.old) × (term_size ≤ length terms.old) × (output_size ≤ length out.old) }
     ensures { (out.new ≡ front (output more plan.now walk.now numbers.now) out.old)
         × (result ≡ length (output more plan.now walk.now numbers.now)) }
 {

@@ -63,9 +63,6 @@ one_fails {a} b p f = f ∙ sym (and_stop a b (sym p ∙ f))
 pub entry_readable : {tables terms assignment : List ℕ} {at : ℕ} {e : Entry} → EntryAt (word_at tables) at e → RuleReadable tables terms assignment at → Readable terms assignment e.first e.count
 entry_readable d r = rw (d.first, d.count) r.body
 
-pub entry_inside : {tables terms : List ℕ} {at : ℕ} {e : Entry} → EntryAt (word_at tables) at e → RuleInside tables terms at → 8 * (e.first + e.count) ≤ length terms
-entry_inside d r = rw (d.first, d.count) r.body
-
 -- .. and its terms, as the entry says them, are the rule's.
 pub entry_terms : {f : ℕ → ℕ} (g : ℕ → ℕ) {at : ℕ} {e : Entry} → EntryAt f at e → terms_at g e.first e.count ≡ (rule_at f g at).terms
 unfolding rule_at

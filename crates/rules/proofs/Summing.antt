@@ -13,7 +13,7 @@ use Rattle.plpb.specs.Lists.{all, sum_by}
 use Rattle.plpb.specs.Plan.{Term, Assignment, value}
 use Rattle.plpb.specs.Normal.{literal, literal_true, is_negative, size, rise, K, P}
 use Rattle.plpb.proofs.Lists.{and_left, and_right}
-use Rattle.plpb.proofs.Normal.{P_at_most_K}
+use Rattle.plpb.proofs.Normal.{at_most_lem, P_at_most_K}
 use Rattle.words.specs.Words.{word_at, signed}
 use Rattle.format.specs.Tables.{term_of}
 use Rattle.rules.specs.declared.sums.Sums.{Sums}
@@ -23,10 +23,6 @@ use Rattle.rules.specs.Sums.{Summed, AddedWeight, rise_in, held_in}
 use Rattle.rules.proofs.Terms.{term_legal, lawful_legal, legal_high, legal_weight, legal_at, legal_rest, terms_none, terms_next, length_terms}
 
 -- ---- bounds
-
-at_most_lem : (b : Bool) (n : ℕ) → cond b n 0 ≤ n
-at_most_lem true n = omega arith
-at_most_lem false n = zero-le
 
 pub rise_at_most_K : (ts : List Term) → rise ts ≤ K ts
 unfolding rise K sum_by

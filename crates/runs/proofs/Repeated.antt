@@ -25,18 +25,6 @@ use Rattle.runs.proofs.Once.{cost_bounded}
 
 -- ---- the buffers
 
-pub unchanged : (l : Lent) → WithinLimits l l
-unchanged l =
-    record {
-      numbers = record { size = refl; beyond = refl };
-      assignment = record { size = refl; beyond = refl };
-      work_tables = record { size = refl; beyond = refl };
-      work_terms = record { size = refl; beyond = refl };
-      work_assignment = record { size = refl; beyond = refl };
-      work_tallies = record { size = refl; beyond = refl };
-      work_marks = record { size = refl; beyond = refl };
-    }
-
 both : {n : ℕ} {s t u : List ℕ} → AsBefore n s t → AsBefore n t u → AsBefore n s u
 both a b = record { size = b.size ∙ a.size; beyond = b.beyond ∙ a.beyond }
 

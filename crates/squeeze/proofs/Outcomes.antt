@@ -31,16 +31,16 @@ use Rattle.rewriting.specs.Written.{terms_written, clauses_written}
 use Rattle.squeeze.specs.declared.Squeezed.{Squeezed}
 use Rattle.squeeze.specs.declared.Unfit.{Unfit}
 use Rattle.squeeze.specs.declared.Unfit.TheVariants.{AllLocked, ClauseLost}
-use Rattle.squeeze.specs.Calls.{Outcome, Answers, fault_number, turned_away, rewritten, squeezing, by_reading, outcome}
+use Rattle.squeeze.specs.Calls.{Outcome, Answers, fault_number, turned_away, rewritten, squeezing, by_reading, outcome, list_size}
 use Rattle.squeeze.specs.Rewritten.{front_bytes, file_bytes}
 
 -- ---- the list
 
 -- A full list written over the first places of what is lent.
-pub list_whole : (ws o ys : List ℕ) → length ws ≤ 512 → ys ≡ word_bytes (pad_to 512 ws) → ys ++ drop 2_048 o ≡ front (word_bytes (pad_to 512 ws)) o
+pub list_whole : (ws o ys : List ℕ) → length ws ≤ 512 → ys ≡ word_bytes (pad_to 512 ws) → ys ++ drop list_size o ≡ front (word_bytes (pad_to 512 ws)) o
 unfolding front pad_with
 list_whole ws o ys h e =
-    let n : length (word_bytes (pad_to 512 ws)) ≡ 2_048 =
+    let n : length (word_bytes (pad_to 512 ws)) ≡ list_size =
     length_word_bytes (pad_to 512 ws) ∙ omega (arith, length-append ws (replicate (512 - length ws) 0), length-replicate {A = ℕ} (512 - length ws) 0) in
     ap₂ (λ a k. a ++ drop k o) e (sym n)
 
@@ -173,31 +173,31 @@ module _ (p : Plan) (m : List ℕ) (says : (x : ℕ) → decoded m x ≡ becomes
 
 -- ---- the order of checks
 
-pub small_list : (file old : List ℕ) → length old < 2_048 → outcome file old ≡ turned_away 21 0 file old
+pub small_list : (file old : List ℕ) → length old < list_size → outcome file old ≡ turned_away 21 0 file old
 unfolding outcome
-small_list file old h = rw (lt-ltb (length old) 2_048 h)
+small_list file old h = rw (lt-ltb (length old) list_size h)
 
-large_list : (file old : List ℕ) → 2_048 ≤ length old → outcome file old ≡ by_reading (read file) file old
+large_list : (file old : List ℕ) → list_size ≤ length old → outcome file old ≡ by_reading (read file) file old
 unfolding outcome
-large_list file old h = rw (le-ltb (length old) 2_048 h)
+large_list file old h = rw (le-ltb (length old) list_size h)
 
 refused_reading : (x : Reading Plan) (n at : ℕ) (file old : List ℕ) → Refused n at ≡ Judged.outcome x → by_reading x file old ≡ turned_away n at file old
 unfolding by_reading Judged.outcome Judged.refusal_of Judged.offset_of
 refused_reading (refused k o) n at file old e = ap₂ (λ a b. turned_away a b file old) (sym (ap Judged.refusal_of e)) (sym (ap Judged.offset_of e))
 refused_reading (accepted p) n at file old e = absurd (let z : ◌≡◌ {A = ℕ} 0 1 = cc in omega arith)
 
-pub refused_file : (file old : List ℕ) (a : Answer) (n at : ℕ) (r : Squeezed) → 2_048 ≤ length old → a ≡ Judged.outcome (read file) → a ≡ Refused n at
+pub refused_file : (file old : List ℕ) (a : Answer) (n at : ℕ) (r : Squeezed) → list_size ≤ length old → a ≡ Judged.outcome (read file) → a ≡ Refused n at
     → Refuses r (Judged.refusal_of a) (Judged.offset_of a) → Is r file old (outcome file old)
 unfolding Judged.refusal_of Judged.offset_of
 refused_file file old a n at r h e d (x, y, z, w) =
     is_turned r n at file old (large_list file old h ∙ refused_reading (read file) n at file old (sym d ∙ e))
     (x ∙ ap Judged.refusal_of d, y ∙ ap Judged.offset_of d, z, w)
 
-accepted_file : (file old : List ℕ) → 2_048 ≤ length old → read file ≡ accepted (plan_of_file file)
+accepted_file : (file old : List ℕ) → list_size ≤ length old → read file ≡ accepted (plan_of_file file)
     → outcome file old ≡ squeezing (plan_of_file file) file old
 unfolding by_reading
 accepted_file file old h e = large_list file old h ∙ ap (λ x. by_reading x file old) e
 
-pub is_squeezed : (r : Squeezed) (file old file' old' : List ℕ) → 2_048 ≤ length old → read file ≡ accepted (plan_of_file file)
+pub is_squeezed : (r : Squeezed) (file old file' old' : List ℕ) → list_size ≤ length old → read file ≡ accepted (plan_of_file file)
     → Is r file' old' (squeezing (plan_of_file file) file old) → Is r file' old' (outcome file old)
 is_squeezed r file old file' old' h e = subst (λ o. Is r file' old' o) (sym (accepted_file file old h e))

@@ -17,7 +17,7 @@ use Rattle.format.proofs.RoundTrip.{read_write}
 use Rattle.format.proofs.Accepted.{accepted_lawful}
 use Rattle.squeezed.specs.Squeezed.{squeezed, all_locked, clause_lost}
 use Rattle.squeezed.proofs.Lawful.{squeezed_lawful}
-use Rattle.squeeze.specs.Calls.{Outcome, turned_away, rewritten, squeezing, by_reading, outcome, LeavesAccepted, NothingChanged}
+use Rattle.squeeze.specs.Calls.{Outcome, turned_away, rewritten, squeezing, by_reading, outcome, LeavesAccepted, NothingChanged, list_size}
 
 -- ---- accepted
 
@@ -49,7 +49,7 @@ small_by false file old p r l e h =
 
 pub leaves_accepted : LeavesAccepted
 unfolding Leaves outcome
-leaves_accepted file old p e h = small_by (ltb (length old) 2_048) file old p (read file) (accepted_lawful file p e) e h
+leaves_accepted file old p e h = small_by (ltb (length old) list_size) file old p (read file) (accepted_lawful file p e) e h
 
 -- ---- turned away
 
@@ -71,4 +71,4 @@ same_file false (accepted p) file old n = same_plan (all_locked p) (clause_lost 
 
 pub nothing_changed : NothingChanged
 unfolding Same outcome
-nothing_changed file old n = same_file (ltb (length old) 2_048) (read file) file old n
+nothing_changed file old n = same_file (ltb (length old) list_size) (read file) file old n

@@ -430,9 +430,6 @@ pub record Running (s : List ℕ) (from at count : ℕ) : Type 0 where
   pub on : from ≤ at
   pub left : (rs : List Rule) (cs : List Clause) → Found s from rs cs → (rest : List Rule) × (count + length rest ≡ length rs) × Found s at rest cs
 
-pub run_start : (s : List ℕ) (from : ℕ) → Reads s from → Running s from from 0
-run_start s from r = record { reads = r; few = omega arith; on = omega arith; left = λ rs cs f. (rs, zero-add (length rs), f) }
-
 module _ {s : List ℕ} {from at count : ℕ} (h : Running s from at count) where
   one_more : {on : ℕ} → get_or s at 0 ≡ 4 → on ≡ behind_field s at → (rs : List Rule) (cs : List Clause) → Found s at rs cs
       → (rest : List Rule) × (rs ≡ rule_at s at ∷ rest) × Found s on rest cs

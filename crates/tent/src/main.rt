@@ -87,7 +87,7 @@ fn main(rt: HostRuntime) {
     let mut numbers = [0u8; 65536];
     let mut tables = [0u8; format::TABLES];
     let mut terms = [0u8; format::TERMS];
-    let mut out = [0u8; 2048];
+    let mut out = [0u8; lines::OUTPUT];
     let p = read(&rt, "plan.bin", &mut plan);
     let w = read(&rt, "walk.bin", &mut walk);
     let n = read(&rt, "numbers.bin", &mut numbers);

@@ -13,16 +13,6 @@ use borrow.Author.Tests.{le-ltb}
 use Rattle.words.specs.Words.{signed, unsigned}
 use Rattle.words.specs.Signed.{complement}
 
--- -1 - z
-pub minus : (z : ℤ) → negsuc 0 -ℤ z ≡ complement z
-unfolding complement
-minus (pos zero) = refl
-minus (pos (suc n)) = ap (λ (k : ℕ). negsuc (suc k)) (zero-add n)
-minus (negsuc n) =
-    let a : ltb (suc n) 1 ≡ false = le-ltb (suc n) 1 (omega arith) in
-    let b : suc n - 1 ≡ n = omega arith in
-    ap (λ (t : Bool). cond t (negsuc (1 - suc (suc n))) (pos (suc n - 1))) a ∙ ap pos b
-
 -- The bits of a word and of a signed number.
 pub signed_bits : (n : ℕ) → to_z w32 n ≡ signed n
 unfolding signed
