@@ -1,8 +1,8 @@
 -- Laws of frames: what is not written is as it was.
 -- Assumes nothing.
-use Prim.Native.Nat.{ℕ, ◌+◌, ◌*◌, ◌≤◌, ◌<◌}
+use Prim.Native.Nat.{ℕ, ◌≤◌, ◌<◌}
 use native.Mathlib.Omega.{arith}
-use mathlib.Core.Path.{◌≡◌, refl, ◌∙◌}
+use mathlib.Core.Path.{refl, ◌∙◌}
 use mathlib.Core.List.{List}
 use Rattle.words.specs.Writes.{Wrote}
 use Rattle.plpb.specs.Plan.{Plan}

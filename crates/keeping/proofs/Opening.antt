@@ -1,6 +1,6 @@
 -- For callers: tallies counted anew, with the needs filled behind them, are kept like those that a flip leaves, and the next flip can be made on either.
 -- Assumes nothing.
-use Prim.Native.Nat.{◌-◌, ℕ, ◌≤◌}
+use Prim.Native.Nat.{◌-◌, ℕ}
 use native.Mathlib.Omega.{arith}
 use mathlib.Core.Path.{◌≡◌, sym, ap, ◌∙◌}
 use mathlib.Core.List.{List}

@@ -2,7 +2,7 @@
 -- Assumes nothing.
 use Prim.Native.Nat.{ℕ, ◌+◌, ◌≤◌, ◌<◌}
 use native.Mathlib.Omega.{arith}
-use mathlib.Core.Path.{◌≡◌, sym, ap, ◌∙◌}
+use mathlib.Core.Path.{◌≡◌, ap, ◌∙◌}
 use mathlib.Core.Bool.{cond}
 use mathlib.Core.List.{List, [], ◌∷◌, ◌++◌, map}
 use lib.ListN.{length, get_or, take, drop, set, length-map, length-set}
@@ -10,7 +10,6 @@ use lib.Dec.{eqb}
 use lib.Seq.{take_all, length-take-le}
 use Rattle.words.specs.Writes.{front, put}
 use Rattle.words.proofs.Writes.{put_sets, front_put, put_put, length_put}
-use Rattle.numbers.proofs.Keep.{get_d_map}
 use Rattle.numbers.proofs.Taking.{write_more}
 use Rattle.lines.specs.Text.{digit}
 

@@ -3,7 +3,7 @@
 use Prim.Native.Nat.{ℕ, ◌+◌, ◌≤◌, zero-le}
 use native.Mathlib.Nat.{le_refl, le_of_lt}
 use native.Mathlib.Omega.{arith}
-use mathlib.Core.Bool.{Bool, true, false, cond, true≢false}
+use mathlib.Core.Bool.{true, false, true≢false}
 use mathlib.Core.List.{List, [], ◌∷◌, ◌++◌}
 use mathlib.Core.Path.{◌≡◌, refl, sym, ap, ◌∙◌, subst}
 use lib.Dec.{T, le→leb, ltb→lt}
@@ -15,7 +15,7 @@ use Rattle.plpb.specs.Plan.{Plan, Assignment, cost}
 use Rattle.plpb.specs.Numbers.{Taken, taken, too_few, take_words, take_pick}
 use Rattle.plpb.specs.Walk.{Walk, done, words, pick, look, flipped, found, Mark, drawn, one_flip, one_find, Outcome, ends, short, run}
 use Rattle.plpb.specs.Settings.{Settings}
-use Rattle.plpb.specs.Search.{Ending, short_found, short_none, Answer, begin, search_walk, last_find, cost_of, answer_of, conclude, search}
+use Rattle.plpb.specs.Search.{Ending, short_found, Answer, begin, search_walk, last_find, cost_of, answer_of, conclude, search}
 use Rattle.plpb.specs.Sound.{mark_of, finds_of, costs_less, falling, no_plan}
 use Rattle.longer.specs.Answers.{ran_short, NoWorse, AnswersNeverHurt}
 use Rattle.plpb.proofs.Integers.{le_z_refl, le_z_trans}

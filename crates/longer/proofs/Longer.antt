@@ -1,14 +1,13 @@
 -- A longer list never hurts: the numbers of a longer list of bytes begin with those of the shorter one, and the rest is what a search does with numbers.
 -- Assumes nothing.
-use Prim.Native.Nat.{ℕ, zero, suc, ◌+◌, ◌-◌, ◌*◌, ◌/◌, ◌≤◌, ◌<◌}
+use Prim.Native.Nat.{ℕ, zero, suc, ◌+◌, ◌-◌, ◌*◌, ◌/◌, ◌≤◌}
 use native.Mathlib.Nat.{zero-add}
 use native.Mathlib.Omega.{arith}
-use mathlib.Core.Bool.{Bool, true, false, cond}
-use mathlib.Core.List.{List, [], ◌∷◌, ◌++◌, map, map-append}
+use mathlib.Core.Bool.{cond}
+use mathlib.Core.List.{List, ◌∷◌, ◌++◌, map, map-append}
 use mathlib.Core.Path.{◌≡◌, refl, sym, ap, ap₂, ◌∙◌, subst}
-use lib.Dec.{T, eqb}
-use lib.Signed.{le_z}
-use lib.ListN.{length, get_or, length-append, get_or-append}
+use lib.Dec.{eqb}
+use lib.ListN.{length, length-append, get_or-append}
 use Rattle.plpb.specs.Lists.{◌or◌, row}
 use Rattle.plpb.specs.Search.{Ending, floor, ended, none, short_found, short_none, Answer, search}
 use Rattle.words.specs.Words.{num_at, word_at}

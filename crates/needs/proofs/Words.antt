@@ -6,7 +6,7 @@ use mathlib.Core.Path.{◌≡◌, refl, ap, ◌∙◌}
 use mathlib.Core.Bool.{Bool, true, false, not, cond}
 use lib.Dec.{ltb}
 use borrow.Author.Tests.{eq-eqb, ne_eqb, lt-ltb}
-use Rattle.plpb.specs.Lists.{◌and◌, ◌or◌}
+use Rattle.plpb.specs.Lists.{◌or◌}
 use Rattle.plpb.specs.Plan.{Bound, absent, present, Rule}
 use Rattle.plpb.specs.Normal.{K, size_a, size_b, below_size}
 use Rattle.order.specs.Along.{moved}

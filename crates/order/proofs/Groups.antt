@@ -1,21 +1,21 @@
 -- A clause by its rules that name the variable: a rule that does not name it is spoiled nowhere and fails after the flip where it fails now, so the clause's
 -- count of holding rules tells of all those.
 -- Assumes nothing.
-use Prim.Native.Nat.{ℕ, zero, suc, ◌+◌, ◌*◌, ◌-◌, ◌≤◌, ◌<◌}
-use native.Mathlib.Nat.{zero-add, add-zero, zero-mul}
+use Prim.Native.Nat.{ℕ, zero, suc, ◌+◌, ◌-◌, ◌≤◌, ◌<◌}
+use native.Mathlib.Nat.{zero-add, zero-mul}
 use native.Mathlib.Omega.{arith}
 use mathlib.Core.Path.{◌≡◌, refl, sym, ap, ap₂, ◌∙◌}
 use mathlib.Core.Bool.{Bool, true, false, not, cond}
-use mathlib.Core.List.{List, [], ◌∷◌}
-use lib.Dec.{T, ltb, leb, eqb}
+use mathlib.Core.List.{[], ◌∷◌}
+use lib.Dec.{T, ltb, eqb}
 use lib.ListN.{length}
-use borrow.Author.Tests.{lt-ltb, le-ltb, eq-eqb, ne_eqb, ltb-true, ltb-false, le-leb, lt-leb, leb-true, leb-false, eqb-true}
+use borrow.Author.Tests.{lt-ltb, eq-eqb, ne_eqb}
 use Rattle.plpb.specs.Lists.{◌and◌, ◌or◌, keep, count, any, all}
 use Rattle.plpb.specs.Plan.{Bound, absent, present, Rule, Clause, Assignment, flip, rule_holds, rising, named_in, names}
 use Rattle.plpb.specs.Normal.{N, P, size_a, size_b}
 use Rattle.plpb.specs.Expansion.{parts, is_true}
 use Rattle.plpb.specs.Equations.{over, on, off, standing, shares, shares_of, product, clause_break, clause_make}
-use Rattle.plpb.proofs.Lists.{and_left, and_right, true_and, false_and, and_true, and_false, false_or, or_false, and_assoc, and_middle, or_assoc, count_nil, count_cons, count_le, all_by_count, none_by_count, not_any}
+use Rattle.plpb.proofs.Lists.{and_left, and_right, true_and, false_or, and_assoc, count_nil, count_cons, all_by_count, none_by_count, not_any}
 use Rattle.plpb.proofs.Theorem1.{is_false, spoiled_and_left}
 use Rattle.plpb.proofs.Theorem2.{rule_holds_lem}
 use Rattle.plpb.proofs.Equations.{equations}

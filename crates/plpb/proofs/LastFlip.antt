@@ -6,7 +6,7 @@ use mathlib.Core.Path.{◌≡◌, refl, sym, ap, ◌∙◌}
 use lib.ListN.{take}
 use lib.Seq.{take-nil}
 use Rattle.plpb.specs.Lists.{is_empty}
-use Rattle.plpb.specs.Plan.{Plan, Assignment, satisfies}
+use Rattle.plpb.specs.Plan.{Plan, satisfies}
 use Rattle.plpb.specs.Numbers.{Taken, taken, too_few, take_words, take_pick}
 use Rattle.plpb.specs.Walk.{Walk, done, words, pick, look, flipped, found, ◌>>=◌, at, Outcome, ends, short, run, looks}
 use Rattle.plpb.specs.Settings.{Settings}

@@ -4,14 +4,12 @@ use Prim.Native.Nat.{ℕ, suc, max}
 use mathlib.Core.Bool.{Bool, true, false, cond}
 use mathlib.Core.List.{List, [], ◌∷◌}
 use mathlib.Core.Path.{◌≡◌, refl, ap, ap₂, ◌∙◌, fun_ext}
-use native.Mathlib.Omega.{arith}
-use lib.Dec.{T, eqb, ltb}
+use lib.Dec.{T, ltb}
 use lib.ListN.{length}
-use Rattle.plpb.specs.Lists.{◌and◌, ◌or◌, keep, all}
+use Rattle.plpb.specs.Lists.{◌and◌, ◌or◌, all}
 use Rattle.plpb.specs.Plan.{Plan, Assignment}
-use Rattle.plpb.specs.Walk.{pick, done, ◌>>=◌}
+use Rattle.plpb.specs.Walk.{pick, ◌>>=◌}
 use Rattle.plpb.specs.Settings.{Heuristic, skc, novelty, Settings}
-use Rattle.plpb.specs.Try.{Try}
 use Rattle.plpb.specs.Novelty.{is_older, ranks_before, placed, ranked, latest, is_newest}
 use Rattle.plpb.specs.Choice.{pick_from, noisy_choice, skc_choice, ranked_choice, novelty_choice, choice_by}
 use Rattle.plpb.proofs.Lists.{and_left, and_right, and_both}

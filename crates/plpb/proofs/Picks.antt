@@ -2,17 +2,17 @@
 -- that was met the same.
 -- Assumes nothing.
 use Prim.Native.Nat.{ℕ, zero, suc, ◌+◌, ◌*◌, ◌-◌, ◌/◌, ◌%◌, ◌≤◌, ◌<◌}
-use native.Mathlib.Nat.{add-zero, zero-add, zero-mul, suc-mul, mod-add-div', mod-lt, mod-eq_of_lt, mul-add-mod_self_right, le-div_iff_mul-le, div-lt_iff_lt-mul}
+use native.Mathlib.Nat.{add-zero, zero-add, zero-mul, suc-mul, mod-add-div', mod-eq_of_lt, mul-add-mod_self_right, le-div_iff_mul-le, div-lt_iff_lt-mul}
 use native.Mathlib.Omega.{arith}
-use mathlib.Core.Bool.{Bool, true, false, cond, true≢false}
+use mathlib.Core.Bool.{Bool, true, false, cond}
 use mathlib.Core.List.{List, [], ◌∷◌, ◌++◌}
-use mathlib.Core.Path.{◌≡◌, refl, sym, ap, ap₂, ◌∙◌, subst}
+use mathlib.Core.Path.{◌≡◌, refl, sym, ap, ap₂, ◌∙◌}
 use borrow.Author.Tests.{lt-ltb, le-ltb, eqb-true, eqb-false, eq-eqb, ne_eqb, leb-true, le-leb}
 use lib.Dec.{leb, ltb, eqb}
 use lib.ListN.{length, take, drop, length-append, length-drop}
 use lib.Seq.{take-append-le, drop-append-le}
-use Rattle.plpb.specs.Lists.{◌and◌, keep, count, row}
-use Rattle.plpb.specs.Numbers.{Taken, taken, too_few, take_words, range, fair, pick_among, take_pick}
+use Rattle.plpb.specs.Lists.{◌and◌, count, row}
+use Rattle.plpb.specs.Numbers.{taken, too_few, take_words, range, fair, pick_among, take_pick}
 use Rattle.plpb.proofs.Lists.{count_nil, count_cons, count_append}
 
 -- ---- the limit

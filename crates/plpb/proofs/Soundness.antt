@@ -12,13 +12,12 @@ use lib.IntN.{ℤ}
 use lib.ListN.{length, get_or}
 use lib.Signed.{lt_z}
 use Rattle.plpb.specs.Lists.{◌and◌, ◌or◌, any, all, keep, is_empty, row}
-use Rattle.plpb.specs.Plan.{Clause, Plan, Assignment, is_locked, hold, obeys, satisfies, cost, floor_cost, names}
+use Rattle.plpb.specs.Plan.{Clause, Plan, Assignment, is_locked, obeys, satisfies, cost, floor_cost, names}
 use Rattle.plpb.specs.Walk.{Walk, done, pick, flipped, ◌>>=◌, Mark, at, one_find, Outcome, ends, short, run, looks}
 use Rattle.plpb.specs.Settings.{Mode, linear, lbs, Heuristic, skc, novelty, Settings}
 use Rattle.plpb.specs.Try.{Try, begun, turn_over}
 use Rattle.plpb.specs.Novelty.{last_flip, ranks_before, placed, ranked, is_newest}
 use Rattle.plpb.specs.Choice.{choosable, pick_from, least_break, with_break, noisy_choice, skc_choice, ranked_choice, novelty_choice, choice_by, choice}
-use Rattle.plpb.specs.Tallies.{unsatisfied}
 use Rattle.plpb.specs.Search.{Reached, failed, reached, Turn, stuck, turned, turning, move, go_on, flipping, try, or_else, trying, call, tightened, bound_in, Ending, floor, ended, none, short_found, short_none, at_floor, gap, after, descending, linear_search, lbs_search, tighten, search_walk, last_find, cost_of, answer_of, conclude, begin, search}
 use Rattle.plpb.specs.Sound.{mark_of, finds_of, looks_of, costs_less, falling, no_plan, Sound}
 use Rattle.plpb.proofs.Lists.{T_true, and_left, and_right, and_both, is_false, or_true, or_false, any_reverse}

@@ -4,9 +4,8 @@ use Prim.Native.Nat.{ℕ, zero, suc, ◌+◌, ◌*◌, ◌-◌, ◌/◌, ◌≤�
 use native.Mathlib.Nat.{le_trans, zero-add, add-zero, add-suc, suc-add, add_assoc, div-eq_of_eq-mul_right, mul-le-mul, min-eq_left, min-eq_right}
 use native.Mathlib.Decide.{dec_le}
 use native.Mathlib.Omega.{arith}
-use native.Mathlib.Numerals.{add-one}
 use mathlib.Core.List.{List, [], ◌∷◌, ◌++◌}
-use mathlib.Core.Path.{◌≡◌, refl, sym, ◌∙◌, ap, ap₂}
+use mathlib.Core.Path.{◌≡◌, refl, sym, ◌∙◌, ap}
 use lib.Dec.{lit≤}
 use lib.ListN.{length, get_or, get_or-append}
 use lib.Seq.{get_or-append-add}

@@ -8,7 +8,7 @@ use Rattle.plpb.specs.Plan.{Plan, Assignment, obeys, satisfies, cost, floor_cost
 use Rattle.plpb.specs.Walk.{Mark, at, Outcome, ends, short, run, looks}
 use Rattle.plpb.specs.Settings.{Settings}
 use Rattle.plpb.specs.Try.{Try}
-use Rattle.plpb.specs.Search.{Reached, failed, reached, Turn, stuck, turned, move, flipping, call, Ending, floor, ended, none, short_found, short_none, begin, search_walk, last_find, cost_of, search}
+use Rattle.plpb.specs.Search.{failed, reached, Turn, stuck, turned, move, flipping, call, Ending, floor, ended, none, short_found, short_none, begin, search_walk, last_find, cost_of, search}
 
 -- How far a walk came, whether it ended or the numbers were gone.
 unfoldable pub mark_of : {A : Type 0} → Outcome A → Mark

@@ -32,7 +32,7 @@ use Rattle.rules.specs.declared.state.State.{State}
 use Rattle.rules.specs.Terms.{bits_in, terms_at, Readable}
 use Rattle.rules.specs.Sums.{Summed}
 use Rattle.rules.specs.Places.{standing_in}
-use Rattle.rules.specs.Rules.{EntryAt, rule_at, RuleInside, RuleReadable, lower_size, upper_size}
+use Rattle.rules.specs.Rules.{EntryAt, rule_at, RuleReadable, lower_size, upper_size}
 use Rattle.rules.specs.State.{Balanced, StateOf, Made, Seen, holds_in, shares_from, untouched, opposite, Turned}
 use Rattle.rules.proofs.Summing.{summed_small}
 use Rattle.rules.proofs.Finding.{lost_in_P, gained_beside_P, stands_zero}

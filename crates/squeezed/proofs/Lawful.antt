@@ -15,7 +15,7 @@ use Rattle.plpb.specs.Lists.{◌and◌, ◌or◌, keep, count, any, all, concat,
 use Rattle.plpb.specs.Plan.{Bound, absent, present, Term, Rule, Clause, Plan, lock_of, is_locked, is_present, at_least, at_most, negative_part, least_total, rising_above, rising}
 use Rattle.plpb.specs.Tallies.{rules_of}
 use Rattle.plpb.proofs.Lists.{count_le, length_row}
-use Rattle.format.specs.Limits.{bound_lawful, rule_lawful, term_count, lawful, weight_lawful, term_within}
+use Rattle.format.specs.Limits.{bound_lawful, rule_lawful, term_count, weight_lawful, term_within}
 use Rattle.format.specs.Limits as Limits
 use Rattle.format.proofs.Bools.{and_left, and_right, and_join, true_T}
 use Rattle.format.proofs.Bounds.{both_lawful}

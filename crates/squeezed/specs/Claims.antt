@@ -1,6 +1,6 @@
 -- What is claimed of a squeezed plan: "Unlocked assignments satisfy new and old plan alike, at costs that differ by the constant." (document 02, T-12)
 -- Assumes nothing.
-use Rattle.std.specs.Prelude.{ℕ, ◌-◌, ◌≤◌, ◌≡◌, Bool, false, List, map, T, ◌+ℤ◌, length, get_or}
+use Rattle.std.specs.Prelude.{ℕ, ◌-◌, ◌≤◌, ◌≡◌, Bool, false, map, T, ◌+ℤ◌, length, get_or}
 use Rattle.plpb.specs.Lists.{row}
 use Rattle.plpb.specs.Plan.{Plan, Assignment, value, is_locked, obeys, satisfies, cost}
 use Rattle.format.specs.Limits.{lawful}

@@ -2,7 +2,7 @@
 -- rule that no values can meet, drop a clause with a rule that all values meet, leave out the lock field, renumber the unlocked variables (all
 -- kept) by rising number".
 -- Assumes nothing.
-use Rattle.std.specs.Prelude.{ℕ, Bool, not, cond, List, [], ◌∷◌, map, ℤ, pos, negsuc, ◌+ℤ◌, ◌-ℤ◌, length}
+use Rattle.std.specs.Prelude.{ℕ, Bool, not, cond, List, [], ◌∷◌, map, ℤ, pos, ◌+ℤ◌, ◌-ℤ◌, length}
 use Rattle.plpb.specs.Lists.{◌and◌, keep, count, any, is_empty, row}
 use Rattle.plpb.specs.Plan.{Bound, absent, present, map_bound, Term, Rule, Clause, Plan, is_variable, lock_of, is_locked, at_least, at_most, least_total}
 unfoldable pub use Rattle.plpb.specs.Plan.{positive_part, greatest_total}

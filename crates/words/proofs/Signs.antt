@@ -1,17 +1,14 @@
 -- Signed 32-bit numbers as the machine holds them, by their bits.
 -- Assumes nothing.
-use Prim.Native.Nat.{ℕ, zero, suc, ◌-◌}
+use Prim.Native.Nat.{ℕ, suc, ◌-◌}
 use native.Mathlib.Omega.{arith}
-use native.Mathlib.Nat.{zero-add}
-use mathlib.Core.Path.{◌≡◌, refl, ap, ◌∙◌}
+use mathlib.Core.Path.{◌≡◌, refl, ap}
 use mathlib.Core.Bool.{Bool, true, false, cond}
 use lib.Dec.{ltb}
-use lib.IntN.{ℤ, pos, negsuc, ◌-ℤ◌}
+use lib.IntN.{ℤ, pos, negsuc}
 use mir.Syntax.{w32}
 use mir.Val.{to_z, of_z, sel}
-use borrow.Author.Tests.{le-ltb}
 use Rattle.words.specs.Words.{signed, unsigned}
-use Rattle.words.specs.Signed.{complement}
 
 -- The bits of a word and of a signed number.
 pub signed_bits : (n : ℕ) → to_z w32 n ≡ signed n
