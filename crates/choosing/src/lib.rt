@@ -33,7 +33,7 @@ pub fn choose_in(
     ensures { Chooses
         (choice_by (heuristic_of s.heuristic) (settings_of s) (plan_on footing.now) (try_on footing.now) (stamp_in marks.old)
         (of_clause footing.now c)) (numbers_of numbers.now) used (plan_on footing.now).variables result
-        × Noted marks.old marks.new }
+        × Noted (plan_on footing.now) marks.old marks.new }
 {
     let choice = Choice {
         footing: *footing,

@@ -2,7 +2,8 @@
 -- Assumes nothing.
 use Prim.Native.Nat.{ℕ, zero, suc, ◌+◌, ◌*◌, ◌-◌, ◌≤◌, ◌<◌}
 use native.Mathlib.Omega.{arith}
-use mathlib.Core.Path.{◌≡◌, refl, sym, ap, ap₂, ◌∙◌}
+use native.Mathlib.Decide.{ℕ_discrete}
+use mathlib.Core.Path.{◌≡◌, refl, sym, ap, ap₂, ◌∙◌, subst}
 use mathlib.Core.List.{List, [], ◌∷◌}
 use lib.ListN.{length, get_or, drop}
 use lib.Seq.{drop-drop}
@@ -12,8 +13,9 @@ use Rattle.plpb.specs.Choice.{choosable}
 use Rattle.words.specs.Words.{num_at, word_at}
 use Rattle.words.proofs.Words.{num_at_drop}
 use Rattle.words.specs.Writes.{Wrote}
-use Rattle.columns.specs.Layout.{weight_at, list_count_at, list_at}
-use Rattle.columns.specs.Columns.{Weighed, words_from, terms_ahead, Listed}
+use Rattle.format.specs.Limits.{max_variables}
+use Rattle.columns.specs.Layout.{hint_at, weight_at, list_count_at, list_at}
+use Rattle.columns.specs.Columns.{Weighed, Tells, Hinted, Unhinted, words_from, terms_ahead, Listed}
 
 -- Marks that are as long and the same from the weights on.
 pub record Behind (s t : List ℕ) : Type 0 where
@@ -43,17 +45,38 @@ listed_behind {p} {s} {t} b l = record {
   };
 }
 
--- What is the same behind a place before the weights.
-pub dropped_behind : (n : ℕ) {s t : List ℕ} → n ≤ 4 * weight_at 0 → length t ≡ length s → drop n t ≡ drop n s → Behind s t
-unfolding word_at
-dropped_behind n {s} {t} h l e = record {
-  size = l;
-  same = λ i k.
-      let at : 4 * i ≡ n + (4 * i - n) = omega arith in
-      ap (num_at 4 t) at ∙ sym (num_at_drop 4 n t (4 * i - n)) ∙ ap (λ u. num_at 4 u (4 * i - n)) e ∙ num_at_drop 4 n s (4 * i - n) ∙ ap (num_at 4 s) (sym at);
-}
+-- Hints that are the same.
+pub hinted_same : {p : Plan} {s t : List ℕ} → ((x : ℕ) → 1 ≤ x → x ≤ p.variables → word_at t (hint_at x) ≡ word_at s (hint_at x)) → Hinted p s → Hinted p t
+hinted_same {p} e h = record { each = λ x l m. subst (Tells p x) (sym (e x l m)) (h.each x l m) }
 
--- .. is the same behind a later one.
+-- Where none tells a side, all are those of the plan.
+pub unhinted : {p : Plan} {t : List ℕ} → p.variables ≤ max_variables → Unhinted t → Hinted p t
+unhinted few u = record { each = λ x l m h. absurd (omega (arith, u.each x l (omega arith), h)) }
+
+-- One hint that is written.
+pub hinted_wrote : {p : Plan} {x v : ℕ} {s t : List ℕ} → Wrote (hint_at x) v s t → Tells p x v → Hinted p s → Hinted p t
+hinted_wrote {p} {x} {v} {s} {t} w k h = record { each = λ y l m. at y (ℕ_discrete y x) l m }
+  where
+    at : (y : ℕ) → Dec (y ≡ x) → 1 ≤ y → y ≤ p.variables → Tells p y (word_at t (hint_at y))
+    at y (yes e) l m = rw e (subst (Tells p x) (sym w.here) k)
+    at y (no n) l m = subst (Tells p y) (sym (w.others (hint_at y) (λ e. n (omega (arith, e))))) (h.each y l m)
+
+-- What is the same behind a place: a word,
+word_dropped : (n i : ℕ) (s t : List ℕ) → n ≤ 4 * i → drop n t ≡ drop n s → word_at t i ≡ word_at s i
+unfolding word_at
+word_dropped n i s t h e =
+    let at : 4 * i ≡ n + (4 * i - n) = omega arith in
+    ap (num_at 4 t) at ∙ sym (num_at_drop 4 n t (4 * i - n)) ∙ ap (λ u. num_at 4 u (4 * i - n)) e ∙ num_at_drop 4 n s (4 * i - n) ∙ ap (num_at 4 s) (sym at)
+
+-- all from the weights on,
+pub dropped_behind : (n : ℕ) {s t : List ℕ} → n ≤ 4 * weight_at 0 → length t ≡ length s → drop n t ≡ drop n s → Behind s t
+dropped_behind n {s} {t} h l e = record { size = l; same = λ i k. word_dropped n i s t (omega arith) e }
+
+-- and the hints,
+pub dropped_hinted : {p : Plan} (n : ℕ) {s t : List ℕ} → n ≤ 4 * hint_at 1 → drop n t ≡ drop n s → Hinted p s → Hinted p t
+dropped_hinted n {s} {t} h e i = hinted_same (λ x k m. word_dropped n (hint_at x) s t (omega arith) e) i
+
+-- is the same behind a later one.
 pub dropped_more : (n m : ℕ) (s t : List ℕ) → n ≤ m → drop n t ≡ drop n s → drop m t ≡ drop m s
 dropped_more n m s t h e =
     let k : n + (m - n) ≡ m = omega arith in

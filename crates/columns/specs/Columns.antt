@@ -1,16 +1,17 @@
--- The walk's columns: of each rule K, A and B and what a flip needs to spoil it, of each entry of the order its weight, of each clause the variables that may
--- be chosen. All but the needs are worked out from the plan alone.
+-- The walk's columns: of each rule K, A and B and what a flip needs to spoil it, of each entry of the order its weight, of each variable where to look first, of
+-- each clause the variables that may be chosen. All but the needs and the hints are worked out from the plan alone.
 -- Assumes nothing.
-use Rattle.std.specs.Prelude.{ℕ, zero, suc, ◌+◌, ◌*◌, ◌-◌, ◌≤◌, ◌<◌, ◌≡◌, List, [], map, length, get_or}
+use Rattle.std.specs.Prelude.{ℕ, zero, suc, ◌+◌, ◌*◌, ◌-◌, ◌%◌, ◌≤◌, ◌<◌, ◌≡◌, false, List, [], map, length, get_or}
 use Rattle.plpb.specs.Lists.{row}
 use Rattle.plpb.specs.Plan.{Bound, absent, present, Rule, Plan}
 use Rattle.plpb.specs.Normal.{K, size, size_a, size_b}
 use Rattle.plpb.specs.Tallies.{rules_of}
 use Rattle.plpb.specs.Choice.{choosable}
 use Rattle.words.specs.Words.{word_at}
-use Rattle.order.specs.Order.{Place, order, rule_at, term_at, term_count, first_rule}
+use Rattle.order.specs.Order.{Place, order, run_end, rule_at, term_at, term_count, first_rule, has_several, place_word}
 use Rattle.order.specs.Mentions.{terms_before}
-use Rattle.columns.specs.Layout.{total_at, lower_size_at, upper_size_at, need_at, kept_size, weight_at, list_count_at, list_at, column_size}
+use Rattle.format.specs.Limits.{max_variables}
+use Rattle.columns.specs.Layout.{total_at, lower_size_at, upper_size_at, need_at, kept_size, hint_at, side_hints, weight_at, list_count_at, list_at, column_size}
 
 -- The word of what is not there: above every size and every weight.
 abbrev pub never : ℕ
@@ -54,6 +55,30 @@ no_place = record { clause = 0; rule = 0; term = 0 }
 pub record Weighed (p : Plan) (marks : List ℕ) : Type 0 where
   pub room : column_size ≤ length marks
   pub each : (k : ℕ) → k < term_count p → word_at marks (weight_at k) ≡ size (term_at p (get_or (order p) k no_place))
+
+-- A hint that tells a side: the weight of the place's term, with 2 more, so that no place's number is as large, and below it rule and sign, as the order's
+-- word has them in its 12 low bits.
+unfoldable pub hint_of : Plan → Place → ℕ
+hint_of p q = 4_096 * (size (term_at p q) + 2) + place_word p q % 4_096
+
+-- Something holds of a place of the variable's run in a clause of one rule.
+pub record AtSingle (p : Plan) (x : ℕ) (P : Place → Type 0) : Type 0 where
+  pub at : ℕ
+  pub first : run_end p (x - 1) ≤ at
+  pub last : at < run_end p x
+  pub single : has_several (get_or p.clauses (get_or (order p) at no_place).clause []) ≡ false
+  pub told : P (get_or (order p) at no_place)
+
+-- A hint of a variable is that of such a place, if it tells a side.
+abbrev pub Tells : Plan → ℕ → ℕ → Type 0
+Tells p x w = side_hints ≤ w → AtSingle p x (λ q. w ≡ hint_of p q)
+
+pub record Hinted (p : Plan) (marks : List ℕ) : Type 0 where
+  pub each : (x : ℕ) → 1 ≤ x → x ≤ p.variables → Tells p x (word_at marks (hint_at x))
+
+-- No hint tells a side.
+pub record Unhinted (marks : List ℕ) : Type 0 where
+  pub each : (x : ℕ) → 1 ≤ x → x ≤ max_variables → word_at marks (hint_at x) < side_hints
 
 -- Words in a row.
 unfoldable pub words_from : (ℕ → ℕ) → ℕ → ℕ → List ℕ

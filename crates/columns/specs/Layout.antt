@@ -24,10 +24,14 @@ kept_word_count = 6_664
 abbrev pub kept_size : ℕ
 kept_size = 26_656
 
--- Behind the choice's marks and the stamps: for each variable a place to look at first, the variables to pick among, the weights of the order's entries, how
+-- Behind the choice's marks and the stamps: for each variable a hint where to look first, the variables to pick among, the weights of the order's entries, how
 -- many variables of a clause may be chosen, and these. A clause's stand from where the terms of its first rule stand among all terms.
 abbrev pub hint_at : ℕ → ℕ
 hint_at x = 639 + x
+
+-- A hint below this names a place of the order; one from it on tells a side.
+abbrev pub side_hints : ℕ
+side_hints = 8_192
 
 abbrev pub picks_at : ℕ
 picks_at = 1_152

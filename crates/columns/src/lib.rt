@@ -17,6 +17,8 @@ pub const KEPT: usize = 4 * (NEEDS + 2 * (format::MAX_RULES + 1)); // the bytes 
 // Behind the marks, a byte for each variable, and the stamps, a word for each.
 pub const HINTS: usize = (format::MAX_VARIABLES / 4 + format::MAX_VARIABLES) - 1; // variable x has its hint at HINTS + x
 
+pub const SIDE_HINTS: u32 = 2 * 4096; // a hint below it names a place of the order; one from it on tells a side
+
 pub const PICKS: usize = HINTS + 1 + format::MAX_VARIABLES; // the variables to pick among
 
 pub const WEIGHTS: usize = PICKS + format::MAX_VARIABLES; // entry k of the order has its weight at WEIGHTS + k

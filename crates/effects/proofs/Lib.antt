@@ -5,3 +5,4 @@ pub mod Runs
 pub mod Places
 pub mod After
 pub mod Visits
+pub mod Hints

@@ -71,17 +71,17 @@ module _ {tables terms assignment tallies marks : List ℕ} {x k : ℕ} (v : Vis
   small : Small q
   small = place_small p l q there
 
-  entry : word_at tables (entry_at k) ≡ place_word p q
-  entry =
+  pub place_entry : word_at tables (entry_at k) ≡ place_word (plan_of_tables tables terms) (place_at tables terms k)
+  place_entry =
       spells_at (word_at tables) order_at (map (place_word p) (order p)) (holds_arranged p l tables terms w.ready.laid.holds).entries (place_word p no_place) k (rw (length-map (order p) (place_word p)) inside)
       ∙ get_or-map (place_word p) (order p) k no_place
 
   pub place_here : word_place (word_at tables (entry_at k)) ≡ place_at tables terms k
-  place_here = ap word_place entry ∙ word_back p q small
+  place_here = ap word_place place_entry ∙ word_back p q small
 
   pub place_several : leb 2_147_483_648 (word_at tables (entry_at k)) ≡ has_several (get_or (plan_of_tables tables terms).clauses (place_at tables terms k).clause [])
   unfolding place_word
-  place_several = ap (leb 2_147_483_648) entry ∙ several_word q small _ _
+  place_several = ap (leb 2_147_483_648) place_entry ∙ several_word q small _ _
 
   b : ℕ
   b = run_end p (x - 1)
@@ -115,7 +115,7 @@ module _ {tables terms assignment tallies marks : List ℕ} {x k : ℕ} (v : Vis
   unfolding place_word literal_true literal
   place_side {o} {y} e f =
       let byte : y ≡ cond (value a x) 1 0 = f ∙ byte_value p.variables assignment x v.going.low v.going.high (going_byte v.going) w.bits in
-      rw (e ∙ entry, byte) (side_word q small _ (is_negative t.weight) (value a x) ∙ ap (λ i. 2 * q.rule + cond (cond (is_negative t.weight) (not (value a i)) (value a i)) 1 0) (sym place_named.named))
+      rw (e ∙ place_entry, byte) (side_word q small _ (is_negative t.weight) (value a x) ∙ ap (λ i. 2 * q.rule + cond (cond (is_negative t.weight) (not (value a i)) (value a i)) 1 0) (sym place_named.named))
 
   -- the weight,
   pub place_weight : word_at marks (weight_at k) ≡ size (term_at (plan_of_tables tables terms) (place_at tables terms k))
@@ -133,6 +133,9 @@ module _ {tables terms assignment tallies marks : List ℕ} {x k : ℕ} (v : Vis
 
   pub weight_small_word : word_at marks (weight_at k) < never
   weight_small_word = omega (arith, place_weight, lawful_weight.1)
+
+  pub weight_low : word_at marks (weight_at k) ≤ 1_000_000
+  weight_low = rw place_weight lawful_weight.1
 
   -- how the variable stands, and what its flip does.
   pub place_standing : standing (lent_bits tables terms assignment) x (place_rule tables terms k).terms ≡ cond (literal_true (lent_bits tables terms assignment) (literal (term_at (plan_of_tables tables terms) (place_at tables terms k)))) (on (word_at marks (weight_at k))) (off (word_at marks (weight_at k)))

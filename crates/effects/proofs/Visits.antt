@@ -5,9 +5,9 @@ use native.Mathlib.Omega.{arith}
 use mathlib.Core.Path.{◌≡◌, ap, ◌∙◌}
 use mathlib.Core.List.{List}
 use Rattle.words.specs.Words.{word_at}
-use Rattle.order.specs.Order.{word_place}
+use Rattle.order.specs.Order.{Place, word_place}
 use Rattle.format.specs.Layout.{entry_at}
-use Rattle.columns.specs.Columns.{Weighed}
+use Rattle.columns.specs.Columns.{Weighed, AtSingle}
 use Rattle.effects.specs.declared.footing.Footing.{Footing}
 use Rattle.effects.specs.declared.run.Run.{Run}
 use Rattle.effects.specs.Footing.{plan_on, HasRun}
@@ -22,9 +22,13 @@ walkable q w = record { ready = q.ready; bits = q.bits; fresh = q.fresh; sized =
 pub going_on : (q : Footing) {marks : List ℕ} {x : ℕ} → HasRun q marks x → Going q.tables.now q.terms.now q.assignment.now q.tallies.now marks x
 going_on q h = record { kept = walkable q h.weighed; low = h.low; high = h.high }
 
--- and a place of a run is visited.
+-- and a place of a run is visited,
 pub visited : (r : Run) {k : ℕ} → Inside r k → Visited r.footing.now.tables.now r.footing.now.terms.now r.footing.now.assignment.now r.footing.now.tallies.now r.marks.now r.x k
 visited r i = record { going = r.going; first = omega (arith, i.0, r.begins); last = omega (arith, i.1, r.ends) }
+
+-- as the place is that a hint tells of.
+pub visited_single : (q : Footing) {marks : List ℕ} {x : ℕ} {P : Place → Type 0} → HasRun q marks x → (h : AtSingle (plan_on q) x P) → Visited q.tables.now q.terms.now q.assignment.now q.tallies.now marks x h.at
+visited_single q r h = record { going = going_on q r; first = h.first; last = h.last }
 
 -- The clause that a place's word tells.
 pub clause_here : {tables terms assignment tallies marks : List ℕ} {x k w c : ℕ} → Visited tables terms assignment tallies marks x k → w ≡ word_at tables (entry_at k) → c ≡ (word_place w).clause → c ≡ (place_at tables terms k).clause

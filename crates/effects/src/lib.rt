@@ -3,6 +3,7 @@
 #![tactic(auto)]
 
 mod footing;
+mod hint;
 mod run;
 
 ghost use Rattle.std.specs.Prelude.{◌≡◌, cond, ◌+◌, ◌*◌, ◌≤◌, length};

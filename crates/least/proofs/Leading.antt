@@ -18,7 +18,7 @@ use Rattle.words.specs.Words.{word_at}
 use Rattle.words.specs.Writes.{Wrote}
 use Rattle.columns.specs.Layout.{pick_at, column_size}
 use Rattle.picks.specs.Picks.{Picks, Picked}
-use Rattle.picks.proofs.Noting.{noted_self, noted_more, wrote_noted, picks_none, with_more_lem}
+use Rattle.picks.proofs.Noting.{noted_self, noted_more, pick_noted, picks_none, with_more_lem}
 use Rattle.least.specs.declared.Best.{Best}
 use Rattle.least.specs.Best.{place_for, Offered}
 
@@ -40,11 +40,11 @@ module _ (p : Plan) (a : Assignment) where
 -- Those of some variables that have the least count are picked.
 pub record Leading (p : Plan) (a : Assignment) (xs s t : List ℕ) (b : Best) : Type 0 where
   pub least : b.least ≡ least_break p a xs
-  pub picked : Picked (with_break p a b.least xs) s t b.count
+  pub picked : Picked p (with_break p a b.least xs) s t b.count
 
 pub leading_none : (p : Plan) (a : Assignment) (s : List ℕ) {b : Best} → b.least ≡ suc cap → b.count ≡ 0 → Leading p a [] s s b
 unfolding least_break with_break keep
-leading_none p a s e f = record { least = e; picked = record { counted = f; picks = picks_none s; noted = noted_self s } }
+leading_none p a s e f = record { least = e; picked = record { counted = f; picks = picks_none s; noted = noted_self p s } }
 
 -- One variable comes behind others that were picked.
 pushed : (ys : List ℕ) {t : List ℕ} {x : ℕ} → ((i : ℕ) → i < length ys → word_at t (pick_at i) ≡ get_or ys i 0) → word_at t (pick_at (length ys)) ≡ x → length ys < 512 → Picks (ys ++ (x ∷ [])) t
@@ -59,7 +59,7 @@ pushed ys {t} {x} h e l = record { few = omega (arith, size); each = λ i k. at 
         let same : i ≡ length ys = omega (arith, size, k) in
         ap (λ j. word_at t (pick_at j)) same ∙ e ∙ sym (get_or-append_seam ys x [] 0) ∙ ap (λ j. get_or (ys ++ (x ∷ [])) j 0) (sym same)
 
-module _ (p : Plan) (a : Assignment) (xs : List ℕ) (d : ℕ) (h : d < length xs) {s t u : List ℕ} {b r : Best} (g : Leading p a (take d xs) s t b) (few : b.count < 512) (o : Offered (capped_break p a (get_or xs d 0)) (get_or xs d 0) b t u r) where
+module _ (p : Plan) (a : Assignment) (xs : List ℕ) (d : ℕ) (h : d < length xs) {s t u : List ℕ} {b r : Best} (g : Leading p a (take d xs) s t b) (few : b.count < 512) (o : Offered p (capped_break p a (get_or xs d 0)) (get_or xs d 0) b t u r) where
   x : ℕ
   x = get_or xs d 0
 
@@ -70,7 +70,7 @@ module _ (p : Plan) (a : Assignment) (xs : List ℕ) (d : ℕ) (h : d < length x
   next_least = o.least ∙ ap (λ m. min m (capped_break p a (get_or xs d 0))) g.least ∙ sym (least_more p a d xs h)
 
   -- Above the least: nothing is picked.
-  above : b.least < n → Picked (with_break p a r.least (take (suc d) xs)) s u r.count
+  above : b.least < n → Picked p (with_break p a r.least (take (suc d) xs)) s u r.count
   unfolding n
   above l =
       let same : r.least ≡ b.least = o.least ∙ omega arith in
@@ -84,7 +84,7 @@ module _ (p : Plan) (a : Assignment) (xs : List ℕ) (d : ℕ) (h : d < length x
       })
 
   -- Below it: it is the first pick.
-  below : n < b.least → Picked (with_break p a r.least (take (suc d) xs)) s u r.count
+  below : n < b.least → Picked p (with_break p a r.least (take (suc d) xs)) s u r.count
   unfolding n place_for
   below l =
       let same : r.least ≡ n = o.least ∙ omega arith in
@@ -98,7 +98,7 @@ module _ (p : Plan) (a : Assignment) (xs : List ℕ) (d : ℕ) (h : d < length x
       })
 
   -- At it: it comes behind the others.
-  equal : n ≡ b.least → Picked (with_break p a r.least (take (suc d) xs)) s u r.count
+  equal : n ≡ b.least → Picked p (with_break p a r.least (take (suc d) xs)) s u r.count
   unfolding n place_for
   equal e =
       let same : r.least ≡ b.least = o.least ∙ omega arith in
@@ -118,7 +118,7 @@ module _ (p : Plan) (a : Assignment) (xs : List ℕ) (d : ℕ) (h : d < length x
   unfolding n
   leading_next = record { least = next_least; picked = at (dec_lt b.least n) (dec_lt n b.least) }
     where
-      at : Dec (b.least < n) → Dec (n < b.least) → Picked (with_break p a r.least (take (suc d) xs)) s u r.count
+      at : Dec (b.least < n) → Dec (n < b.least) → Picked p (with_break p a r.least (take (suc d) xs)) s u r.count
       at (yes l) m = above l
       at (no k) (yes l) = below l
       at (no k) (no l) = equal (omega (arith, k, l))
@@ -133,17 +133,17 @@ place_few n b = at (ltb n b.least)
     at true = omega arith
     at false = omega arith
 
-pub offered_in : {n x v at : ℕ} {b r : Best} {s t : List ℕ} → n ≤ b.least → at ≡ place_for n b → b.count < 512 → column_size ≤ length s → Wrote (pick_at at) v s t → v ≡ x → r.least ≡ n → r.count ≡ at + 1 → Offered n x b s t r
+pub offered_in : {p : Plan} {n x v at : ℕ} {b r : Best} {s t : List ℕ} → p.variables ≤ 512 → n ≤ b.least → at ≡ place_for n b → b.count < 512 → column_size ≤ length s → Wrote (pick_at at) v s t → v ≡ x → r.least ≡ n → r.count ≡ at + 1 → Offered p n x b s t r
 unfolding place_for
-offered_in {n} {x} {v} {at} {b} {r} {s} {t} h e few room w f l k = record {
+offered_in {p} {n} {x} {v} {at} {b} {r} {s} {t} most h e few room w f l k = record {
   least = l ∙ omega arith;
   count = rw (le-ltb b.least n h) (k ∙ ap (λ m. m + 1) e);
   kept = λ m i z.
       let same : at ≡ b.count = e ∙ ap (λ u. cond u 0 b.count) (le-ltb n b.least m) in
       w.others (pick_at i) (λ q. omega arith);
   new = λ m. ap (λ i. word_at t (pick_at i)) (sym e) ∙ w.here ∙ f;
-  noted = wrote_noted w (omega arith) (omega (arith, e, place_few n b)) room;
+  noted = pick_noted w (omega arith) (omega (arith, e, place_few n b)) room most;
 }
 
-pub offered_same : (p : Plan) (a : Assignment) {x y : ℕ} {b r : Best} {s t : List ℕ} → x ≡ y → Offered (capped_break p a x) x b s t r → Offered (capped_break p a y) y b s t r
-offered_same p a {b} {r} {s} {t} e o = subst (λ z. Offered (capped_break p a z) z b s t r) e o
+pub offered_same : (p : Plan) (a : Assignment) {x y : ℕ} {b r : Best} {s t : List ℕ} → x ≡ y → Offered p (capped_break p a x) x b s t r → Offered p (capped_break p a y) y b s t r
+offered_same p a {b} {r} {s} {t} e o = subst (λ z. Offered p (capped_break p a z) z b s t r) e o

@@ -13,9 +13,9 @@ ghost use Rattle.least.specs.Best.{place_for, Offered};
 
 use columns::PICKS;
 use counting::count::Count;
-use effects::{Footing, Run};
+use effects::Footing;
 use picks::{Choice, list_of};
-use spoiling::break_of;
+use spoiling::break_by_hint;
 use words::{index, narrow, write_word};
 
 // The least count so far, and how many have it. None so far is one above the cap: an `Option` would be opened again for the limit that each count is given.
@@ -34,12 +34,11 @@ fn place_for(n: u64, best: Best) -> usize
 // The variable that word i of the marks lists is offered.
 fn offer(footing: &Footing<'_>, marks: &mut [u8], i: usize, best: Best) -> Best
     requires { Triable footing.now marks.old i best.count }
-    ensures { Offered (capped_break (plan_on footing.now) (bits_on footing.now) (word_at marks.old i)) (word_at marks.old i) best marks.old
-        marks.new result }
+    ensures { Offered (plan_on footing.now) (capped_break (plan_on footing.now) (bits_on footing.now) (word_at marks.old i))
+        (word_at marks.old i) best marks.old marks.new result }
 {
     let x = index(marks, i);
-    let run = Run::of(footing, marks, x);
-    let Some(n) = break_of(&run, best.least) else {
+    let Some(n) = break_by_hint(footing, marks, x, best.least) else {
         return best;
     };
     let at = place_for(n, best);
@@ -53,7 +52,7 @@ fn offer(footing: &Footing<'_>, marks: &mut [u8], i: usize, best: Best) -> Best
 // Writes those of the clause's variables that may be chosen whose break count is the least to the picks, in order; answers how many.
 pub fn least_of(choice: &Choice<'_>, marks: &mut [u8]) -> usize
     requires { Marked choice.now marks.old }
-    ensures { Picked
+    ensures { Picked (plan choice.now)
         (with_break (plan choice.now) (bits choice.now) (least_break (plan choice.now) (bits choice.now) (variables choice.now))
         (variables choice.now)) marks.old marks.new result }
 {

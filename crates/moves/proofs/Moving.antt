@@ -48,8 +48,8 @@ use Rattle.numbers.proofs.Finding.{zero_places, clause_found, clause_within}
 use Rattle.numbers.proofs.Runs.{bind_ends, bind_short, pick_from_taken, pick_from_short, empty_by_length, turning_stuck, turning_made, turning_short}
 use Rattle.picking.specs.Outcome.{Chosen, outcome_of, used_by, Among, Chooses}
 use Rattle.columns.specs.Layout.{column_size, kept_size, list_count_at, hint_at, weight_at}
-use Rattle.columns.specs.Columns.{Weighed, Listed}
-use Rattle.columns.proofs.Marks.{Behind, dropped_behind, dropped_more, behind_more, wrote_behind, weighed_behind, listed_behind}
+use Rattle.columns.specs.Columns.{Weighed, Hinted, Listed}
+use Rattle.columns.proofs.Marks.{Behind, dropped_behind, dropped_more, behind_more, wrote_behind, weighed_behind, hinted_same, listed_behind}
 use Rattle.keeping.specs.Flip.{Keepable, Kept}
 use Rattle.effects.specs.declared.footing.Footing.{Footing}
 use Rattle.effects.specs.Footing.{plan_on}
@@ -84,8 +84,8 @@ stamp_before s t x h e =
     let i = 4 * stamp_at x in
     sym (num_at_take 4 (4 * hint_at 1) t i (omega arith)) ∙ ap (λ u. num_at 4 u i) e ∙ num_at_take 4 (4 * hint_at 1) s i (omega arith)
 
-noted_spared : {s t : List ℕ} → Noted s t → Spared s t
-noted_spared {s} {t} n = record {
+noted_spared : {p : Plan} {s t : List ℕ} → Noted p s t → Spared s t
+noted_spared {p} {s} {t} n = record {
   size = n.size;
   stamps = λ x l h. stamp_before s t x h n.before;
   behind = (dropped_behind (4 * weight_at 0) (omega arith) n.size n.behind).same;
@@ -110,7 +110,7 @@ module _ {walk : Walk ℕ} {ns : List ℕ} {used n : ℕ} {r : Result Chosen Sho
     gone_uses = let u : used_by r ≡ z.used = ap used_by e in (omega (arith, h.uses), omega (arith, h.within))
 
 module _ {tables terms : List ℕ} {w : Work} (k : Walking tables terms w) where
-  pub keepable : {x : ℕ} {marks : List ℕ} → (1 ≤ x) × (x ≤ (plan_of_tables tables terms).variables) → Noted w.marks marks → Keepable tables terms marks w.assignment w.tallies x
+  pub keepable : {x : ℕ} {marks : List ℕ} → (1 ≤ x) × (x ≤ (plan_of_tables tables terms).variables) → Noted (plan_of_tables tables terms) w.marks marks → Keepable tables terms marks w.assignment w.tallies x
   keepable b n = let o = noted_spared n in record {
     flip = record { ready = k.ready; bits = k.bits; low = b.0; high = b.1; fresh = k.fresh };
     sized = k.prepared.sized;
@@ -123,10 +123,10 @@ module _ {tables terms : List ℕ} {w : Work} (k : Walking tables terms w) where
   some_listed {c} h e = e ∙ (k.prepared.listed.each c (rw (← clauses_word tables terms k.ready.laid) h)).counted
 
 -- There is one.
-pub to_choose : {q : Footing} {marks numbers : List ℕ} {c some used : ℕ} → Weighed (plan_on q) marks → Listed (plan_on q) marks → c < word_at q.tables.now 1 → some ≡ word_at marks (list_count_at c) → (some ≡ 0 → ⊥) → used ≤ length numbers / 4 → ToChoose q marks c numbers used
-to_choose {q} {c = c} w l h e n u =
+pub to_choose : {q : Footing} {marks numbers : List ℕ} {c some used : ℕ} → Weighed (plan_on q) marks → Hinted (plan_on q) marks → Listed (plan_on q) marks → c < word_at q.tables.now 1 → some ≡ word_at marks (list_count_at c) → (some ≡ 0 → ⊥) → used ≤ length numbers / 4 → ToChoose q marks c numbers used
+to_choose {q} {c = c} w i l h e n u =
     let there : c < length (plan_on q).clauses = rw (← clauses_word q.tables.now q.terms.now q.ready.laid) h in
-    record { pickable = record { weighed = w; listed = l; there = there }; some = omega (arith, e ∙ (l.each c there).counted, n); listed = u }
+    record { pickable = record { weighed = w; hinted = i; listed = l; there = there }; some = omega (arith, e ∙ (l.each c there).counted, n); listed = u }
 
 module _ {tables terms : List ℕ} (numbers : List ℕ) (used c : ℕ) {w : Work} (k : Walking tables terms w) {some : ℕ}
     (m : some ≡ length (choosable (plan_of_tables tables terms) (get_or (plan_of_tables tables terms).clauses c []))) where
@@ -156,7 +156,7 @@ module _ {tables terms : List ℕ} (numbers : List ℕ) (used c : ℕ) {w : Work
 
   module _ (s : Settings) (n : some ≡ 0 → ⊥) {r : Result Chosen Short}
       (h : Chooses (choice_by s.heuristic s (plan_of_tables tables terms) (try_in tables terms [] w) (stamp_in w.marks) (choosable (plan_of_tables tables terms) (get_or (plan_of_tables tables terms).clauses c []))) (numbers_of numbers) used (plan_of_tables tables terms).variables r)
-      {marks : List ℕ} (noted : Noted w.marks marks) where
+      {marks : List ℕ} (noted : Noted (plan_of_tables tables terms) w.marks marks) where
     o : Spared w.marks marks
     o = noted_spared noted
 
@@ -191,7 +191,12 @@ module _ {tables terms : List ℕ} (numbers : List ℕ) (used c : ℕ) {w : Work
         let bits : bits_in tables terms v ≡ flip (bits_in tables terms w) x =
         ap (bits_of q.variables) a ∙ turned_bits q.variables w.assignment x k.bits k.ready.bytes b.0 b.1 in
         let on : Behind w.marks v.marks = behind_more behind (wrote_behind (omega (arith, b.1, few)) g) in
-        let kept : Prepared tables terms v = record { sized = y.sized; weighed = weighed_behind on k.prepared.weighed; listed = listed_behind on k.prepared.listed } in
+        let kept : Prepared tables terms v = record {
+          sized = y.sized;
+          weighed = weighed_behind on k.prepared.weighed;
+          hinted = hinted_same (λ i l m. g.others (hint_at i) (λ d. omega (arith, b.1, few))) (noted.hints k.prepared.hinted);
+          listed = listed_behind on k.prepared.listed;
+        } in
         record {
           reaches = λ flips t made. record {
             next = x ∷ flips;
@@ -232,7 +237,7 @@ module _ {tables terms : List ℕ} (numbers : List ℕ) (used c : ℕ) {w : Work
             stamped = tt;
           };
           walking = tt;
-          prepared = record { sized = rw y k.prepared.sized; weighed = rw g (weighed_behind behind k.prepared.weighed); listed = rw g (listed_behind behind k.prepared.listed) };
+          prepared = record { sized = rw y k.prepared.sized; weighed = rw g (weighed_behind behind k.prepared.weighed); hinted = rw g (noted.hints k.prepared.hinted); listed = rw g (listed_behind behind k.prepared.listed) };
           uses = u.0;
           within = omega (arith, u.1, length_numbers_of numbers);
           beyond = record { assignment = ap (drop q.variables) a; tallies = ap (drop kept_size) y; marks = ap (drop column_size) g ∙ o.beyond };

@@ -13,7 +13,7 @@ use Rattle.stamps.specs.Stamps.{Stamped}
 use Rattle.lending.specs.Work.{Work, Beyond}
 use Rattle.tallies.specs.Layout.{tally_size, bits_of, are_bits, tally_bytes}
 use Rattle.recount.specs.Core.{Ready}
-use Rattle.columns.specs.Columns.{Listed, Needed, Sized, Weighed}
+use Rattle.columns.specs.Columns.{Hinted, Listed, Needed, Sized, Weighed}
 use Rattle.numbers.specs.Numbers.{numbers_of}
 use Rattle.moves.specs.declared.Stop.{Stop}
 use Rattle.moves.specs.declared.Stop.TheVariants as stop
@@ -30,10 +30,11 @@ bits_in tables terms w = bits_of (plan_of_tables tables terms).variables w.assig
 abbrev pub try_in : List ℕ → List ℕ → List ℕ → Work → Try
 try_in tables terms flips w = record { bits = bits_in tables terms w; flips = flips }
 
--- What the walk keeps of the plan alone.
+-- What the walk keeps of the plan alone, and the hints.
 pub record Prepared (tables terms : List ℕ) (w : Work) : Type 0 where
   pub sized : Sized (plan_of_tables tables terms) w.tallies
   pub weighed : Weighed (plan_of_tables tables terms) w.marks
+  pub hinted : Hinted (plan_of_tables tables terms) w.marks
   pub listed : Listed (plan_of_tables tables terms) w.marks
 
 -- A try has begun: the tallies are those of the assignment, and what is kept is right.

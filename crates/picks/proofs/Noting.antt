@@ -22,9 +22,9 @@ use Rattle.format.specs.Tables.{plan_of_tables}
 use Rattle.tallies.proofs.Tallied.{get_d_map}
 use Rattle.recount.specs.Core.{Laid}
 use Rattle.recount.proofs.Laid.{parts}
-use Rattle.columns.specs.Layout.{hint_at, pick_at, weight_at, list_at, column_size}
-use Rattle.columns.specs.Columns.{words_from, terms_ahead, Weighed, Listed}
-use Rattle.columns.proofs.Marks.{Behind, weighed_behind, listed_behind}
+use Rattle.columns.specs.Layout.{hint_at, picks_at, pick_at, weight_at, list_at, column_size}
+use Rattle.columns.specs.Columns.{words_from, terms_ahead, Weighed, Tells, Listed}
+use Rattle.columns.proofs.Marks.{Behind, weighed_behind, hinted_same, hinted_wrote, listed_behind}
 use Rattle.effects.specs.declared.footing.Footing.{Footing}
 use Rattle.picks.specs.declared.choice.Choice.{Choice}
 use Rattle.picks.specs.Picks.{Noted, Picks, Pickable, Triable, Tried}
@@ -34,30 +34,36 @@ use Rattle.format.specs.Layout.{term_room}
 
 -- ---- nothing else changes
 
-pub noted_self : (s : List ℕ) → Noted s s
-noted_self s = record { size = refl; before = refl; behind = refl }
+pub noted_self : (p : Plan) (s : List ℕ) → Noted p s s
+noted_self p s = record { size = refl; before = refl; behind = refl; hints = λ h. h }
 
-pub noted_more : {s t u : List ℕ} → Noted s t → Noted t u → Noted s u
-noted_more a b = record { size = b.size ∙ a.size; before = b.before ∙ a.before; behind = b.behind ∙ a.behind }
+pub noted_more : {p : Plan} {s t u : List ℕ} → Noted p s t → Noted p t u → Noted p s u
+noted_more a b = record { size = b.size ∙ a.size; before = b.before ∙ a.before; behind = b.behind ∙ a.behind; hints = λ h. b.hints (a.hints h) }
 
-pub wrote_noted : {i v : ℕ} {s t : List ℕ} → Wrote i v s t → hint_at 1 ≤ i → i < weight_at 0 → column_size ≤ length s → Noted s t
-wrote_noted w h l room = record { size = w.size; before = w.before (4 * hint_at 1) (omega arith); behind = w.beyond (4 * weight_at 0) (omega arith) (omega arith) }
+-- A pick that is written.
+pub pick_noted : {p : Plan} {i v : ℕ} {s t : List ℕ} → Wrote i v s t → picks_at ≤ i → i < weight_at 0 → column_size ≤ length s → p.variables ≤ 512 → Noted p s t
+pick_noted w h l room few = record {
+  size = w.size;
+  before = w.before (4 * hint_at 1) (omega arith);
+  behind = w.beyond (4 * weight_at 0) (omega arith) (omega arith);
+  hints = hinted_same (λ x k m. w.others (hint_at x) (λ e. omega arith));
+}
 
-word_behind : {s t : List ℕ} → Noted s t → (i : ℕ) → weight_at 0 ≤ i → word_at t i ≡ word_at s i
+word_behind : {p : Plan} {s t : List ℕ} → Noted p s t → (i : ℕ) → weight_at 0 ≤ i → word_at t i ≡ word_at s i
 unfolding word_at
-word_behind {s} {t} n i h =
+word_behind {p} {s} {t} n i h =
     let back : 4 * weight_at 0 + (4 * i - 4 * weight_at 0) ≡ 4 * i = omega arith in
     ap (num_at 4 t) (sym back) ∙ sym (num_at_drop 4 (4 * weight_at 0) t (4 * i - 4 * weight_at 0))
     ∙ ap (λ u. num_at 4 u (4 * i - 4 * weight_at 0)) n.behind
     ∙ num_at_drop 4 (4 * weight_at 0) s (4 * i - 4 * weight_at 0) ∙ ap (num_at 4 s) back
 
-noted_behind : {s t : List ℕ} → Noted s t → Behind s t
+noted_behind : {p : Plan} {s t : List ℕ} → Noted p s t → Behind s t
 noted_behind n = record { size = n.size; same = word_behind n }
 
-pub noted_weighed : {p : Plan} {s t : List ℕ} → Noted s t → Weighed p s → Weighed p t
+pub noted_weighed : {p : Plan} {s t : List ℕ} → Noted p s t → Weighed p s → Weighed p t
 noted_weighed n w = weighed_behind (noted_behind n) w
 
-pub noted_listed : {p : Plan} {s t : List ℕ} → Noted s t → Listed p s → Listed p t
+pub noted_listed : {p : Plan} {s t : List ℕ} → Noted p s t → Listed p s → Listed p t
 noted_listed n l = listed_behind (noted_behind n) l
 
 -- ---- picks
@@ -66,7 +72,7 @@ pub picks_none : (t : List ℕ) → Picks [] t
 picks_none t = record { few = omega arith; each = λ i h. absurd (omega arith) }
 
 -- Those picked before stay, and one more comes behind them where the test is met.
-pub picks_tried : (b : Bool) {ys s t : List ℕ} {x count r : ℕ} → Picks ys s → count ≡ length ys → count < max_variables → Tried b x count s t r → (r ≡ length (ys ++ cond b (x ∷ []) [])) × Picks (ys ++ cond b (x ∷ []) []) t
+pub picks_tried : {p : Plan} (b : Bool) {ys s t : List ℕ} {x count r : ℕ} → Picks ys s → count ≡ length ys → count < max_variables → Tried p b x count s t r → (r ≡ length (ys ++ cond b (x ∷ []) [])) × Picks (ys ++ cond b (x ∷ []) []) t
 picks_tried true {ys} {s} {t} {x} {count} {r} p e l d =
     (omega (arith, d.counted, size), record { few = omega (arith, size); each = each })
   where
@@ -115,11 +121,16 @@ module _ {tables terms : List ℕ} (l : Laid tables terms) {c : ℕ} (h : c < le
 
 -- ---- one variable tried
 
-module _ {x v : ℕ} {s t : List ℕ} (h : Wrote (hint_at x) v s t) (low : 1 ≤ x) (few : x ≤ 512) (room : column_size ≤ length s) where
-  hint_noted : Noted s t
-  hint_noted = wrote_noted h (omega arith) (omega arith) room
+module _ {p : Plan} {x v : ℕ} {s t : List ℕ} (h : Wrote (hint_at x) v s t) (tells : Tells p x v) (low : 1 ≤ x) (few : x ≤ 512) (most : p.variables ≤ 512) (room : column_size ≤ length s) where
+  hint_noted : Noted p s t
+  hint_noted = record {
+    size = h.size;
+    before = h.before (4 * hint_at 1) (omega arith);
+    behind = h.beyond (4 * weight_at 0) (omega arith) (omega arith);
+    hints = hinted_wrote h tells;
+  }
 
-  pub tried_not : {b : Bool} (y : ℕ) {count : ℕ} → b ≡ false → Tried b y count s t count
+  pub tried_not : {b : Bool} (y : ℕ) {count : ℕ} → b ≡ false → Tried p b y count s t count
   tried_not y e = record {
     counted = rw e refl;
     kept = λ i l. h.others (pick_at i) (λ z. omega arith);
@@ -127,12 +138,12 @@ module _ {x v : ℕ} {s t : List ℕ} (h : Wrote (hint_at x) v s t) (low : 1 ≤
     noted = hint_noted;
   }
 
-  pub tried_so : {b : Bool} (count : ℕ) {u : List ℕ} {y z : ℕ} → b ≡ true → Wrote (pick_at count) z t u → count < max_variables → z ≡ y → Tried b y count s u (count + 1)
+  pub tried_so : {b : Bool} (count : ℕ) {u : List ℕ} {y z : ℕ} → b ≡ true → Wrote (pick_at count) z t u → count < max_variables → z ≡ y → Tried p b y count s u (count + 1)
   tried_so count e w l f = record {
     counted = rw e refl;
     kept = λ i k. w.others (pick_at i) (λ z. omega arith) ∙ h.others (pick_at i) (λ z. omega arith);
     new = λ q. w.here ∙ f;
-    noted = noted_more hint_noted (wrote_noted w (omega arith) (omega arith) (rw h.size room));
+    noted = noted_more hint_noted (pick_noted w (omega arith) (omega arith) (rw h.size room) most);
   }
 
 -- ---- a clause's list gone through
@@ -153,7 +164,7 @@ module _ {q : Footing} {s : List ℕ} {c : ℕ} (k : Pickable q s c) where
   pub list_ends : terms_ahead (plan_of_tables q.tables.now q.terms.now) c + length (choosable (plan_of_tables q.tables.now q.terms.now) (get_or (plan_of_tables q.tables.now q.terms.now).clauses c [])) ≤ term_room
   list_ends = list_inside laid k.there
 
-  module _ {t : List ℕ} (n : Noted s t) {i first end : ℕ} (e : first ≡ list_at (terms_ahead (plan_of_tables q.tables.now q.terms.now) c)) (f : end ≡ first + length (choosable (plan_of_tables q.tables.now q.terms.now) (get_or (plan_of_tables q.tables.now q.terms.now).clauses c []))) (low : first ≤ i) (high : i < end) where
+  module _ {t : List ℕ} (n : Noted (plan_of_tables q.tables.now q.terms.now) s t) {i first end : ℕ} (e : first ≡ list_at (terms_ahead (plan_of_tables q.tables.now q.terms.now) c)) (f : end ≡ first + length (choosable (plan_of_tables q.tables.now q.terms.now) (get_or (plan_of_tables q.tables.now q.terms.now).clauses c []))) (low : first ≤ i) (high : i < end) where
     d : ℕ
     d = i - first
 
@@ -169,7 +180,7 @@ module _ {q : Footing} {s : List ℕ} {c : ℕ} (k : Pickable q s c) where
     list_triable l =
         let within = choosable_within plan (get_or plan.clauses c []) (i - first) inside in
         record {
-          run = record { weighed = noted_weighed n k.weighed; low = rw list_here within.0; high = rw list_here within.1 };
+          run = record { weighed = noted_weighed n k.weighed; hinted = n.hints k.hinted; low = rw list_here within.0; high = rw list_here within.1 };
           inside = omega (arith, n.size, k.weighed.room, list_ends, e, f);
           few = omega (arith, list_few, inside);
         }
@@ -181,4 +192,4 @@ listed q c e l = rw (e.0, e.1) at l
 
 -- The marks of a clause to choose of are those that its list is picked from.
 pub pickable : (q : Choice) {marks : List ℕ} → Marked q marks → Pickable q.footing marks q.clause
-pickable q m = record { weighed = m.weighed; listed = m.listed; there = q.there }
+pickable q m = record { weighed = m.weighed; hinted = m.hinted; listed = m.listed; there = q.there }

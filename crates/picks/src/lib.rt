@@ -38,8 +38,8 @@ pub fn list_of(t: &Tables<'_>, marks: &[u8], c: usize) -> Range<usize>
 // picks in them, the weights and the lists, is lent too.
 fn free_one(footing: &Footing<'_>, marks: &mut [u8], i: usize, count: usize) -> usize
     requires { Triable footing.now marks.old i count }
-    ensures { Tried (eqb (capped_break (plan_on footing.now) (bits_on footing.now) (word_at marks.old i)) 0) (word_at marks.old i) count
-        marks.old marks.new result }
+    ensures { Tried (plan_on footing.now) (eqb (capped_break (plan_on footing.now) (bits_on footing.now) (word_at marks.old i)) 0)
+        (word_at marks.old i) count marks.old marks.new result }
 {
     let x = index(marks, i);
     if !is_free(footing, marks, x) {
@@ -52,7 +52,8 @@ fn free_one(footing: &Footing<'_>, marks: &mut [u8], i: usize, count: usize) -> 
 // Writes those of the clause's variables that may be chosen whose flip breaks nothing to the picks, in order; answers how many.
 pub fn free_of(choice: &Choice<'_>, marks: &mut [u8]) -> usize
     requires { Marked choice.now marks.old }
-    ensures { Picked (with_break (plan_of choice.now) (bits choice.now) 0 (variables choice.now)) marks.old marks.new result }
+    ensures { Picked (plan_of choice.now) (with_break (plan_of choice.now) (bits choice.now) 0 (variables choice.now)) marks.old
+        marks.new result }
 {
     let footing = &choice.footing;
     let mut count: usize = 0;

@@ -17,7 +17,7 @@ pub mod parts;
 // each constant is the lowest bit of its part.
 const RULE: u32 = 2;
 
-const CLAUSE: u32 = 4096;
+pub const CLAUSE: u32 = 4096;
 
 const TERM: u32 = 4194304;
 

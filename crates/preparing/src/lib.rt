@@ -7,7 +7,7 @@
 ghost use Rattle.std.specs.Prelude.{◌≤◌, length};
 ghost use Rattle.recount.specs.Plans.{plan};
 ghost use Rattle.columns.specs.Layout.{column_size, column_word_count, hint_at, kept_size, need_at, picks_at, total_at};
-ghost use Rattle.columns.specs.Columns.{Listed, Sized, Weighed};
+ghost use Rattle.columns.specs.Columns.{Hinted, Listed, Sized, Unhinted, Weighed};
 ghost use Rattle.columns.specs.Frames.{Only};
 
 use columns::{HINTS, PICKS};
@@ -16,10 +16,10 @@ use recount::tables::Tables;
 use sizing::size_rules;
 use weighing::weigh;
 
-// No variable has a place to look at first: what stood in the lent bytes would do as well, but then the time of a search would hang on it.
+// No variable has a hint that tells a side: each names the order's first place, which is looked at as any other.
 fn clear_hints(marks: &mut [u8])
     requires { column_size ≤ length marks.old }
-    ensures { Only (hint_at 1) picks_at marks.old marks.new }
+    ensures { Unhinted marks.new × Only (hint_at 1) picks_at marks.old marks.new }
 {
     marks[4 * (HINTS + 1)..4 * PICKS].fill(0);
 }
@@ -28,6 +28,7 @@ fn clear_hints(marks: &mut [u8])
 pub fn prepare(t: &Tables<'_>, tallies: &mut [u8], marks: &mut [u8])
     requires { (kept_size ≤ length tallies.old) × (column_size ≤ length marks.old) }
     ensures { Sized (plan t.now) tallies.new × Weighed (plan t.now) marks.new × Listed (plan t.now) marks.new
+        × Hinted (plan t.now) marks.new
         × Only (total_at 0) (need_at 0) tallies.old tallies.new
         × Only (hint_at 1) column_word_count marks.old marks.new }
 {

@@ -65,11 +65,11 @@ list_words {p} {t} {c} k h e = ap (words_from (word_at t) (list_at (terms_ahead 
 
 -- ---- a pick among those picked out
 
-module _ {numbers marks t ys : List ℕ} {used r : ℕ} (room : column_size ≤ length marks) (h : Picked ys marks t r) (some : 0 < length ys) (listed : used ≤ length numbers / 4) where
+module _ {p : Plan} {numbers marks t ys : List ℕ} {used r : ℕ} (room : column_size ≤ length marks) (h : Picked p ys marks t r) (some : 0 < length ys) (listed : used ≤ length numbers / 4) where
   pub picks_pickable : PickListed numbers used t picks_at r
   picks_pickable = record { some = omega (arith, h.counted, some); few = omega (arith, h.counted, h.picks.few); inside = omega (arith, h.counted, h.picks.few); room = rw h.noted.size room; listed = listed }
 
-pub picks_chosen : {marks t ys ns : List ℕ} {used r n : ℕ} {q : Result Chosen Short} → Picked ys marks t r → T (all (is_one n) ys)
+pub picks_chosen : {p : Plan} {marks t ys ns : List ℕ} {used r n : ℕ} {q : Result Chosen Short} → Picked p ys marks t r → T (all (is_one n) ys)
     → ((m : ℕ) → T (all (is_one m) (words_from (word_at t) picks_at r)) → Chooses (pick_from 0 (words_from (word_at t) picks_at r)) ns used m q)
     → Chooses (pick_from 0 ys) ns used n q
 picks_chosen {ns = ns} {used = used} {n = n} {q = q} h one f =
@@ -93,9 +93,9 @@ module _ {q : Choice} {marks numbers : List ℕ} {used : ℕ} (k : Choosable q m
 
 -- ---- the list behind a choice that came to nothing
 
-pub still_to_choose : {q : Choice} {s t numbers : List ℕ} {used after : ℕ} → Noted s t → after ≤ length numbers / 4 → Choosable q s numbers used → Choosable q t numbers after
+pub still_to_choose : {q : Choice} {s t numbers : List ℕ} {used after : ℕ} → Noted (plan q) s t → after ≤ length numbers / 4 → Choosable q s numbers used → Choosable q t numbers after
 still_to_choose o l k = record {
-  marked = record { weighed = noted_weighed o k.marked.weighed; listed = noted_listed o k.marked.listed };
+  marked = record { weighed = noted_weighed o k.marked.weighed; hinted = o.hints k.marked.hinted; listed = noted_listed o k.marked.listed };
   some = k.some;
   listed = l;
 }

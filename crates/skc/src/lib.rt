@@ -47,7 +47,7 @@ fn choose_least(
         (with_break (plan choice.now) (bits choice.now)
         (least_break (plan choice.now) (bits choice.now) (variables choice.now)) (variables choice.now)))
         (numbers_of numbers.now) used (plan choice.now).variables result
-        × Noted marks.old marks.new }
+        × Noted (plan choice.now) marks.old marks.new }
 {
     let few = least_of(choice, marks);
     pick_listed(numbers, used, marks, PICKS, few)
@@ -65,7 +65,7 @@ fn choose_noisy(
     ensures { Chooses
         (noisy_choice (settings_of s) (plan choice.now) (try_on choice.now.footing) (variables choice.now))
         (numbers_of numbers.now) used (plan choice.now).variables result
-        × Noted marks.old marks.new }
+        × Noted (plan choice.now) marks.old marks.new }
 {
     let drawn = pick(numbers, used, 1000)?;
     if is_below(drawn.value, s.noise) {
@@ -87,7 +87,7 @@ pub fn choose(
     ensures { Chooses
         (skc_choice (settings_of s) (plan choice.now) (try_on choice.now.footing) (variables choice.now))
         (numbers_of numbers.now) used (plan choice.now).variables result
-        × Noted marks.old marks.new }
+        × Noted (plan choice.now) marks.old marks.new }
 {
     let free = free_of(choice, marks);
     if 0 < free {

@@ -6,18 +6,19 @@ ghost use Rattle.plpb.specs.Count.{cap, capped, capped_break};
 ghost use Rattle.plpb.specs.Equations.{clause_break};
 ghost use Rattle.counting.specs.Count.{number};
 ghost use Rattle.rules.specs.State.{Balanced, shares_from};
+ghost use Rattle.effects.specs.Footing.{plan_on, bits_on, HasRun};
 ghost use Rattle.effects.specs.Run.{plan, bits, Inside};
 ghost use Rattle.spoiling.specs.Along.{Starts, Stepped, UpTo};
 
-use columns::HINTS;
+use columns::{HINTS, SIDE_HINTS};
 use counting::bound::{over_difference, over_surely_past};
 use counting::count::Count;
-use effects::Run;
+use effects::{Footing, Run};
 use groups::Group;
 use joining::break_along;
 use rules::place::Stands;
 use rules::state::State;
-use words::index;
+use words::word;
 
 // e of a rule in this state: equation (10). It is put into its callers: as a call it makes a search of short clauses
 // take a tenth more instructions. Why 32 bits are widened by `as` here, in `mending` and in `joining` stands at `rules::State::shares`.
@@ -67,15 +68,24 @@ fn cut_at_last(run: &Run<'_, '_>) -> bool
     shows_cut(run, run.end - 1)
 }
 
-// Whether the place where the flip broke something the last time shows it, if the hint names one of the run. In a plan of long rules it often does.
-fn cut_at_hint(run: &Run<'_, '_>) -> bool
-    ensures { result ≡ true → suc cap ≡ capped_break (plan run.now) (bits run.now) run.now.x }
+// Whether the side that the hint of x tells shows it, if it tells one. In a plan of long rules it often does.
+#[inline(always)]
+fn cut_at_hint(footing: &Footing<'_>, marks: &[u8], x: usize) -> bool
+    requires { HasRun footing.now marks.now x }
+    ensures { result ≡ true → suc cap ≡ capped_break (plan_on footing.now) (bits_on footing.now) x }
 {
-    let hint = index(run.marks, HINTS + run.x);
-    if !(run.first..run.end).contains(&hint) {
+    if word(marks, HINTS + x) < SIDE_HINTS {
         return false;
     }
-    shows_cut(run, hint)
+    surely_past(footing.hint_state(marks, x))
+}
+
+// The count that is cut, where it is no more than a limit.
+fn cut_up_to(limit: u64) -> Option<u64>
+    ensures { UpTo limit (suc cap) result }
+{
+    let cut = Count::CUT.rank();
+    (cut <= limit).then_some(cut)
 }
 
 // What a group counts, and where it ends.
@@ -119,15 +129,11 @@ fn count_at(run: &Run<'_, '_>, k: usize) -> Step
     }
 }
 
-// The break count of the variable where it is no more than a limit. The place goes from group to group, as far as each is long, so that no `for` counts it.
+// What the run's groups count, where it is no more than a limit. The place goes from group to group, as far as each is long, so that no `for` counts it.
 // Most groups count nothing, and nothing is added there.
-pub fn break_of(run: &Run<'_, '_>, limit: u64) -> Option<u64>
+fn sum_along(run: &Run<'_, '_>, limit: u64) -> Option<u64>
     ensures { UpTo limit (capped_break (plan run.now) (bits run.now) run.now.x) result }
 {
-    if cut_at_last(run) || cut_at_hint(run) {
-        let cut = Count::CUT.rank();
-        return (cut <= limit).then_some(cut);
-    }
     let mut sum = Count::ZERO;
     let mut k = run.first;
     while k < run.end {
@@ -145,4 +151,31 @@ pub fn break_of(run: &Run<'_, '_>, limit: u64) -> Option<u64>
         }
     }
     Some(sum.rank())
+}
+
+// The break count of the variable where it is no more than a limit.
+pub fn break_of(run: &Run<'_, '_>, limit: u64) -> Option<u64>
+    ensures { UpTo limit (capped_break (plan run.now) (bits run.now) run.now.x) result }
+{
+    if cut_at_last(run) {
+        return cut_up_to(limit);
+    }
+    sum_along(run, limit)
+}
+
+// The same of x, with its hint asked first, which SKC leaves where it finds that x is not free. It is put into its caller, and says again what `break_of` does
+// then: of most variables of a long clause hint or last place tells the count, and no call is made.
+#[inline(always)]
+pub fn break_by_hint(footing: &Footing<'_>, marks: &[u8], x: usize, limit: u64) -> Option<u64>
+    requires { HasRun footing.now marks.now x }
+    ensures { UpTo limit (capped_break (plan_on footing.now) (bits_on footing.now) x) result }
+{
+    if cut_at_hint(footing, marks, x) {
+        return cut_up_to(limit);
+    }
+    let run = Run::of(footing, marks, x);
+    if cut_at_last(&run) {
+        return cut_up_to(limit);
+    }
+    sum_along(&run, limit)
 }

@@ -40,9 +40,9 @@ use Rattle.format.specs.Layout.{table_size, unsatisfied_at, mark_size}
 use Rattle.stamps.specs.Stamps.{Stamped, unstamped}
 use Rattle.stamps.proofs.Stamping.{stamped_none, cleared_size, cleared_beyond}
 use Rattle.columns.specs.Layout.{column_size, column_word_count, kept_size, need_at, total_at, hint_at}
-use Rattle.columns.specs.Columns.{Listed, Sized as RulesSized, Weighed}
+use Rattle.columns.specs.Columns.{Hinted, Listed, Sized as RulesSized, Weighed}
 use Rattle.columns.specs.Frames.{Only}
-use Rattle.columns.proofs.Marks.{Behind, weighed_behind, listed_behind, dropped_behind, dropped_more}
+use Rattle.columns.proofs.Marks.{Behind, weighed_behind, listed_behind, dropped_behind, dropped_more, dropped_hinted}
 use Rattle.keeping.specs.Flip.{Kept}
 use Rattle.locks.specs.Held.{held_bytes}
 use Rattle.locks.proofs.Holding.{bytes_held}
@@ -283,7 +283,12 @@ module _ {tables terms : List ℕ} (numbers : List ℕ) {used made : ℕ} {w : W
               ready = started_ready l l';
               bits = rw (← named, held_start) (are_bits_bytes n begin (drop n w.assignment) begin_size);
               fresh = y.fresh;
-              prepared = record { sized = y.sized; weighed = weighed_behind behind g₀.weighed; listed = listed_behind behind g₀.listed };
+              prepared = record {
+                sized = y.sized;
+                weighed = weighed_behind behind g₀.weighed;
+                hinted = dropped_hinted mark_size (omega arith) (cleared_beyond w.marks (omega (arith, k.columns)) z) g₀.hinted;
+                listed = listed_behind behind g₀.listed;
+              };
               needed = y.needed;
             }
 
@@ -313,7 +318,7 @@ module _ {tables terms : List ℕ} (numbers : List ℕ) {used made : ℕ} {w : W
         uses = omega arith;
         within = l;
         flipped = few;
-        prepared = record { sized = rw y g₀.sized; weighed = rw m g₀.weighed; listed = rw m g₀.listed };
+        prepared = record { sized = rw y g₀.sized; weighed = rw m g₀.weighed; hinted = rw m g₀.hinted; listed = rw m g₀.listed };
         beyond = record { assignment = ap (drop q.variables) (a ∙ d.1); tallies = ap (drop kept_size) y; marks = ap (drop column_size) m };
       }
 
@@ -411,9 +416,9 @@ module _ {s : Settings} {tables terms numbers : List ℕ} {begun : Spent} {w : W
 
 module _ {tables terms : List ℕ} {w : Work} (k : Startable tables terms w) {tallies marks : List ℕ}
     (g : RulesSized (plan_of_tables tables terms) tallies × Weighed (plan_of_tables tables terms) marks × Listed (plan_of_tables tables terms) marks
-    × Only (total_at 0) (need_at 0) w.tallies tallies × Only (hint_at 1) column_word_count w.marks marks) where
+    × Hinted (plan_of_tables tables terms) marks × Only (total_at 0) (need_at 0) w.tallies tallies × Only (hint_at 1) column_word_count w.marks marks) where
   pub prepared_start : Startable tables terms (record { assignment = w.assignment; tallies = tallies; marks = marks })
-  prepared_start = record { ready = k.ready; room = omega (arith, k.room, g.3.size); columns = omega (arith, k.columns, g.4.size) }
+  prepared_start = record { ready = k.ready; room = omega (arith, k.room, g.4.size); columns = omega (arith, k.columns, g.5.size) }
 
   pub tried_prepared : {walk : Walk Reached} {numbers : List ℕ} {used flips least : ℕ} {r : Result Spent Unreached} {v : Work}
       → Tries walk tables terms numbers used flips least r (record { assignment = w.assignment; tallies = tallies; marks = marks }) v
@@ -421,6 +426,6 @@ module _ {tables terms : List ℕ} {w : Work} (k : Startable tables terms w) {ta
   tried_prepared t =
       ends_as t (omega arith) (omega arith) (record {
         assignment = refl;
-        tallies = g.3.beyond kept_size (omega arith) k.room;
-        marks = g.4.beyond column_size (omega arith) k.columns;
+        tallies = g.4.beyond kept_size (omega arith) k.room;
+        marks = g.5.beyond column_size (omega arith) k.columns;
       }) t.outcome

@@ -10,4 +10,4 @@ returns-then-s-eq0 c =
     (set_skc _ _ _ _ _ _ c.if-s-eq0.true d.0, d.1)
 
 pub returns : goal.returns
-returns c = (set_novelty _ _ _ _ _ _ c.if-s-eq0.false c.choose_novelty.ensures, noted_self _)
+returns c = (set_novelty _ _ _ _ _ _ c.if-s-eq0.false c.choose_novelty.ensures, noted_self _ _)

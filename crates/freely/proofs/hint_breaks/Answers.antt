@@ -1,23 +1,19 @@
--- `hint_breaks` meets its contract: yes is said only of a place of the run whose clause breaks.
+-- `hint_breaks` meets its contract: a side that the flip spoils is that of a clause of one rule.
 -- Assumes nothing.
 use native.Mathlib.Omega.{arith}
 use mathlib.Core.Path.{sym, ◌∙◌}
 use Rattle.effects.proofs.Runs.{going_few}
-use Rattle.effects.proofs.Visits.{visited}
-use Rattle.freely.proofs.Free.{place_breaks, clause_breaks, within}
+use Rattle.effects.proofs.Visits.{going_on, visited_single}
+use Rattle.freely.proofs.Free.{place_breaks}
 use Rattle.freely.proofs.hint_breaks.Goals as goal
 
-pub index-hint-requires : goal.index-hint-requires
-index-hint-requires c = omega (arith, going_few c.args.run.now.going, c.args.run.now.going.kept.weighed.room)
+pub word-hint-requires : goal.word-hint-requires
+word-hint-requires c = omega (arith, going_few (going_on _ c.requires), c.requires.weighed.room)
 
-pub returns-then-not-has_several : goal.returns-then-not-has_several
-returns-then-not-has_several c = λ e.
-    place_breaks (visited c.args.run.now (within _ _ _ c.contains.ensures.value c.if-not-contains.false)) (sym c.has_several.ensures ∙ c.if-not-has_several.true) (sym c.spoils_at.ensures ∙ e)
+pub hint_spoils-requires : goal.hint_spoils-requires
+hint_spoils-requires c = (c.requires, omega (arith, c.word-hint.ensures, c.if-hint-lt-SIDE_HINTS.false))
 
 pub returns : goal.returns
 returns c = λ e.
-    let at = c.at.ensures in
-    clause_breaks (visited c.args.run.now (within _ _ _ c.contains.ensures.value c.if-not-contains.false)) (rw (at.0, at.1) at (sym c.breaks.ensures ∙ e))
-
-pub overflow_add-run : goal.overflow_add-run
-overflow_add-run c = omega (arith, going_few c.args.run.now.going)
+    let h = c.hint_spoils.ensures in
+    place_breaks (visited_single c.args.footing.now c.requires h) h.single (sym h.told ∙ e)

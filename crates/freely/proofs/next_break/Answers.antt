@@ -29,6 +29,12 @@ loop-k-init c =
 pub passed-requires : goal.passed-requires
 passed-requires c = begins c.args.run.now c.loop-k.invariant.1 c.loop-k-test.true
 
+pub returns-in_default-clause-inside : goal.returns-in_default-clause-inside
+returns-in_default-clause-inside c =
+    let r = c.args.run.now in
+    let g = begins r c.loop-k.invariant.1 c.loop-k-test.true in
+    (omega (arith, g.first, r.begins), c.loop-k-test.true)
+
 pub returns-in_default-clause-found : goal.returns-in_default-clause-found
 returns-in_default-clause-found c =
     let r = c.args.run.now in

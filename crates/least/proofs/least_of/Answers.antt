@@ -36,7 +36,7 @@ module _ {q : Footing} {s : List ℕ} {c : ℕ} (k : Pickable q s c) {first end 
     ready : Triable q t i b.count
     ready = list_triable k d.picked.noted e f low high few
 
-    again : {u : List ℕ} {r : Best} → Offered (capped_break (plan_of_tables q.tables.now q.terms.now) (lent_bits q.tables.now q.terms.now q.assignment.now) (word_at t i)) (word_at t i) b t u r → Leading (plan_of_tables q.tables.now q.terms.now) (lent_bits q.tables.now q.terms.now q.assignment.now) (take (i + 1 - first) xs) s u r
+    again : {u : List ℕ} {r : Best} → Offered (plan_of_tables q.tables.now q.terms.now) (capped_break (plan_of_tables q.tables.now q.terms.now) (lent_bits q.tables.now q.terms.now q.assignment.now) (word_at t i)) (word_at t i) b t u r → Leading (plan_of_tables q.tables.now q.terms.now) (lent_bits q.tables.now q.terms.now q.assignment.now) (take (i + 1 - first) xs) s u r
     again {u} {r} o =
         let j = i - first in
         let here = list_here k d.picked.noted e f low high in

@@ -15,6 +15,7 @@ use Rattle.least.specs.declared.Best.{Best}
 use Rattle.least.specs.Best.{place_for}
 use Rattle.least.proofs.Leading.{offered_in, offered_same, place_few}
 use Rattle.least.proofs.offer.Goals as goal
+use Rattle.recount.proofs.Laid.{parts}
 use Rattle.columns.specs.Layout.{picks_at}
 
 -- The variable is one of the plan's,
@@ -29,12 +30,11 @@ pub returns : goal.returns
 returns c =
     let p = plan_on c.args.footing.now in
     let a = bits_on c.args.footing.now in
-    let e = c.of-run.ensures in
-    let d = rw (e.0, e.2) at c.in-Some.ensures in
+    let d = c.in-Some.ensures in
     let exact = d.0 in
     let wrote = word_wrote (picks_at + c.place_for-at.result) c.narrow.result c.args.marks.now _ (omega (arith, low _ c.args.best c.place_for-at.ensures c.requires.few, c.requires.run.weighed.room)) (omega (arith, c.narrow.ensures, few c.requires c.index-x.ensures)) c.write_word.ensures in
     offered_same p a c.index-x.ensures
-    (offered_in (omega (arith, exact, d.1)) (c.place_for-at.ensures ∙ ap (λ n. place_for n c.args.best) exact) c.requires.few c.requires.run.weighed.room wrote c.narrow.ensures exact refl)
+    (offered_in (parts _ _ c.args.footing.now.ready.laid).high (omega (arith, exact, d.1)) (c.place_for-at.ensures ∙ ap (λ n. place_for n c.args.best) exact) c.requires.few c.requires.run.weighed.room wrote c.narrow.ensures exact refl)
 
 pub overflow_add-at : goal.overflow_add-at
 overflow_add-at c = omega (arith, low _ c.args.best c.place_for-at.ensures c.requires.few)

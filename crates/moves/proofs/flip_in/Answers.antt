@@ -19,7 +19,7 @@ returns-then-some-eq0 c =
 pub choose_in-requires : goal.choose_in-requires
 choose_in-requires c =
     let k = c.requires.0.prepared in
-    to_choose k.weighed k.listed c.requires.1 c.index-some.ensures c.if-some-eq0.false c.requires.2
+    to_choose k.weighed k.hinted k.listed c.requires.1 c.index-some.ensures c.if-some-eq0.false c.requires.2
 
 pub flip_kept-requires : goal.flip_kept-requires
 flip_kept-requires c =

@@ -9,7 +9,7 @@ use Rattle.novelty.proofs.choose_novelty.Goals as goal
 
 pub choose_any-requires : goal.choose_any-requires
 choose_any-requires c =
-    still_to_choose (noted_self _) (listed_after c.args.numbers.now c.args.used c.pick.ensures c.in_ok-drawn.was) c.requires
+    still_to_choose (noted_self _ _) (listed_after c.args.numbers.now c.args.used c.pick.ensures c.in_ok-drawn.was) c.requires
 
 pub choose_ranked-requires : goal.choose_ranked-requires
 choose_ranked-requires c =

@@ -26,17 +26,17 @@ module _ {q : Footing} {s : List ℕ} {c : ℕ} (k : Pickable q s c) {first end 
   abbrev picked : ℕ → List ℕ
   picked d = with_break (plan_of_tables q.tables.now q.terms.now) (lent_bits q.tables.now q.terms.now q.assignment.now) 0 (take d xs)
 
-  start : Picked (picked (first - first)) s s 0
+  start : Picked (plan_of_tables q.tables.now q.terms.now) (picked (first - first)) s s 0
   unfolding with_break keep
   start =
       let z : first - first ≡ 0 = omega arith in
-      rw z (record { counted = refl; picks = picks_none s; noted = noted_self s })
+      rw z (record { counted = refl; picks = picks_none s; noted = noted_self _ s })
 
-  module _ {t : List ℕ} {i count : ℕ} (low : first ≤ i) (high : i < end) (d : Picked (picked (i - first)) s t count) where
+  module _ {t : List ℕ} {i count : ℕ} (low : first ≤ i) (high : i < end) (d : Picked (plan_of_tables q.tables.now q.terms.now) (picked (i - first)) s t count) where
     few : count ≤ i - first
     few = omega (arith, d.counted, with_fewer (plan_of_tables q.tables.now q.terms.now) (lent_bits q.tables.now q.terms.now q.assignment.now) 0 (take (i - first) xs), length-take (i - first) xs)
 
-    again : {u : List ℕ} {r : ℕ} → Tried (eqb (capped_break (plan_of_tables q.tables.now q.terms.now) (lent_bits q.tables.now q.terms.now q.assignment.now) (word_at t i)) 0) (word_at t i) count t u r → Picked (picked (i + 1 - first)) s u r
+    again : {u : List ℕ} {r : ℕ} → Tried (plan_of_tables q.tables.now q.terms.now) (eqb (capped_break (plan_of_tables q.tables.now q.terms.now) (lent_bits q.tables.now q.terms.now q.assignment.now) (word_at t i)) 0) (word_at t i) count t u r → Picked (plan_of_tables q.tables.now q.terms.now) (picked (i + 1 - first)) s u r
     again {u} {r} o =
         let j = i - first in
         let here = list_here k d.noted e f low high in

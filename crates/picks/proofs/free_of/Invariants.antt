@@ -13,4 +13,4 @@ invariant-loop-i l =
     let list = l.initial.i-iterator in
     let rest = l.i-iterator in
     (list.start ≤ rest.start) × (rest.start ≤ rest.end) × (rest.end ≡ list.end)
-    × Picked (with_break (plan l.choice) (bits l.choice) 0 (take (rest.start - list.start) (variables l.choice))) l.initial.marks l.marks l.count
+    × Picked (plan l.choice) (with_break (plan l.choice) (bits l.choice) 0 (take (rest.start - list.start) (variables l.choice))) l.initial.marks l.marks l.count

@@ -22,10 +22,10 @@ module _ {q : Footing} {marks : List ℕ} {c : ℕ} (k : Pickable q marks c) {i 
   next : word_at marks (i - 1) ∷ from q c i ≡ from q c (i - 1)
   next =
       let one : i - list_start q c ≡ suc d = omega arith in
-      ap₂ (λ x n. x ∷ drop n (of_clause q c)) (list_here k (noted_self marks) refl refl (omega arith) (omega arith)) one ∙ sym (drop-cons (of_clause q c) d 0 (omega arith))
+      ap₂ (λ x n. x ∷ drop n (of_clause q c)) (list_here k (noted_self _ marks) refl refl (omega arith) (omega arith)) one ∙ sym (drop-cons (of_clause q c) d 0 (omega arith))
 
   run : HasRun q marks (word_at marks (i - 1))
-  run = let t : Triable q marks (i - 1) 0 = list_triable k (noted_self marks) refl refl (omega arith) (omega arith) (omega arith) in t.run
+  run = let t : Triable q marks (i - 1) 0 = list_triable k (noted_self _ marks) refl refl (omega arith) (omega arith) (omega arith) in t.run
 
 pub list_of-list-requires : goal.list_of-list-requires
 list_of-list-requires c = let e = c.plan.ensures in rw (e.0, e.1) (c.args.choice.now.there, c.requires.listed)

@@ -1,15 +1,18 @@
--- A place that the hint names is one of the run.
+-- `cut_at_hint` meets its contract: the side that the hint tells is that of a clause of one rule.
 -- Assumes nothing.
 use native.Mathlib.Omega.{arith}
 use Rattle.effects.proofs.Runs.{going_few}
-use Rattle.freely.proofs.Free.{within}
+use Rattle.effects.proofs.Visits.{going_on, visited_single}
+use Rattle.spoiling.proofs.Counting.{single_past}
 use Rattle.spoiling.proofs.cut_at_hint.Goals as goal
 
-pub overflow_add-run : goal.overflow_add-run
-overflow_add-run c = omega (arith, going_few c.args.run.now.going)
+pub word-requires : goal.word-requires
+word-requires c = omega (arith, going_few (going_on _ c.requires), c.requires.weighed.room)
 
-pub index-hint-requires : goal.index-hint-requires
-index-hint-requires c = omega (arith, going_few c.args.run.now.going, c.args.run.now.going.kept.weighed.room)
+pub hint_state-requires : goal.hint_state-requires
+hint_state-requires c = (c.requires, omega (arith, c.word.ensures, c.if-word-lt-SIDE_HINTS.false))
 
-pub shows_cut-requires : goal.shows_cut-requires
-shows_cut-requires c = within _ _ _ c.contains.ensures.value c.if-not-contains.false
+pub returns : goal.returns
+returns c = λ e.
+    let h = c.hint_state.ensures in
+    single_past (visited_single c.args.footing.now c.requires h) h.single h.told (c.surely_past.ensures e)

@@ -1,4 +1,4 @@
--- `break_of` meets its contract. The invariant: the sum of what the clauses before place k count, with that of those behind, is all, and it is no
+-- `sum_along` meets its contract. The invariant: the sum of what the clauses before place k count, with that of those behind, is all, and it is no
 -- more than the limit. The measure is what is left.
 -- Assumes nothing.
 use Prim.Native.Nat.{◌-◌, ◌≤◌}
@@ -8,7 +8,7 @@ use Rattle.plpb.specs.Count.{capped, capped_break}
 use Rattle.counting.specs.Count.{number}
 use Rattle.effects.specs.Run.{plan, bits}
 use Rattle.freely.proofs.Sums.{Summing}
-use Rattle.spoiling.proofs.break_of.Given as goal
+use Rattle.spoiling.proofs.sum_along.Given as goal
 
 abbrev pub invariant-loop-k : goal.invariant-loop-k
 invariant-loop-k l =
