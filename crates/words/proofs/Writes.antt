@@ -9,7 +9,7 @@ use mathlib.Core.Path.{◌≡◌, refl, sym, ap, ap₂, ◌∙◌}
 use mathlib.Core.Logic.{◌≢◌}
 use mathlib.Core.List.{List, [], ◌∷◌, ◌++◌, append_assoc, append-nil}
 use lib.ListN.{length, take, drop, get_or, set, replicate, length-append, length-drop, length-replicate, take-append-drop, get_or-replicate, get_or-append}
-use lib.Seq.{sets, sets-eq, drop_at, drop-drop, length-take-le, drop-append_seam, drop-append-add, take-append_seam, take-append-le, take-take, drop-length, take_all}
+use lib.Seq.{set_at, append_snoc, take-suc, drop-cons, sets, sets-eq, drop_at, drop-drop, length-take-le, drop-append_seam, drop-append-add, take-append_seam, take-append-le, take-take, drop-length, take_all}
 use mir.Syntax.{w16, w32, w64}
 use Rattle.std.specs.Int.{from_le_bytes, to_le_bytes}
 use borrow.Rule.Slice.PartMut.{mid_of, post_of, put_mid, Post-is, mid_len, same_len_mid}
@@ -251,6 +251,12 @@ words_behind o us vs i p q r =
     ∙ ap (λ (x : List ℕ). front x o) (sym (word_bytes_append us vs))
 
 -- ---- copied bytes
+
+pub copied_more :
+    (s t : List ℕ) (i : ℕ) → i < length s → i < length t → set (take i s ++ drop i t) i (get_or s i 0) ≡ take (i + 1) s ++ drop (i + 1) t
+copied_more s t i h k =
+    rw (add-one, drop-cons t i 0 k, take-suc s i 0 h, append_snoc)
+    (set_at (take i s) (get_or t i 0) (drop (suc i) t) (get_or s i 0) i (length-take-le i s (omega arith)))
 
 -- The first n bytes of a slice, copied over the first of another.
 pub copied_first : (n : ℕ) (s o : List ℕ) {t : List ℕ} → n ≤ length s → t ≡ take n s ++ drop (length (take n s)) o → t ≡ take n s ++ drop n o

@@ -125,12 +125,14 @@ pub fn zeros(s: &[u8], from: usize, end: usize) -> bool
     all
 }
 
-// Copies a slice over the first bytes of another.
+// Copies a slice over the first bytes of another, a byte at a time: the library's copy would have an archive for C programs ask for `memmove` from outside.
 pub fn copy(from: &[u8], to: &mut [u8])
     requires { length from.now ≤ length to.old }
     ensures { to.new ≡ from.now ++ drop (length from.now) to.old }
 {
-    to[..from.len()].copy_from_slice(from);
+    for i in 0..from.len() {
+        to[i] = from[i];
+    }
 }
 
 // Fills a slice with 0. The clause of the library's `fill` is on clones: where a number's clone is the number, the bytes are these. That premise is met
