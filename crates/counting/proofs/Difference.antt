@@ -7,8 +7,8 @@ use native.Mathlib.Omega.{arith}
 use mathlib.Core.Path.{◌≡◌, sym, ◌∙◌, ap}
 use Rattle.plpb.specs.Count.{cap, capped}
 use Rattle.plpb.specs.Equations.{binom}
-use Rattle.plpb.proofs.Binomial.{binom_vanishes, symmetric, binom_mono_upper, binom_mono_lower, binom_gain, past_cap}
-use Rattle.plpb.proofs.Capped.{capped_zero, capped_small, capped_large, capped_exact, capped_passes}
+use Rattle.plpb.proofs.Binomial.{binom_vanishes, binom_full, binom_one, symmetric, binom_mono_upper, binom_mono_lower, binom_gain, past_cap}
+use Rattle.plpb.proofs.Capped.{capped_zero, capped_one, capped_small, capped_large, capped_exact, capped_passes}
 
 nothing : (a b : ℕ) → a ≤ b → 0 ≡ capped (a - b)
 nothing a b h =
@@ -34,6 +34,19 @@ gain_below m (suc w) (suc k) p q =
     let row : m + suc w - 1 ≡ m + w = omega arith in
     let less : suc k - 1 ≡ k = omega arith in
     rw (row, less, add-suc m w) (omega (arith, binom_gain m w k))
+
+-- All are taken: there is one choice, and none without those added.
+pub all_taken : (m w k : ℕ) → 0 < w → m + w ≡ k → 1 ≡ capped (binom (m + w) k - binom m k)
+all_taken m w k p e =
+    let whole : binom (m + w) k ≡ 1 = ap (λ n. binom n k) e ∙ binom_full k in
+    let one : binom (m + w) k - binom m k ≡ 1 = omega (arith, whole, binom_vanishes m k (omega arith)) in
+    sym (ap capped one ∙ capped_one)
+
+-- One is taken: there are as many choices as are added.
+pub one_taken : (m w k : ℕ) → k ≡ 1 → capped w ≡ capped (binom (m + w) k - binom m k)
+one_taken m w k e =
+    let as_many : w ≡ binom (m + w) 1 - binom m 1 = omega (arith, binom_one (m + w), binom_one m) in
+    rw e (ap capped as_many)
 
 -- What 32 bits hold is not cut.
 pub word_exact : (n : ℕ) → n < 4294967296 → n ≡ capped n

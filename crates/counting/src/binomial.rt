@@ -119,6 +119,7 @@ fn exact_difference(gain: u64, m: u64, w: u64, k: u64) -> Count
 
 // The difference below by what it gains in its last row. Both numbers may be past the cap where their difference is not, so neither is cut first:
 // the difference is at least m + w − 1 over k − 1, and both come exactly from such entries while these are not cut.
+// All taken, or one, needs no division.
 // It stays a call, since few differences come to it, and put into its callers it makes all others longer.
 #[inline(never)]
 fn difference_by_gain(m: u64, w: u64, k: u64) -> Count
@@ -127,6 +128,12 @@ fn difference_by_gain(m: u64, w: u64, k: u64) -> Count
 {
     if k == 0 || w == 0 {
         return Count::ZERO;
+    }
+    if m + w == k {
+        return Count::ONE;
+    }
+    if k == 1 {
+        return Count::from(w);
     }
     let gain = binomial(m + w - 1, k - 1);
     if gain.is_cut() {

@@ -6,7 +6,7 @@ use mathlib.Core.Path.{sym, ◌∙◌}
 use borrow.Author.Tests.{ltb-true, ltb-false}
 use Prim.Native.Nat.{◌<◌}
 use Rattle.plpb.specs.Count.{cap}
-use Rattle.counting.proofs.Difference.{none_taken, none_added, gain_cut, gain_exact}
+use Rattle.counting.proofs.Difference.{none_taken, none_added, all_taken, one_taken, gain_cut, gain_exact}
 use Rattle.counting.proofs.binomial.difference_by_gain.Goals.{then-k-eq0-via-then-k-eq0, then-k-eq0-via-else-k-eq0+then-w-eq0}
 use Rattle.counting.proofs.binomial.difference_by_gain.Goals as goal
 
@@ -16,6 +16,12 @@ returns-then-k-eq0 c =
       | then-k-eq0-via-then-k-eq0 w ↦ none_taken _ _ _ w.if-k-eq0.true
       | then-k-eq0-via-else-k-eq0+then-w-eq0 w ↦ none_added _ _ _ w.if-w-eq0.true
     ]
+
+pub returns-then-m-w : goal.returns-then-m-w
+returns-then-m-w c = all_taken _ _ _ (search rules) c.if-m-w.true
+
+pub returns-then-k-eq1 : goal.returns-then-k-eq1
+returns-then-k-eq1 c = c.from.ensures ∙ one_taken _ _ _ c.if-k-eq1.true
 
 pub returns-then-is_cut : goal.returns-then-is_cut
 unfolding cap
