@@ -1,15 +1,13 @@
 -- What is seen of a number while its digits are read.
 -- Assumes nothing.
-use Prim.Native.Nat.{ℕ, ◌+◌, ◌*◌, ◌-◌, ◌≤◌, ◌<◌, min}
-use Rattle.std.proofs.Math.Nat.{min-eq_left, min-eq_right}
+use Prim.Native.Nat.{ℕ, ◌+◌, ◌*◌, ◌-◌, ◌≤◌, ◌<◌}
 use native.Mathlib.Omega.{arith}
 use mathlib.Core.Path.{◌≡◌, refl, sym, ap, ◌∙◌}
 use mathlib.Core.Bool.{Bool, true, false, cond}
 use mathlib.Core.List.{List, [], ◌∷◌}
 use lib.Dec.{leb, ltb, eqb}
-use lib.ListN.{length, get_or, take, drop, length-drop, drop_of_length-le}
-use lib.Seq.{length-take-le, get_or-take, get_or-drop}
-use borrow.Author.Tests.{lt-ltb, le-ltb, lt-leb, ltb-true, ltb-false, leb-true, leb-false, ne_eqb}
+use lib.ListN.{length, get_or, drop, drop_of_length-le}
+use borrow.Author.Tests.{lt-ltb, le-ltb, lt-leb, ltb-true, ltb-false, leb-true, ne_eqb}
 use Rattle.plpb.specs.Lists.{◌and◌}
 use Rattle.tokens.specs.Tokens.{is_digit, number, most, seen}
 use Rattle.std.specs.Char.{is_ascii_digit}
@@ -108,29 +106,6 @@ seen_number (b ∷ bs) v =
     ∙ ap (λ k. seen (number k bs)) (seen_digit v (b - 48))
     ∙ seen_number bs (10 * v + (b - 48)))
 
--- A digit more, each step cut at the greatest word and the last at the most.
-still_most : (x : ℕ) → most ≤ x → most ≤ min x 4_294_967_295
-still_most x h = go (leb x 4_294_967_295) refl
-  where
-    go : (t : Bool) → leb x 4_294_967_295 ≡ t → most ≤ min x 4_294_967_295
-    go true e = rw (min-eq_left (leb-true x 4_294_967_295 e)) h
-    go false e = let l = leb-false x 4_294_967_295 e in rw (min-eq_right {n = 4_294_967_295} {m = x} (omega arith)) (omega arith)
-
-pub seen_cut : (v d : ℕ) → d ≤ 9 → min (min (min (v * 10) 4_294_967_295 + d) 4_294_967_295) most ≡ seen (10 * v + d)
-seen_cut v d h = go (leb v 399_999_999) refl
-  where
-    go : (t : Bool) → leb v 399_999_999 ≡ t → min (min (min (v * 10) 4_294_967_295 + d) 4_294_967_295) most ≡ seen (10 * v + d)
-    go true e =
-        let l = leb-true v 399_999_999 e in
-        let a : min (v * 10) 4_294_967_295 ≡ v * 10 = min-eq_left (omega arith) in
-        let b : min (v * 10 + d) 4_294_967_295 ≡ v * 10 + d = min-eq_left (omega arith) in
-        rw (a, b) (min-eq_left {n = v * 10 + d} {m = most} (omega arith) ∙ omega arith ∙ sym (seen_small (10 * v + d) (omega arith)))
-    go false e =
-        let l = leb-false v 399_999_999 e in
-        let a = still_most (v * 10) (omega arith) in
-        let b = still_most (min (v * 10) 4_294_967_295 + d) (omega arith) in
-        min-eq_right b ∙ sym (seen_large (10 * v + d) (omega arith))
-
 -- The library's test of a digit.
 pub digit_ascii : (b : ℕ) {r : Bool} → r ≡ is_ascii_digit b → is_digit b ≡ r
 unfolding is_digit
@@ -158,21 +133,3 @@ module _ (s : List ℕ) (v at : ℕ) where
     pub number_go : is_digit (get_or s at 0) ≡ true → {w : ℕ} → w ≡ seen (10 * v + (get_or s at 0 - 48)) → seen (number w (drop (at + 1) s)) ≡ seen (number v (drop at s))
     unfolding number
     number_go h {w} e = rw (here s at l, h, e) (seen_number (drop (at + 1) s) (10 * v + (get_or s at 0 - 48)))
-
--- Where no digit stands, the number is what it is up to there.
-pub number_rest : (s : List ℕ) (v at : ℕ) → (at < length s → is_digit (get_or s at 0) ≡ false) → v ≡ number v (drop at s)
-number_rest s v at stop = go (ltb at (length s)) refl
-  where
-    go : (t : Bool) → ltb at (length s) ≡ t → v ≡ number v (drop at s)
-    go true e = let l = ltb-true at (length s) e in number_stop s v at l (stop l)
-    go false e = number_end s v at (ltb-false at (length s) e)
-
--- The bytes between two places.
-module _ (s : List ℕ) (at r : ℕ) (on : at ≤ r) (inside : r ≤ length s) where
-  pub between_length : length (take (r - at) (drop at s)) ≡ r - at
-  between_length = length-take-le (r - at) (drop at s) (omega (arith, length-drop at s))
-
-  pub between_at : (i : ℕ) → i < length (take (r - at) (drop at s)) → (at + i < r) × (get_or (take (r - at) (drop at s)) i 0 ≡ get_or s (at + i) 0)
-  between_at i l =
-      let k : i < r - at = omega (arith, between_length) in
-      (omega arith, get_or-take (r - at) (drop at s) i 0 k ∙ get_or-drop at s i 0)

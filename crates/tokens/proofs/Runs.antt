@@ -9,12 +9,13 @@ use mathlib.Core.List.{List, [], ◌∷◌}
 use lib.Dec.{eqb, ltb}
 use lib.Pointwise.{pointwise}
 use lib.ListN.{length, get_or, take, drop, length-drop, drop_of_length-le}
-use lib.Seq.{drop-cons}
+use lib.Seq.{drop-cons, get_or-drop}
 use borrow.Author.Tests.{eq-eqb, ne_eqb, eqb-true, eqb-false, lt-ltb, le-ltb, ltb-true, ltb-false}
 use Rattle.std.proofs.lemmas.List.{take_all}
 use Rattle.plpb.specs.Lists.{◌and◌}
 use Rattle.std.specs.Prelude.{Option, Some, None}
-use Rattle.std.specs.Option.{unwrap_or}
+use Rattle.std.specs.List.{AllWithin, HoldsAt}
+use Rattle.std.specs.Option.{MatchOption, unwrap_or}
 use Rattle.tokens.specs.Found.{left, read, Reads, Behind, Found}
 use Rattle.tokens.specs.declared.text.Text.{Text}
 use Rattle.tokens.specs.Tokens.{run, run_end, begins, word_end}
@@ -22,6 +23,17 @@ use Rattle.tokens.specs.Tokens.{run, run_end, begins, word_end}
 -- The byte at a place and those behind it.
 pub here : (s : List ℕ) (at : ℕ) → at < length s → drop at s ≡ get_or s at 0 ∷ drop (at + 1) s
 here s at h = rw add-one (drop-cons s at 0 h)
+
+-- The bytes from a place on, as the code takes them.
+module _ (s : List ℕ) (at : ℕ) where
+  rest_is : take (length s - at) (drop at s) ≡ drop at s
+  rest_is = take_all (length s - at) (drop at s) (omega (arith, length-drop at s))
+
+  pub rest_length : length (take (length s - at) (drop at s)) ≡ length s - at
+  rest_length = ap length rest_is ∙ length-drop at s
+
+  pub rest_at : (i : ℕ) → get_or (take (length s - at) (drop at s)) i 0 ≡ get_or s (at + i) 0
+  rest_at i = ap (λ xs. get_or xs i 0) rest_is ∙ get_or-drop at s i 0
 
 short_by : (t : Bool) (k n : ℕ) → k ≤ n → cond t (suc k) 0 ≤ suc n
 short_by true k n h = omega arith
@@ -74,6 +86,14 @@ module _ (such : ℕ → Bool) (s : List ℕ) (r : ℕ) (inside : r ≤ length s
   pub run_is : (from : ℕ) → from ≤ r → ((k : ℕ) → from ≤ k → k < r → such (get_or s k 0) ≡ true) → r ≡ run_end such s from
   run_is from h p = run_some (r - from) from (omega (arith, h)) p
 
+-- All before the first that passes do not, be there one or none.
+module _ (Yes No : ℕ → Type 0) (xs : List ℕ) (n : ℕ) where
+  pub all_before :
+      (r : Option ℕ) → MatchOption r (AllWithin No xs 0 n) (λ i. (i < n) × HoldsAt Yes xs i × AllWithin No xs 0 i)
+      → AllWithin No xs 0 (unwrap_or r n)
+  all_before None h = h
+  all_before (Some i) (l, q, h) = h
+
 -- A word compared by the library's test.
 pub both_is : (a b : Bool) → (a && b) ≡ (a and b)
 unfolding ◌and◌
@@ -94,11 +114,8 @@ word_is (w ∷ ws) [] = refl
 word_is (w ∷ ws) (b ∷ bs) = both_is (eqb w b) _ ∙ ap₂ (λ x y. x and y) (eqb_swap w b) (word_is ws bs)
 
 module _ (word s : List ℕ) (at : ℕ) where
-  rest_is : take (length s - at) (drop at s) ≡ drop at s
-  rest_is = take_all (length s - at) (drop at s) (omega (arith, length-drop at s))
-
   pub word_at : {b : Bool} → b ≡ pointwise eqb word (take (length word) (take (length s - at) (drop at s))) → begins word (drop at s) ≡ b
-  word_at e = sym (e ∙ ap (λ xs. pointwise eqb word (take (length word) xs)) rest_is ∙ word_is word (drop at s))
+  word_at e = sym (e ∙ ap (λ xs. pointwise eqb word (take (length word) xs)) (rest_is s at) ∙ word_is word (drop at s))
 
   pub word_end_is : begins word (drop at s) ≡ true → at + length word ≡ word_end word s at
   unfolding word_end

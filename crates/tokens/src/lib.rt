@@ -16,15 +16,17 @@ pub fn byte(s: &[u8], at: usize) -> u8
     s.get(at).copied().unwrap_or(0)
 }
 
-// A number with one digit more, up to 4,000,000,000: a sum or a product cut at the greatest word is past it too.
+// A number with one digit more, up to 4,000,000,000: from 400,000,000 on a digit more makes that at least.
 fn with_digit(value: u32, digit: u8) -> u32
     requires { (value ≤ most) × (48 ≤ digit) × (digit ≤ 57) }
     ensures { result ≡ seen (10 * value + (digit - 48)) }
 {
-    value
-        .saturating_mul(10)
-        .saturating_add(u32::from(digit - b'0'))
-        .min(4000000000)
+    let full = 399_999_999 < value;
+    if full {
+        4_000_000_000
+    } else {
+        10 * value + u32::from(digit - b'0')
+    }
 }
 
 // What is seen of a number, and the text behind its digits.
@@ -42,8 +44,8 @@ impl<'a> Text<'a> {
         byte(self.bytes, self.at)
     }
 
-    // Behind the bytes that are such. The loop tells places of the whole text, which is what the clauses speak of: the library's `position` counts from the
-    // part's start and lends each byte to its closure, so that both would be turned back.
+    // Behind the bytes that are such: the library's `position` keeps one count for its place and for how far it came. A loop over places of the whole text
+    // was compiled to two counts, and to two instructions a byte more.
     fn past_such<F: Fn(u8) -> bool>(self, such: F) -> Text<'a>
         requires { F.IsAlwaysCallable such }
         ensures same { result.bytes.now ≡ self.entry.bytes.now }
@@ -51,17 +53,11 @@ impl<'a> Text<'a> {
         ensures passed { (k : ℕ) → self.entry.at ≤ k → k < result.at → F.post such (get_or self.entry.bytes.now k 0) true }
         ensures stop { result.at < length self.entry.bytes.now → F.post such (get_or self.entry.bytes.now result.at 0) false }
     {
-        for at in self.at..self.bytes.len() {
-            if !such(self.bytes[at]) {
-                return Text {
-                    bytes: self.bytes,
-                    at,
-                };
-            }
-        }
+        let rest = &self.bytes[self.at..];
+        let passed = rest.iter().position(|&b| !such(b)).unwrap_or(rest.len());
         Text {
             bytes: self.bytes,
-            at: self.bytes.len(),
+            at: self.at + passed,
         }
     }
 
@@ -101,16 +97,30 @@ impl<'a> Text<'a> {
         (self.at < end.at).then_some(end)
     }
 
-    // The digits, be there any or none.
+    // The digits, be there any or none. A text is mostly numbers, so that the one loop both looks for their end and reads them.
     fn digits(self) -> Number<'a>
         ensures { Reads NumberAt self.entry result }
     {
-        let rest = self.past_such(|b| b.is_ascii_digit());
         let mut value = 0;
-        for &digit in &self.bytes[self.at..rest.at] {
+        for (passed, &digit) in self.bytes[self.at..].iter().enumerate() {
+            if !digit.is_ascii_digit() {
+                return Number {
+                    value,
+                    rest: Text {
+                        bytes: self.bytes,
+                        at: self.at + passed,
+                    },
+                };
+            }
             value = with_digit(value, digit);
         }
-        Number { value, rest }
+        Number {
+            value,
+            rest: Text {
+                bytes: self.bytes,
+                at: self.bytes.len(),
+            },
+        }
     }
 
     // A number, which has a digit at least.

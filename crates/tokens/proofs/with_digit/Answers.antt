@@ -1,11 +1,12 @@
--- `tokens::with_digit` meets its contract: what is cut at each step is what is seen.
+-- `tokens::with_digit` meets its contract: from 400,000,000 on a digit more is past the most.
 -- Assumes nothing.
-use Rattle.std.proofs.Common.{◌-◌, ◌≤◌}
 use native.Mathlib.Omega.{arith}
-use Rattle.tokens.proofs.Numbers.{seen_cut}
+use mathlib.Core.Path.{sym}
+use Rattle.tokens.proofs.Numbers.{seen_small, seen_large}
 use Rattle.tokens.proofs.with_digit.Goals as goal
 
-pub returns : goal.returns
-returns c =
-    let d : c.args.digit - 48 ≤ 9 = omega arith in
-    rw (c.min.ensures, c.saturating_add.ensures, c.saturating_mul.ensures, c.from.ensures) (seen_cut c.args.value (c.args.digit - 48) d)
+pub returns-then-full : goal.returns-then-full
+returns-then-full c = sym (seen_large _ (omega arith))
+
+pub returns-else-full : goal.returns-else-full
+returns-else-full c = rw c.from.ensures (sym (seen_small _ (omega arith)))
