@@ -10,6 +10,10 @@ use Rattle.groups.specs.Run.{IsGroup, Begins}
 use Rattle.groups.proofs.Stretch.{Stretch}
 
 module _ (r : Run) where
+  -- The places from one of the run's on, below another or its end, are a stretch.
+  pub stretch : {k j : ℕ} → (r.first ≤ k) × (j ≤ r.end) → Stretch r.footing.now.tables.now r.footing.now.terms.now r.footing.now.assignment.now r.footing.now.tallies.now r.marks.now r.x k j
+  stretch w = record { going = r.going; first = omega (arith, w.0, r.begins); last = omega (arith, w.1, r.ends) }
+
   -- The places of a group are a stretch.
   pub group_stretch : {c k j : ℕ} → IsGroup r c k j → Stretch r.footing.now.tables.now r.footing.now.terms.now r.footing.now.assignment.now r.footing.now.tallies.now r.marks.now r.x k j
   group_stretch g = record { going = r.going; first = g.first; last = g.last }

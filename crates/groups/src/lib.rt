@@ -4,12 +4,13 @@
 
 mod group;
 
-ghost use Rattle.std.specs.Prelude.{◌≡◌, ltb};
+ghost use Rattle.std.specs.Prelude.{◌≡◌, ◌≤◌, ltb};
 ghost use Rattle.plpb.specs.Lists.{any, all, count};
 ghost use Rattle.plpb.specs.Plan.{rule_holds};
 ghost use Rattle.plpb.specs.Equations.{clause_break};
 ghost use Rattle.order.specs.Breaks.{spoils_part, false_after};
-ghost use Rattle.effects.specs.Run.{Inside};
+ghost use Rattle.order.specs.Blocks.{rules_along};
+ghost use Rattle.effects.specs.Run.{Inside, plan as run_plan, bits as run_bits};
 ghost use Rattle.groups.specs.Run.{end_of_group};
 ghost use Rattle.groups.specs.Group.{bits, clause, rules};
 
@@ -29,14 +30,15 @@ pub fn group_end(run: &Run<'_, '_>, k: usize) -> usize
         .unwrap_or(run.end)
 }
 
-impl Group<'_> {
-    // Whether the flip spoils one of the group's rules.
-    fn any_spoils(&self) -> bool
-        ensures { result ≡ any (spoils_part (bits self.now) self.now.run.now.x) (rules self.now) }
-    {
-        (self.first..self.end).any(|i| self.run.spoils_at(i))
-    }
+// Whether the flip spoils one of the rules at the places from k on, below j: a group's, or any others of the run.
+pub fn any_spoils(run: &Run<'_, '_>, k: usize, j: usize) -> bool
+    requires { (run.now.first ≤ k) × (j ≤ run.now.end) }
+    ensures { result ≡ any (spoils_part (run_bits run.now) run.now.x) (rules_along (run_plan run.now) k j) }
+{
+    (k..j).any(|i| run.spoils_at(i))
+}
 
+impl Group<'_> {
     // How many of the group's rules hold.
     fn held(&self) -> usize
         ensures { result ≡ count (rule_holds (bits self.now)) (rules self.now) }
@@ -65,7 +67,7 @@ impl Group<'_> {
         if self.end - self.first < holding {
             return false;
         }
-        if !self.any_spoils() {
+        if !any_spoils(run, self.first, self.end) {
             return false;
         }
         if 0 < holding && holding != self.held() {

@@ -39,6 +39,9 @@ returns c =
     ] in
     group_decides s g.whole (sym c.any_spoils.ensures ∙ c.if-not-any_spoils.false) inside c.all_fail.ensures
 
+pub any_spoils-requires : goal.any_spoils-requires
+any_spoils-requires c = let g = c.args.self.now in (omega (arith, g.whole.first, g.run.now.begins), omega (arith, g.whole.last, g.run.now.ends))
+
 pub overflow_add-self : goal.overflow_add-self
 overflow_add-self c = let g = c.args.self.now in omega (arith, g.whole.clause_there, (parts _ _ g.run.now.going.kept.ready.laid).clause_count)
 
