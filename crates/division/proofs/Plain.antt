@@ -20,6 +20,7 @@ use Rattle.division.specs.Eight.{kept, laid, refusal_number, refusal_in, parts_i
 use Rattle.std.specs.Prelude.{Result, Ok, Err, IfOk}
 use Rattle.division.proofs.Whole.{few_remain, whole_parts_length, splits_all}
 use Rattle.division.proofs.Laws.{good_some}
+use Rattle.std.proofs.Math.Dec.{eqb-suc-zero}
 
 -- ---- 0 where there is no race
 
@@ -230,3 +231,13 @@ module _ (ss : List ℕ) (numbers : ℕ) where
       by false m true n w l = none m n
       by false m false n false l = wrong m n l
       by false m false n true l = lawful m n l
+
+-- What is answered behind a refusal that was found before, by its number, 0 for none: that refusal and no part, or what is answered of the stakes.
+pub behind : ℕ → Result Parts Refusal → ℕ × List Part
+behind before r = cond (eqb before 0) (refusal_in r, parts_in r) (before, [])
+
+-- It is what a plain list of stakes gets behind that refusal, whatever its number.
+pub told_behind : (before : ℕ) (ss : List ℕ) (numbers : ℕ)
+    → behind before (divided (kept ss) numbers) ≡ (refusal_after before ss, parts_after before numbers ss)
+told_behind zero ss numbers = unfold behind in let t = divided_told ss numbers in ap₂ (λ (n : ℕ) (ps : List Part). (n, ps)) t.refusal t.parts
+told_behind (suc k) ss numbers = unfold behind parts_after refusal_after in let e = eqb-suc-zero k in rw (e, e)
