@@ -30,7 +30,7 @@ pub struct Counts {
 }
 
 impl Counts {
-    const NONE: Counts = Counts {
+    pub const NONE: Counts = Counts {
         breaks: Count::ZERO,
         makes: Count::ZERO,
     };
