@@ -1,4 +1,4 @@
--- For callers: tallies counted anew, with the needs filled behind them, are kept like those that a flip leaves, and the next flip can be made on either.
+-- For callers: tallies counted anew, with the needs filled behind them, are kept like those that a flip leaves.
 -- Assumes nothing.
 use Prim.Native.Nat.{◌-◌, ℕ}
 use native.Mathlib.Omega.{arith}

@@ -74,7 +74,7 @@ impl Lent<'_> {
 }
 
 // Fills the first n bytes with 0. A count goes with the slice, because what stands behind them is lent too. It is a function for its
-// clause, which `clear_work` cites five times, and `reports` calls it twice.
+// clause, which `clear_work` rests on five times, and `reports` calls it twice.
 pub fn clear_first(s: &mut [u8], n: usize)
     requires { n ≤ length s.old }
     ensures { s.new ≡ replicate n 0 ++ drop n s.old }

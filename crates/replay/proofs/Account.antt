@@ -1,4 +1,4 @@
--- The book in `replay`'s contract is that of the file's plan: the tables that hold a plan read back as it. Assumes nothing.
+-- The book in `replay_calls`' contract is that of the file's plan: the tables that hold a plan read back as it. Assumes nothing.
 use Prim.Native.Nat.{ℕ}
 use mathlib.Core.Path.{◌≡◌, subst}
 use mathlib.Core.List.{List}

@@ -1,4 +1,4 @@
--- What `replay` leaves for every file whose accepted loading leaves the tables lent: told by the book of the file's plan, with demand 3 of the same calls.
+-- What `replay_calls` leaves for every file whose accepted loading leaves the tables lent: told by the book of the file's plan, with demand 3 of the same calls.
 -- Assumes nothing.
 use Rattle.std.specs.Prelude.{ℕ, ◌≡◌, List}
 use Rattle.plpb.specs.Plan.{Plan}
