@@ -23,9 +23,10 @@ use Rattle.tallies.proofs.Tallied.{get_d_map}
 use Rattle.recount.specs.Core.{Laid}
 use Rattle.recount.proofs.Laid.{parts}
 use Rattle.columns.specs.Layout.{hint_at, picks_at, pick_at, weight_at, list_at, column_size}
-use Rattle.columns.specs.Columns.{words_from, terms_ahead, Weighed, Tells, Listed}
+use Rattle.columns.specs.Columns.{words_from, terms_ahead, Weighed, Tells, Hinted, Listed}
 use Rattle.columns.proofs.Marks.{Behind, weighed_behind, hinted_same, hinted_wrote, listed_behind}
 use Rattle.effects.specs.declared.footing.Footing.{Footing}
+use Rattle.effects.specs.Footing.{HasRun}
 use Rattle.picks.specs.declared.choice.Choice.{Choice}
 use Rattle.picks.specs.Picks.{Noted, Picks, Pickable, Triable, Tried}
 use Rattle.picks.specs.Choice.{Marked}
@@ -176,11 +177,15 @@ module _ {q : Footing} {s : List ℕ} {c : ℕ} (k : Pickable q s c) where
         let back : list_at (terms_ahead plan c) + (i - first) ≡ i = omega (arith, e) in
         ap (word_at t) (sym back) ∙ listed_at c (i - first) (noted_listed n k.listed) k.there inside
 
-    pub list_triable : {count : ℕ} → count ≤ i - first → Triable q t i count
-    list_triable l =
+    pub list_run : HasRun q t (word_at t i)
+    list_run =
         let within = choosable_within plan (get_or plan.clauses c []) (i - first) inside in
+        record { weighed = noted_weighed n k.weighed; low = rw list_here within.0; high = rw list_here within.1 }
+
+    pub list_triable : {count : ℕ} → Hinted (plan_of_tables q.tables.now q.terms.now) s → count ≤ i - first → Triable q t i count
+    list_triable h l =
         record {
-          run = record { weighed = noted_weighed n k.weighed; hinted = n.hints k.hinted; low = rw list_here within.0; high = rw list_here within.1 };
+          hint = record { run = list_run; hinted = n.hints h };
           inside = omega (arith, n.size, k.weighed.room, list_ends, e, f);
           few = omega (arith, list_few, inside);
         }
@@ -192,4 +197,4 @@ listed q c e l = rw (e.0, e.1) at l
 
 -- The marks of a clause to choose of are those that its list is picked from.
 pub pickable : (q : Choice) {marks : List ℕ} → Marked q marks → Pickable q.footing marks q.clause
-pickable q m = record { weighed = m.weighed; hinted = m.hinted; listed = m.listed; there = q.there }
+pickable q m = record { weighed = m.weighed; listed = m.listed; there = q.there }

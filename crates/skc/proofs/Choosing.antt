@@ -95,7 +95,7 @@ module _ {q : Choice} {marks numbers : List ℕ} {used : ℕ} (k : Choosable q m
 
 pub still_to_choose : {q : Choice} {s t numbers : List ℕ} {used after : ℕ} → Noted (plan q) s t → after ≤ length numbers / 4 → Choosable q s numbers used → Choosable q t numbers after
 still_to_choose o l k = record {
-  marked = record { weighed = noted_weighed o k.marked.weighed; hinted = o.hints k.marked.hinted; listed = noted_listed o k.marked.listed };
+  marked = record { weighed = noted_weighed o k.marked.weighed; listed = noted_listed o k.marked.listed };
   some = k.some;
   listed = l;
 }

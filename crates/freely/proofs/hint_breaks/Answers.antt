@@ -8,7 +8,7 @@ use Rattle.freely.proofs.Free.{place_breaks}
 use Rattle.freely.proofs.hint_breaks.Goals as goal
 
 pub word-hint-requires : goal.word-hint-requires
-word-hint-requires c = omega (arith, going_few (going_on _ c.requires), c.requires.weighed.room)
+word-hint-requires c = omega (arith, going_few (going_on _ c.requires.run), c.requires.run.weighed.room)
 
 pub hint_spoils-requires : goal.hint_spoils-requires
 hint_spoils-requires c = (c.requires, omega (arith, c.word-hint.ensures, c.if-hint-lt-SIDE_HINTS.false))
@@ -16,4 +16,4 @@ hint_spoils-requires c = (c.requires, omega (arith, c.word-hint.ensures, c.if-hi
 pub returns : goal.returns
 returns c = λ e.
     let h = c.hint_spoils.ensures in
-    place_breaks (visited_single c.args.footing.now c.requires h) h.single (sym h.told ∙ e)
+    place_breaks (visited_single c.args.footing.now c.requires.run h) h.single (sym h.told ∙ e)

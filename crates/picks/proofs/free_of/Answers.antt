@@ -49,7 +49,7 @@ module _ {q : Footing} {s : List ℕ} {c : ℕ} (k : Pickable q s c) {first end 
 pub loop-i-init : goal.loop-i-init
 loop-i-init c =
     let l = listed c.args.choice.now.footing c.args.choice.now.clause c.plan.ensures (rw (sym c.into_iter-i-iterator.ensures.into_iter_gives) at c.list_of-i-items.ensures) in
-    (omega arith, omega (arith, l.1), refl, start (pickable c.args.choice.now c.requires) l.0 l.1)
+    (omega arith, omega (arith, l.1), refl, start (pickable c.args.choice.now c.requires.0) l.0 l.1)
 
 pub free_one-count-requires : goal.free_one-count-requires
 free_one-count-requires c =
@@ -57,7 +57,7 @@ free_one-count-requires c =
     let n = c.in-Some.ensures.steps.1 in
     let l = listed c.args.choice.now.footing c.args.choice.now.clause c.plan.ensures (rw (sym c.into_iter-i-iterator.ensures.into_iter_gives) at c.list_of-i-items.ensures) in
     let high : c.loop-i.i-iterator.start < c.into_iter-i-iterator.result.end = omega (arith, n.0, i.2) in
-    rw n.1 (list_triable (pickable c.args.choice.now c.requires) i.3.noted l.0 l.1 i.0 high (few (pickable c.args.choice.now c.requires) l.0 l.1 i.0 high i.3))
+    rw n.1 (list_triable (pickable c.args.choice.now c.requires.0) i.3.noted l.0 l.1 i.0 high c.requires.1 (few (pickable c.args.choice.now c.requires.0) l.0 l.1 i.0 high i.3))
 
 pub loop-i-preserved : goal.loop-i-preserved
 loop-i-preserved c =
@@ -65,4 +65,4 @@ loop-i-preserved c =
     let n = c.in-Some.ensures.steps.1 in
     let l = listed c.args.choice.now.footing c.args.choice.now.clause c.plan.ensures (rw (sym c.into_iter-i-iterator.ensures.into_iter_gives) at c.list_of-i-items.ensures) in
     let high : c.loop-i.i-iterator.start < c.into_iter-i-iterator.result.end = omega (arith, n.0, i.2) in
-    (omega (arith, i.0, n.2), omega (arith, c.in-Some.ensures.steps.0, n.0, n.2), c.in-Some.ensures.steps.0 ∙ i.2, rw n.2 (again (pickable c.args.choice.now c.requires) l.0 l.1 i.0 high i.3 (rw n.1 at c.free_one-count.ensures)))
+    (omega (arith, i.0, n.2), omega (arith, c.in-Some.ensures.steps.0, n.0, n.2), c.in-Some.ensures.steps.0 ∙ i.2, rw n.2 (again (pickable c.args.choice.now c.requires.0) l.0 l.1 i.0 high i.3 (rw n.1 at c.free_one-count.ensures)))

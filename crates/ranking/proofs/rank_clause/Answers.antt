@@ -9,8 +9,8 @@ use lib.Seq.{drop-cons, drop-length}
 use Rattle.words.specs.Words.{word_at}
 use Rattle.effects.specs.declared.footing.Footing.{Footing}
 use Rattle.effects.specs.Footing.{HasRun}
-use Rattle.picks.specs.Picks.{of_clause, Pickable, Triable}
-use Rattle.picks.proofs.Noting.{listed, noted_self, list_ends, list_here, list_triable, pickable}
+use Rattle.picks.specs.Picks.{of_clause, Pickable}
+use Rattle.picks.proofs.Noting.{listed, noted_self, list_ends, list_here, list_run, pickable}
 use Rattle.ranking.proofs.Ranking.{ranks_none}
 use Rattle.ranking.proofs.rank_clause.Invariants.{list_start, from}
 use Rattle.ranking.proofs.rank_clause.Goals as goal
@@ -25,7 +25,7 @@ module _ {q : Footing} {marks : List ℕ} {c : ℕ} (k : Pickable q marks c) {i 
       ap₂ (λ x n. x ∷ drop n (of_clause q c)) (list_here k (noted_self _ marks) refl refl (omega arith) (omega arith)) one ∙ sym (drop-cons (of_clause q c) d 0 (omega arith))
 
   run : HasRun q marks (word_at marks (i - 1))
-  run = let t : Triable q marks (i - 1) 0 = list_triable k (noted_self _ marks) refl refl (omega arith) (omega arith) (omega arith) in t.run
+  run = list_run k (noted_self _ marks) refl refl (omega arith) (omega arith)
 
 pub list_of-list-requires : goal.list_of-list-requires
 list_of-list-requires c = let e = c.plan.ensures in rw (e.0, e.1) (c.args.choice.now.there, c.requires.listed)

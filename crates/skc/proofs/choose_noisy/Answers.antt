@@ -7,11 +7,11 @@ use Rattle.skc.proofs.choose_noisy.Goals as goal
 
 pub choose_least-requires : goal.choose_least-requires
 choose_least-requires c =
-    still_to_choose (noted_self _ _) (listed_after c.args.numbers.now c.args.used c.pick.ensures c.in_ok-drawn.was) c.requires
+    (still_to_choose (noted_self _ _) (listed_after c.args.numbers.now c.args.used c.pick.ensures c.in_ok-drawn.was) c.requires.0, c.requires.1)
 
 pub choose_any-requires : goal.choose_any-requires
 choose_any-requires c =
-    still_to_choose (noted_self _ _) (listed_after c.args.numbers.now c.args.used c.pick.ensures c.in_ok-drawn.was) c.requires
+    still_to_choose (noted_self _ _) (listed_after c.args.numbers.now c.args.used c.pick.ensures c.in_ok-drawn.was) c.requires.0
 
 pub returns-then-is_below : goal.returns-then-is_below
 returns-then-is_below c =
@@ -24,4 +24,4 @@ returns-else-is_below c =
 
 pub returns-in_err-drawn : goal.returns-in_err-drawn
 returns-in_err-drawn c =
-    (rw (handed_on c.from_residual.result c.from_residual.ensures.1) (noisy_gone _ c.pick.ensures _ _ _ _ c.in_err-drawn.was c.requires.listed), noted_self _ _)
+    (rw (handed_on c.from_residual.result c.from_residual.ensures.1) (noisy_gone _ c.pick.ensures _ _ _ _ c.in_err-drawn.was c.requires.0.listed), noted_self _ _)

@@ -7,7 +7,7 @@ use Rattle.spoiling.proofs.Counting.{single_past}
 use Rattle.spoiling.proofs.cut_at_hint.Goals as goal
 
 pub word-requires : goal.word-requires
-word-requires c = omega (arith, going_few (going_on _ c.requires), c.requires.weighed.room)
+word-requires c = omega (arith, going_few (going_on _ c.requires.run), c.requires.run.weighed.room)
 
 pub hint_state-requires : goal.hint_state-requires
 hint_state-requires c = (c.requires, omega (arith, c.word.ensures, c.if-word-lt-SIDE_HINTS.false))
@@ -15,4 +15,4 @@ hint_state-requires c = (c.requires, omega (arith, c.word.ensures, c.if-word-lt-
 pub returns : goal.returns
 returns c = λ e.
     let h = c.hint_state.ensures in
-    single_past (visited_single c.args.footing.now c.requires h) h.single h.told (c.surely_past.ensures e)
+    single_past (visited_single c.args.footing.now c.requires.run h) h.single h.told (c.surely_past.ensures e)

@@ -9,15 +9,15 @@ use Rattle.effects.proofs.Places.{place_weight, side_countable, side_state}
 use Rattle.effects.proofs.footing.Footing.hint_state.Goals as goal
 
 pub word-requires : goal.word-requires
-word-requires c = let r = c.requires.0 in omega (arith, going_few (going_on _ r), r.weighed.room)
+word-requires c = let r = c.requires.0.run in omega (arith, going_few (going_on _ r), r.weighed.room)
 
 pub told-requires : goal.told-requires
-told-requires c = let h = c.side_told-side.ensures in (side_countable (visited_single c.args.self.now c.requires.0 h) h.told.0, c.args.self.now.sized.room)
+told-requires c = let h = c.side_told-side.ensures in (side_countable (visited_single c.args.self.now c.requires.0.run h) h.told.0, c.args.self.now.sized.room)
 
 pub returns : goal.returns
 returns c =
     let h = c.side_told-side.ensures in
-    let v = visited_single c.args.self.now c.requires.0 h in
+    let v = visited_single c.args.self.now c.requires.0.run h in
     record {
       at = h.at;
       first = h.first;

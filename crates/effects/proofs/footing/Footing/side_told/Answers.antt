@@ -10,7 +10,7 @@ use Rattle.effects.proofs.Hints.{hint_weight, hint_side}
 use Rattle.effects.proofs.footing.Footing.side_told.Goals as goal
 
 pub word-hint-requires : goal.word-hint-requires
-word-hint-requires c = let r = c.requires.0 in omega (arith, going_few (going_on _ r), r.weighed.room)
+word-hint-requires c = let r = c.requires.0.run in omega (arith, going_few (going_on _ r), r.weighed.room)
 
 pub overflow_mul-result : goal.overflow_mul-result
 unfolding word_place
@@ -22,8 +22,8 @@ overflow_add-result-2 c = omega (arith, c.rule_in.ensures)
 
 pub returns : goal.returns
 returns c =
-    let r = c.requires.0 in
-    let h = r.hinted.each c.args.x r.low r.high c.requires.1 in
+    let r = c.requires.0.run in
+    let h = c.requires.0.hinted.each c.args.x r.low r.high c.requires.1 in
     let v = visited_single c.args.self.now r h in
     record {
       at = h.at;
