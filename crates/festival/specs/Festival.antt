@@ -21,7 +21,10 @@ given numbers settings tables terms = record { numbers = numbers; settings = set
 
 -- What the slices hold that the code has of it.
 abbrev pub given_in : Slices → Given
-given_in g = given g.numbers.now g.settings.now (map (λ s. s.now) g.tables) (map (λ s. s.now) g.terms)
+given_in g =
+    given g.numbers.now g.settings.now
+    (g.t1.now ∷ g.t2.now ∷ g.t3.now ∷ g.t4.now ∷ g.t5.now ∷ g.t6.now ∷ g.t7.now ∷ g.t8.now ∷ [])
+    (g.e1.now ∷ g.e2.now ∷ g.e3.now ∷ g.e4.now ∷ g.e5.now ∷ g.e6.now ∷ g.e7.now ∷ g.e8.now ∷ [])
 
 -- What is written: an assignment and an answer for each race, one behind the other, and the work tables.
 pub record Buffers : Type 0 where

@@ -4,7 +4,7 @@
 // lends it: the call answers 21 for one that is too short, so that no type can have its length.
 #![tactic(auto)]
 
-ghost use Rattle.std.specs.Prelude.{◌≡◌, cond, List, [], ◌∷◌, ℕ, ◌+◌, ◌*◌, ◌/◌, ◌≤◌, ◌<◌, length, get_or, map};
+ghost use Rattle.std.specs.Prelude.{◌≡◌, cond, List, [], ◌∷◌, ℕ, ◌+◌, ◌*◌, ◌/◌, ◌≤◌, ◌<◌, length, get_or};
 ghost use Rattle.format.specs.Assignment.{assignment_size};
 ghost use Rattle.division.specs.Split.{refusal_after, parts_after};
 ghost use Rattle.division.specs.Eight.{kept, laid, refusal_in, parts_in};
@@ -28,14 +28,28 @@ const ALL_ASSIGNMENTS: usize = RACES * format::ASSIGNMENT;
 
 const ALL_ANSWERS: usize = RACES * exchange::ANSWER;
 
-// What is read: the list of numbers, the settings, and the plans' tables and terms in the races' order. Tables and terms stand in two arrays, as `given`
-// names two lists of what they hold: an array of pairs would be taken apart into these two in each clause.
+// What is read: the list of numbers, the settings, and the plans in the races' order, t for their tables and e for their terms. Each slice is a field: an array
+// of slices would be copied where one is picked out of it, and no call of the library has a local array but of numbers.
 #[derive(Clone, Copy)]
 pub struct Given<'a> {
     pub numbers: &'a [u8],
     pub settings: &'a [u8],
-    pub tables: [&'a [u8]; RACES],
-    pub terms: [&'a [u8]; RACES],
+    pub t1: &'a [u8],
+    pub e1: &'a [u8],
+    pub t2: &'a [u8],
+    pub e2: &'a [u8],
+    pub t3: &'a [u8],
+    pub e3: &'a [u8],
+    pub t4: &'a [u8],
+    pub e4: &'a [u8],
+    pub t5: &'a [u8],
+    pub e5: &'a [u8],
+    pub t6: &'a [u8],
+    pub e6: &'a [u8],
+    pub t7: &'a [u8],
+    pub e7: &'a [u8],
+    pub t8: &'a [u8],
+    pub e8: &'a [u8],
 }
 
 // Whether each of these lengths is enough for 8 races.
@@ -45,13 +59,33 @@ fn has_room(settings: usize, assignments: usize, answers: usize) -> bool
     ALL_SETTINGS <= settings && ALL_ASSIGNMENTS <= assignments && ALL_ANSWERS <= answers
 }
 
-// One race's slice of all, by its place from 0. It is the library's index, and stands here for its clause: callers cite the place in the list of what the
-// slices hold, where the index speaks of the slices.
-fn one_of<'a>(i: usize, slices: [&'a [u8]; RACES]) -> &'a [u8]
+// One of eight slices, by its place from 0.
+fn one_of<'a>(
+    i: usize,
+    a: &'a [u8],
+    b: &'a [u8],
+    c: &'a [u8],
+    d: &'a [u8],
+    e: &'a [u8],
+    f: &'a [u8],
+    g: &'a [u8],
+    h: &'a [u8],
+) -> &'a [u8]
     requires { i < 8 }
-    ensures { result.now ≡ get_or (map (λ s. s.now) slices.entry) i [] }
+    ensures { result.now
+        ≡ get_or (a.now ∷ b.now ∷ c.now ∷ d.now ∷ e.now ∷ f.now ∷ g.now
+        ∷ h.now ∷ []) i [] }
 {
-    slices[i]
+    match i {
+        0 => a,
+        1 => b,
+        2 => c,
+        3 => d,
+        4 => e,
+        5 => f,
+        6 => g,
+        _ => h,
+    }
 }
 
 // One race: its search, whose assignment and answer go to the race's places.
@@ -125,8 +159,8 @@ fn race_at(
         (works work_tables.old work_terms.old work_assignment.old
         work_tallies.old work_marks.old)) }
 {
-    let tables = one_of(i, g.tables);
-    let terms = one_of(i, g.terms);
+    let tables = one_of(i, g.t1, g.t2, g.t3, g.t4, g.t5, g.t6, g.t7, g.t8);
+    let terms = one_of(i, g.e1, g.e2, g.e3, g.e4, g.e5, g.e6, g.e7, g.e8);
     let s = settings_at(g.settings, i);
     let from = 4 * part.first;
     let end = from + 4 * part.length;
@@ -280,8 +314,22 @@ pub fn plan_races<'a>(
     let g = Given {
         numbers,
         settings,
-        tables: [t1, t2, t3, t4, t5, t6, t7, t8],
-        terms: [e1, e2, e3, e4, e5, e6, e7, e8],
+        t1,
+        e1,
+        t2,
+        e2,
+        t3,
+        e3,
+        t4,
+        e4,
+        t5,
+        e5,
+        t6,
+        e6,
+        t7,
+        e7,
+        t8,
+        e8,
     };
     let planned = plan_all(
         stakes,

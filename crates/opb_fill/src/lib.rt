@@ -21,7 +21,7 @@ use format::Mode;
 pub use lawful::Lawful;
 use opb_lines::next_line;
 use statements::{Kind, Signed, kind_at, objective_sum, relation_at, sum_at, term_at};
-use tables::entries::{put_clause, put_entry};
+use tables::entries::{put_clause, put5};
 use tables::sections::Counted;
 use tokens::Text;
 use words::{clear, narrow, write_two, write_u32};
@@ -73,9 +73,13 @@ fn put_rule(t: Text<'_>, first: usize, out: &mut [u8]) -> usize
     } else {
         (Mode::Lower, 0)
     };
-    put_entry(
+    put5(
         out,
-        &[narrow(first), narrow(sum.count), mode as u32, bound, upper],
+        narrow(first),
+        narrow(sum.count),
+        mode as u32,
+        bound,
+        upper,
     );
     sum.count
 }

@@ -8,16 +8,24 @@ ghost use Rattle.format.specs.Tables.{rule_entries, term_entries};
 ghost use Rattle.tables.specs.Places.{RuleHere};
 
 use crate::fields;
-use words::{narrow, write_word};
+use words::{narrow, write_two, write_word};
 
-// The words of an entry, one behind the other. Whoever has the words of one calls it.
-pub fn put_entry(out: &mut [u8], entry: &[u32])
-    requires { 4 * length entry.now ≤ length out.old }
-    ensures { out.new ≡ front (word_bytes entry.now) out.old }
+// The words of an entry come one by one: as a slice they would be an array on the stack of each function that has them.
+fn put4(out: &mut [u8], a: u32, b: u32, c: u32, d: u32)
+    requires { 16 ≤ length out.old }
+    ensures { out.new ≡ front (word_bytes (a ∷ b ∷ c ∷ d ∷ [])) out.old }
 {
-    for (i, w) in entry.iter().enumerate() {
-        write_word(out, i, *w);
-    }
+    write_two(out, 0, a, b);
+    write_two(out, 2, c, d);
+}
+
+// Five words, as a rule's entry has them.
+pub fn put5(out: &mut [u8], a: u32, b: u32, c: u32, d: u32, e: u32)
+    requires { 20 ≤ length out.old }
+    ensures { out.new ≡ front (word_bytes (a ∷ b ∷ c ∷ d ∷ e ∷ [])) out.old }
+{
+    put4(out, a, b, c, d);
+    write_word(out, 4, e);
 }
 
 // The counts of variables, clauses, rules and terms.
@@ -25,9 +33,12 @@ pub fn put_head(out: &mut [u8], variables: u32, clauses: usize, rules: usize, te
     requires { (16 ≤ length out.old) × (clauses < 4_294_967_296) × (rules < 4_294_967_296) × (terms < 4_294_967_296) }
     ensures { out.new ≡ front (word_bytes (variables ∷ clauses ∷ rules ∷ terms ∷ [])) out.old }
 {
-    put_entry(
+    put4(
         out,
-        &[variables, narrow(clauses), narrow(rules), narrow(terms)],
+        variables,
+        narrow(clauses),
+        narrow(rules),
+        narrow(terms),
     );
 }
 
@@ -36,7 +47,7 @@ pub fn put_clause(out: &mut [u8], first: usize, rules: usize)
     requires { (8 ≤ length out.old) × (first < 4_294_967_296) × (rules < 4_294_967_296) }
     ensures { out.new ≡ front (word_bytes (first ∷ rules ∷ [])) out.old }
 {
-    put_entry(out, &[narrow(first), narrow(rules)]);
+    write_two(out, 0, narrow(first), narrow(rules));
 }
 
 // A rule: its first term, how many it has, its mode and its two bounds.
@@ -49,7 +60,7 @@ pub fn put_rule(file: &[u8], at: usize, first: usize, out: &mut [u8])
     let mode = u32::from(file[at + 3]);
     let lower = words::read_u32(file, at + 4);
     let upper = words::read_u32(file, at + 8);
-    put_entry(out, &[narrow(first), terms, mode, lower, upper]);
+    put5(out, narrow(first), terms, mode, lower, upper);
 }
 
 // A term: its variable and its weight.
@@ -57,9 +68,11 @@ fn put_term(file: &[u8], at: usize, out: &mut [u8])
     requires { (at + 6 ≤ length file.now) × (8 ≤ length out.old) }
     ensures { out.new ≡ front (word_bytes (term_entries (term_at file.now at ∷ []))) out.old }
 {
-    put_entry(
+    write_two(
         out,
-        &[words::read_u16(file, at), words::read_u32(file, at + 2)],
+        0,
+        words::read_u16(file, at),
+        words::read_u32(file, at + 2),
     );
 }
 

@@ -1,9 +1,9 @@
 -- The tests one after another: the first that fails decides.
 -- Assumes nothing.
 use Prim.Native.Nat.{ℕ, ◌≤◌, ◌<◌}
-use mathlib.Core.Path.{◌≡◌, refl, sym, ap, ◌∙◌}
-use mathlib.Core.Bool.{Bool, true, false, not, ◌&&◌}
-use lib.Dec.{T, eqb, leb}
+use mathlib.Core.Path.{◌≡◌, sym, ap, ◌∙◌}
+use mathlib.Core.Bool.{Bool, true, false, not}
+use lib.Dec.{T, leb}
 use lib.ListN.{length}
 use mir.Facts.{leb_yes}
 use borrow.Author.Rules.{rules}
@@ -16,25 +16,11 @@ use Rattle.plpb.specs.Lists.{◌and◌}
 use Rattle.plpb.proofs.Lists.{and_left, and_right, T_true}
 use Rattle.format.specs.File.{refuse}
 use Rattle.lending.specs.Lent.{Lent, search_refusal}
-use Rattle.xorwow.specs.declared.Xorwow.{Xorwow}
 use Rattle.figures.specs.Runs.{numbers_size}
 use Rattle.trials.specs.declared.Trial.{Trial}
 use Rattle.trials.specs.Trials.{all_zero, outside, runs_refusal}
 
 -- ---- the tests
-
-joined : (a b c d e : Bool) → a && (b && (c && (d && (e && true)))) ≡ a and b and c and d and e
-unfolding ◌and◌
-joined false b c d e = refl
-joined true false c d e = refl
-joined true true false d e = refl
-joined true true true false e = refl
-joined true true true true false = refl
-joined true true true true true = refl
-
-pub words_zero : (g : Xorwow) → eqb g.x 0 && (eqb g.y 0 && (eqb g.z 0 && (eqb g.w 0 && (eqb g.v 0 && true)))) ≡ all_zero g
-unfolding all_zero
-words_zero g = joined _ _ _ _ _
 
 -- What a range's `contains` tells of a number is what the two tests of the definition say.
 le_test : (a b : ℕ) → is_le (nat_cmp a b) ≡ leb a b

@@ -25,7 +25,7 @@ pub const NUMBERS: usize = 65536;
 fn all_zero(g: Xorwow) -> bool
     ensures { result ≡ all_zero g }
 {
-    [g.x, g.y, g.z, g.w, g.v] == [0; 5]
+    g.x == 0 && g.y == 0 && g.z == 0 && g.w == 0 && g.v == 0
 }
 
 // The number of the first refusal, 0 for none: the C interface gives it out as it is. The search's own come last, as `lending` gives them. Why it is no enum

@@ -31,7 +31,7 @@ returns c =
     let upper : c.if-relation.mode.1 ≡ cond exact c.signed_word-bound.result 0 =
     elim c.if-relation.branch [ then-relation w ↦ rw w.if-relation.true (ap (λ (p : Mode × ℕ). p.1) w.mode-is) | else-relation w ↦ rw w.if-relation.false (ap (λ (p : Mode × ℕ). p.1) w.mode-is) ] in (
       sum.count,
-      c.put_entry.ensures
+      c.put5.ensures
           ∙ ap (λ ws. front (word_bytes ws) c.args.out.now)
           (rule_entry_lem t.bytes.now t.at c.args.first _ (r.exact ∙ read_behind sum.rest is_exact) c.narrow.ensures (c.narrow-2.ensures ∙ sum.count) mode bound upper),
     )

@@ -40,7 +40,7 @@ read_u32-upper-requires c = omega (arith, here_body _ _ c.requires.rule_here)
 
 pub returns : goal.returns
 returns c =
-    c.put_entry.ensures
+    c.put5.ensures
     ∙ ap (λ (ws : List ℕ). front (word_bytes ws) c.args.out.now)
     (rule_words_lem _ _ c.requires.rule_here _ c.narrow.ensures (c.narrow-terms.ensures ∙ c.terms_of.ensures)
     c.from-mode.ensures c.read_u32-lower.ensures c.read_u32-lower.type_inv c.read_u32-upper.ensures c.read_u32-upper.type_inv)
