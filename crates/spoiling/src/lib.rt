@@ -58,11 +58,13 @@ fn shows_cut(run: &Run<'_, '_>, k: usize) -> bool
     surely_past(run.state_at(k))
 }
 
-// Whether the last place of the run shows it: the objective's clause is behind all others.
+// Whether the last place of the run shows it: the objective's clause is behind all others. A run of up to two places is not asked, since it is summed nearly as
+// soon as its last one is looked at.
+#[inline(always)]
 fn cut_at_last(run: &Run<'_, '_>) -> bool
     ensures { result ≡ true → suc cap ≡ capped_break (plan run.now) (bits run.now) run.now.x }
 {
-    if run.end <= run.first {
+    if run.end.saturating_sub(run.first) <= 2 {
         return false;
     }
     shows_cut(run, run.end - 1)
@@ -97,7 +99,9 @@ pub struct Step {
 
 // A clause of one rule counts nothing where the rule is not spoiled, one of several where it does not break: no binomial is worked out there.
 // `freely::passed` and `counts::count_at` go on to the next group as this does, and each asks something else of a rule and of a group: one function over two
-// closures would say of both what each of the three now says in a line.
+// closures would say of both what each of the three now says in a line. It is put into `sum_along`, and that into its callers: in a plan of
+// short runs the calls take a tenth of a search.
+#[inline(always)]
 fn count_at(run: &Run<'_, '_>, k: usize) -> Step
     requires { Starts run.now k }
     ensures { Stepped (clause_break (bits run.now) run.now.x) run.now k result }
@@ -131,6 +135,7 @@ fn count_at(run: &Run<'_, '_>, k: usize) -> Step
 
 // What the run's groups count, where it is no more than a limit. The place goes from group to group, as far as each is long, so that no `for` counts it.
 // Most groups count nothing, and nothing is added there.
+#[inline(always)]
 fn sum_along(run: &Run<'_, '_>, limit: u64) -> Option<u64>
     ensures { UpTo limit (capped_break (plan run.now) (bits run.now) run.now.x) result }
 {
@@ -153,7 +158,8 @@ fn sum_along(run: &Run<'_, '_>, limit: u64) -> Option<u64>
     Some(sum.rank())
 }
 
-// The break count of the variable where it is no more than a limit.
+// The break count of the variable where it is no more than a limit. It is put into its caller, so that in a plan of short runs no call is made.
+#[inline(always)]
 pub fn break_of(run: &Run<'_, '_>, limit: u64) -> Option<u64>
     ensures { UpTo limit (capped_break (plan run.now) (bits run.now) run.now.x) result }
 {
@@ -163,8 +169,8 @@ pub fn break_of(run: &Run<'_, '_>, limit: u64) -> Option<u64>
     sum_along(run, limit)
 }
 
-// The same of x, with its hint asked first, which SKC leaves where it finds that x is not free. It is put into its caller, and says again what `break_of` does
-// then: of most variables of a long clause hint or last place tells the count, and no call is made.
+// The same of x, with its hint asked first, which SKC leaves where it finds that x is not free: of most variables of a long clause hint or last place tells the
+// count. It is put into its caller, and says again what `break_of` does then, whose clause speaks of the run that it is handed.
 #[inline(always)]
 pub fn break_by_hint(footing: &Footing<'_>, marks: &[u8], x: usize, limit: u64) -> Option<u64>
     requires { HasHint footing.now marks.now x }
