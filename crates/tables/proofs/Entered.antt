@@ -8,10 +8,10 @@ use lib.ListN.{length, get_or, length-append, take, drop, length-drop}
 use borrow.Rule.Slice.PartMut.{mid_of, put_mid}
 use Rattle.plpb.specs.Plan.{Term, Rule}
 use Rattle.words.specs.Words.{num_at, word_bytes, signed, unsigned}
-use Rattle.words.specs.Writes.{front, put}
+use Rattle.words.specs.Writes.{front, put, put_words}
 use Rattle.words.proofs.Words.{Below, num_at_lt, unsigned_signed, length_word_bytes}
-use Rattle.words.proofs.Writes.{front_none, front_put, length_front, lent_tail, word_bytes_append}
-use Rattle.std.proofs.lemmas.List.{length-take-le}
+use Rattle.words.proofs.Writes.{front_none, front_put, length_front, lent_tail, word_bytes_append, words_behind}
+use Rattle.std.proofs.lemmas.List.{take_more, length-take-le}
 use Rattle.format.specs.File.{tag_at, length_at, terms_in, term_at, terms_at, field_terms, rule_at, mode_at, lower_at, upper_at}
 use Rattle.format.specs.Tables.{rule_entries, term_entries}
 use Rattle.format.proofs.Bounds.{Meant, bounds_tested, bounds_meant}
@@ -80,6 +80,17 @@ terms_lent o t ts us end ys p q l e =
     ∙ ap₂ (λ (k : ℕ) (x : List ℕ). put k (word_bytes (term_entries us)) x) n p
     ∙ front_put (word_bytes (term_entries ts)) (word_bytes (term_entries us)) o
     ∙ ap (λ (x : List ℕ). front x o) (sym (ap word_bytes (term_entries_append ts us) ∙ word_bytes_append (term_entries ts) (term_entries us)))
+
+-- The words of an entry written one behind the other.
+pub entry_start : (ws o : List ℕ) → o ≡ front (word_bytes (take 0 ws)) o
+unfolding word_bytes
+entry_start ws o = sym (front_none o)
+
+module _ (ws o : List ℕ) (i : ℕ) where
+  pub entry_more : {s t : List ℕ} → i < length ws → s ≡ front (word_bytes (take i ws)) o → t ≡ put_words i (get_or ws i 0 ∷ []) s → t ≡ front (word_bytes (take (i + 1) ws)) o
+  entry_more h p q =
+      words_behind o (take i ws) (get_or ws i 0 ∷ []) i p (sym (length-take-le i ws (omega (arith, h)))) q
+      ∙ ap (λ (us : List ℕ). front (word_bytes us) o) (sym (take_more ws i 0 h))
 
 -- How many entries are left behind i of them.
 pub one_less : {i n : ℕ} → i < n → n - i ≡ suc (n - (i + 1))

@@ -28,6 +28,16 @@ pub fn put5(out: &mut [u8], a: u32, b: u32, c: u32, d: u32, e: u32)
     write_word(out, 4, e);
 }
 
+// The words of an entry, one behind the other, for whoever has them as a slice. Those of this file come one by one, for which see `put4`.
+pub fn put_entry(out: &mut [u8], entry: &[u32])
+    requires { 4 * length entry.now ≤ length out.old }
+    ensures { out.new ≡ front (word_bytes entry.now) out.old }
+{
+    for (i, w) in entry.iter().enumerate() {
+        write_word(out, i, *w);
+    }
+}
+
 // The counts of variables, clauses, rules and terms.
 pub fn put_head(out: &mut [u8], variables: u32, clauses: usize, rules: usize, terms: usize)
     requires { (16 ≤ length out.old) × (clauses < 4_294_967_296) × (rules < 4_294_967_296) × (terms < 4_294_967_296) }
@@ -84,5 +94,20 @@ pub fn put_terms(terms: &[u8], out: &mut [u8])
 {
     for i in 0..terms.len() / 6 {
         put_term(terms, 6 * i, &mut out[8 * i..]);
+    }
+}
+
+#[cfg(test)]
+mod tests {
+    use super::*;
+
+    // The lowest byte of a word comes first, and what is behind the words stays. The bytes were worked out by hand.
+    #[test]
+    fn words_as_bytes(rt: HostRuntime) {
+        let mut out = [9; 14];
+        put_entry(&mut out, &[]);
+        assert_eq!(rt; out, [9; 14]);
+        put_entry(&mut out, &[1, 258, 4_294_967_295]);
+        assert_eq!(rt; out, [1, 0, 0, 0, 2, 1, 0, 0, 255, 255, 255, 255, 9, 9]);
     }
 }
