@@ -15,12 +15,14 @@ abbrev pub bits_on : Footing → Assignment
 bits_on q = lent_bits q.tables.now q.terms.now q.assignment.now
 
 -- The marks have the weights of the plan, and x is a variable of it: its run can be gone through.
-pub record HasRun (q : Footing) (marks : List ℕ) (x : ℕ) : Type 0 where
+pub record HasPlaces (q : Footing) (marks : List ℕ) (x : ℕ) : Type 0 where
   pub weighed : Weighed (plan_on q) marks
   pub low : 1 ≤ x
   pub high : x ≤ (plan_on q).variables
 
--- .. and its hint can be asked: the hints are of the plan too.
-pub record HasHint (q : Footing) (marks : List ℕ) (x : ℕ) : Type 0 where
-  pub run : HasRun q marks x
+-- The marks have the weights and hints of the plan, and x is a variable of it: its run can be gone through, and its hint asked.
+pub record HasRun (q : Footing) (marks : List ℕ) (x : ℕ) : Type 0 where
+  pub weighed : Weighed (plan_on q) marks
   pub hinted : Hinted (plan_on q) marks
+  pub low : 1 ≤ x
+  pub high : x ≤ (plan_on q).variables

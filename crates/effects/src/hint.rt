@@ -9,7 +9,7 @@ ghost use Rattle.order.specs.Breaks.{spoils_part};
 ghost use Rattle.rules.specs.State.{StateOf};
 ghost use Rattle.columns.specs.Layout.{hint_at, side_hints};
 ghost use Rattle.columns.specs.Columns.{AtSingle, hint_of};
-ghost use Rattle.effects.specs.Footing.{plan_on, bits_on, HasHint};
+ghost use Rattle.effects.specs.Footing.{plan_on, bits_on, HasRun};
 ghost use Rattle.effects.specs.Run.{plan, Inside, place};
 
 use crate::footing::Footing;
@@ -32,7 +32,7 @@ fn weight_told(hint: u32) -> u32
 impl Footing<'_> {
     // The side that the hint of x tells: 2r + 1 for a true literal of rule r, 2r for a false one, as `Run::side_at` has it of a place.
     fn side_told(&self, marks: &[u8], x: usize) -> usize
-        requires { HasHint self.now marks.now x × (side_hints ≤ word_at marks.now (hint_at x)) }
+        requires { HasRun self.now marks.now x × (side_hints ≤ word_at marks.now (hint_at x)) }
         ensures { AtSingle (plan_on self.now) x
             (λ q. result ≡ 2 * q.rule + cond (literal_true (bits_on self.now) (literal (term_at (plan_on self.now) q))) 1 0
             × word_at marks.now (hint_at x) / 4_096 - 2 ≡ size (term_at (plan_on self.now) q)) }
@@ -44,7 +44,7 @@ impl Footing<'_> {
 
     // Whether the flip of x spoils a part of the rule there.
     pub fn hint_spoils(&self, marks: &[u8], x: usize) -> bool
-        requires { HasHint self.now marks.now x × (side_hints ≤ word_at marks.now (hint_at x)) }
+        requires { HasRun self.now marks.now x × (side_hints ≤ word_at marks.now (hint_at x)) }
         ensures { AtSingle (plan_on self.now) x (λ q. result ≡ spoils_part (bits_on self.now) x (rule_at (plan_on self.now) q.rule)) }
     {
         let weight = weight_told(word(marks, HINTS + x));
@@ -53,7 +53,7 @@ impl Footing<'_> {
 
     // The state of the rule there, seen from x.
     pub fn hint_state(&self, marks: &[u8], x: usize) -> State
-        requires { HasHint self.now marks.now x × (side_hints ≤ word_at marks.now (hint_at x)) }
+        requires { HasRun self.now marks.now x × (side_hints ≤ word_at marks.now (hint_at x)) }
         ensures { AtSingle (plan_on self.now) x (λ q. StateOf (bits_on self.now) x (rule_at (plan_on self.now) q.rule) result) }
     {
         let side = self.side_told(marks, x);

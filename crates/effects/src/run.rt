@@ -5,7 +5,7 @@ ghost use Rattle.order.specs.Order.{run_end};
 ghost use Rattle.format.specs.Tables.{plan_of_tables};
 ghost use Rattle.recount.specs.Core.{holds_prop};
 ghost use Rattle.effects.specs.Kept.{Going};
-ghost use Rattle.effects.specs.Footing.{HasRun};
+ghost use Rattle.effects.specs.Footing.{HasPlaces};
 
 use crate::footing::Footing;
 use recount::clause::run_of;
@@ -28,7 +28,7 @@ pub struct Run<'a, 'b> {
 impl<'a, 'b> Run<'a, 'b> {
     // The run of x.
     pub fn of(footing: &'b Footing<'a>, marks: &'b [u8], x: usize) -> Run<'a, 'b>
-        requires { HasRun footing.now marks.now x }
+        requires { HasPlaces footing.now marks.now x }
         ensures { (result.footing.now ≡ footing.now) × (result.marks.now ≡ marks.now) × (result.x ≡ x) }
     {
         let at = run_of(footing.tables, x);

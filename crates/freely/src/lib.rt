@@ -9,7 +9,7 @@ ghost use Rattle.words.specs.Words.{word_at};
 ghost use Rattle.words.specs.Writes.{Wrote};
 ghost use Rattle.columns.specs.Layout.{hint_at};
 ghost use Rattle.columns.specs.Columns.{Tells};
-ghost use Rattle.effects.specs.Footing.{plan_on, bits_on, HasHint};
+ghost use Rattle.effects.specs.Footing.{plan_on, bits_on, HasRun};
 ghost use Rattle.effects.specs.Run.{plan, bits, clause, Inside};
 ghost use Rattle.groups.specs.Run.{end_of_group, Begins};
 
@@ -81,7 +81,7 @@ fn group_breaks(run: &Run<'_, '_>, k: usize) -> bool
 // It is put into its callers, as is `is_free`: of most variables of a long clause no more is asked.
 #[inline(always)]
 fn hint_breaks(footing: &Footing<'_>, marks: &[u8], x: usize) -> bool
-    requires { HasHint footing.now marks.now x }
+    requires { HasRun footing.now marks.now x }
     ensures { result ≡ true → eqb (capped_break (plan_on footing.now) (bits_on footing.now) x) 0 ≡ false }
 {
     let hint = word(marks, HINTS + x);
@@ -106,7 +106,7 @@ fn hint_for(run: &Run<'_, '_>, k: usize) -> u32
 // Looks along the run for a place where the flip of x breaks something, and leaves it as the hint. What is handed in is no `Run`: a run lends the marks to be
 // read, and the hint is written behind it.
 fn runs_free(footing: &Footing<'_>, marks: &mut [u8], x: usize) -> bool
-    requires { HasHint footing.now marks.old x }
+    requires { HasRun footing.now marks.old x }
     ensures { (result ≡ eqb (capped_break (plan_on footing.now) (bits_on footing.now) x) 0)
         × Wrote (hint_at x) (word_at marks.new (hint_at x)) marks.old marks.new
         × Tells (plan_on footing.now) x (word_at marks.new (hint_at x)) }
@@ -123,7 +123,7 @@ fn runs_free(footing: &Footing<'_>, marks: &mut [u8], x: usize) -> bool
 // Whether the flip of x breaks nothing. Of the marks only the variable's hint may change.
 #[inline(always)]
 pub fn is_free(footing: &Footing<'_>, marks: &mut [u8], x: usize) -> bool
-    requires { HasHint footing.now marks.old x }
+    requires { HasRun footing.now marks.old x }
     ensures { (result ≡ eqb (capped_break (plan_on footing.now) (bits_on footing.now) x) 0)
         × Wrote (hint_at x) (word_at marks.new (hint_at x)) marks.old marks.new
         × Tells (plan_on footing.now) x (word_at marks.new (hint_at x)) }

@@ -6,7 +6,6 @@ ghost use Rattle.std.specs.Prelude.{◌≡◌};
 ghost use Rattle.plpb.specs.Count.{capped_break};
 ghost use Rattle.plpb.specs.Choice.{least_break, with_break};
 ghost use Rattle.words.specs.Words.{word_at};
-ghost use Rattle.columns.specs.Columns.{Hinted};
 ghost use Rattle.effects.specs.Footing.{plan_on, bits_on};
 ghost use Rattle.picks.specs.Picks.{Picked, Triable};
 ghost use Rattle.picks.specs.Choice.{plan, bits, variables, Marked};
@@ -52,7 +51,7 @@ fn offer(footing: &Footing<'_>, marks: &mut [u8], i: usize, best: Best) -> Best
 
 // Writes those of the clause's variables that may be chosen whose break count is the least to the picks, in order; answers how many.
 pub fn least_of(choice: &Choice<'_>, marks: &mut [u8]) -> usize
-    requires { Marked choice.now marks.old × Hinted (plan choice.now) marks.old }
+    requires { Marked choice.now marks.old }
     ensures { Picked (plan choice.now)
         (with_break (plan choice.now) (bits choice.now) (least_break (plan choice.now) (bits choice.now) (variables choice.now))
         (variables choice.now)) marks.old marks.new result }

@@ -126,7 +126,7 @@ module _ {tables terms : List ℕ} {w : Work} (k : Walking tables terms w) where
 pub to_choose : {q : Footing} {marks numbers : List ℕ} {c some used : ℕ} → Weighed (plan_on q) marks → Hinted (plan_on q) marks → Listed (plan_on q) marks → c < word_at q.tables.now 1 → some ≡ word_at marks (list_count_at c) → (some ≡ 0 → ⊥) → used ≤ length numbers / 4 → ToChoose q marks c numbers used
 to_choose {q} {c = c} w i l h e n u =
     let there : c < length (plan_on q).clauses = rw (← clauses_word q.tables.now q.terms.now q.ready.laid) h in
-    record { pickable = record { weighed = w; listed = l; there = there }; hinted = i; some = omega (arith, e ∙ (l.each c there).counted, n); listed = u }
+    record { pickable = record { weighed = w; hinted = i; listed = l; there = there }; some = omega (arith, e ∙ (l.each c there).counted, n); listed = u }
 
 module _ {tables terms : List ℕ} (numbers : List ℕ) (used c : ℕ) {w : Work} (k : Walking tables terms w) {some : ℕ}
     (m : some ≡ length (choosable (plan_of_tables tables terms) (get_or (plan_of_tables tables terms).clauses c []))) where

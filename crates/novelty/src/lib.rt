@@ -13,7 +13,7 @@ ghost use Rattle.stamps.specs.Stamps.{stamp_in};
 ghost use Rattle.picks.specs.Choice.{plan, bits, variables};
 ghost use Rattle.ranking.specs.Ranking.{Ranks};
 ghost use Rattle.picking.specs.Outcome.{Chooses};
-ghost use Rattle.skc.specs.Choosing.{Choosable};
+ghost use Rattle.skc.specs.Choosing.{Drawable};
 ghost use Rattle.novelty.specs.Noise.{asks_noise};
 
 use numbers::{Drawn, Short, pick};
@@ -65,7 +65,7 @@ pub fn choose_novelty(
     used: usize,
     s: Settings,
 ) -> Result<Chosen, Short>
-    requires { Choosable choice.now marks.now numbers.now used }
+    requires { Drawable choice.now marks.now numbers.now used }
     ensures { Chooses
         (novelty_choice (settings_of s) (plan choice.now) (bits choice.now) (stamp_in marks.now) (variables choice.now))
         (numbers_of numbers.now) used (plan choice.now).variables result }

@@ -23,13 +23,13 @@ use Rattle.tallies.proofs.Tallied.{get_d_map}
 use Rattle.recount.specs.Core.{Laid}
 use Rattle.recount.proofs.Laid.{parts}
 use Rattle.columns.specs.Layout.{hint_at, picks_at, pick_at, weight_at, list_at, column_size}
-use Rattle.columns.specs.Columns.{words_from, terms_ahead, Weighed, Tells, Hinted, Listed}
+use Rattle.columns.specs.Columns.{words_from, terms_ahead, Weighed, Tells, Listed}
 use Rattle.columns.proofs.Marks.{Behind, weighed_behind, hinted_same, hinted_wrote, listed_behind}
 use Rattle.effects.specs.declared.footing.Footing.{Footing}
-use Rattle.effects.specs.Footing.{HasRun}
+use Rattle.effects.specs.Footing.{HasPlaces}
 use Rattle.picks.specs.declared.choice.Choice.{Choice}
-use Rattle.picks.specs.Picks.{Noted, Picks, Pickable, Triable, Tried}
-use Rattle.picks.specs.Choice.{Marked}
+use Rattle.picks.specs.Picks.{Noted, Picks, HasList, Pickable, Triable, Tried}
+use Rattle.picks.specs.Choice.{Rankable, Marked}
 use Rattle.picks.proofs.Room.{list_room, choosable_within, choosable_most, keep_fewer}
 use Rattle.format.specs.Layout.{term_room}
 
@@ -149,7 +149,7 @@ module _ {p : Plan} {x v : ℕ} {s t : List ℕ} (h : Wrote (hint_at x) v s t) (
 
 -- ---- a clause's list gone through
 
-module _ {q : Footing} {s : List ℕ} {c : ℕ} (k : Pickable q s c) where
+module _ {q : Footing} {s : List ℕ} {c : ℕ} (k : HasList q s c) where
   abbrev plan : Plan
   plan = plan_of_tables q.tables.now q.terms.now
 
@@ -177,24 +177,37 @@ module _ {q : Footing} {s : List ℕ} {c : ℕ} (k : Pickable q s c) where
         let back : list_at (terms_ahead plan c) + (i - first) ≡ i = omega (arith, e) in
         ap (word_at t) (sym back) ∙ listed_at c (i - first) (noted_listed n k.listed) k.there inside
 
-    pub list_run : HasRun q t (word_at t i)
+    pub list_run : HasPlaces q t (word_at t i)
     list_run =
         let within = choosable_within plan (get_or plan.clauses c []) (i - first) inside in
         record { weighed = noted_weighed n k.weighed; low = rw list_here within.0; high = rw list_here within.1 }
 
-    pub list_triable : {count : ℕ} → Hinted (plan_of_tables q.tables.now q.terms.now) s → count ≤ i - first → Triable q t i count
-    list_triable h l =
-        record {
-          hint = record { run = list_run; hinted = n.hints h };
-          inside = omega (arith, n.size, k.weighed.room, list_ends, e, f);
-          few = omega (arith, list_few, inside);
-        }
+-- What can be picked from can be gone over, and each of its variables can be tried.
+pub has_list : {q : Footing} {s : List ℕ} {c : ℕ} → Pickable q s c → HasList q s c
+has_list k = record { weighed = k.weighed; listed = k.listed; there = k.there }
+
+module _ {q : Footing} {s : List ℕ} {c : ℕ} (k : Pickable q s c) {t : List ℕ} (n : Noted (plan_of_tables q.tables.now q.terms.now) s t) {i first end : ℕ} (e : first ≡ list_at (terms_ahead (plan_of_tables q.tables.now q.terms.now) c)) (f : end ≡ first + length (choosable (plan_of_tables q.tables.now q.terms.now) (get_or (plan_of_tables q.tables.now q.terms.now).clauses c []))) (low : first ≤ i) (high : i < end) where
+  pub list_triable : {count : ℕ} → count ≤ i - first → Triable q t i count
+  list_triable l =
+      let r = list_run (has_list k) n e f low high in
+      record {
+        run = record { weighed = r.weighed; hinted = n.hints k.hinted; low = r.low; high = r.high };
+        inside = omega (arith, n.size, k.weighed.room, list_ends (has_list k), e, f);
+        few = omega (arith, list_few (has_list k), e, f);
+      }
 
 -- Where a clause's list begins and ends, as its tables tell.
 pub listed : (q : Footing) (c : ℕ) {tables terms : List ℕ} {start end : ℕ} → (tables ≡ q.tables.now) × (terms ≡ q.terms.now) → (start ≡ list_at (terms_ahead (plan_of_tables tables terms) c)) × (end ≡ start + length (choosable (plan_of_tables tables terms) (get_or (plan_of_tables tables terms).clauses c [])))
     → (start ≡ list_at (terms_ahead (plan_of_tables q.tables.now q.terms.now) c)) × (end ≡ start + length (choosable (plan_of_tables q.tables.now q.terms.now) (get_or (plan_of_tables q.tables.now q.terms.now).clauses c [])))
 listed q c e l = rw (e.0, e.1) at l
 
--- The marks of a clause to choose of are those that its list is picked from.
+-- The marks of a clause to choose of are those that its list is picked from, or gone over.
 pub pickable : (q : Choice) {marks : List ℕ} → Marked q marks → Pickable q.footing marks q.clause
-pickable q m = record { weighed = m.weighed; listed = m.listed; there = q.there }
+pickable q m = record { weighed = m.weighed; hinted = m.hinted; listed = m.listed; there = q.there }
+
+pub rankable_list : (q : Choice) {marks : List ℕ} → Rankable q marks → HasList q.footing marks q.clause
+rankable_list q m = record { weighed = m.weighed; listed = m.listed; there = q.there }
+
+-- What can be picked among can be ranked.
+pub rankable : {q : Choice} {marks : List ℕ} → Marked q marks → Rankable q marks
+rankable m = record { weighed = m.weighed; listed = m.listed }

@@ -8,7 +8,7 @@ use Rattle.format.specs.Limits.{max_variables}
 use Rattle.columns.specs.Layout.{hint_at, pick_at, weight_at}
 use Rattle.columns.specs.Columns.{Weighed, Hinted, Listed}
 use Rattle.effects.specs.declared.footing.Footing.{Footing}
-use Rattle.effects.specs.Footing.{plan_on, HasHint}
+use Rattle.effects.specs.Footing.{plan_on, HasRun}
 
 -- Only hints and picks change: what stands before the first hint is as it was, and what stands behind the picks. Hints of the plan stay such.
 pub record Noted (p : Plan) (s t : List ℕ) : Type 0 where
@@ -32,15 +32,22 @@ pub record Picked (p : Plan) (ys s t : List ℕ) (count : ℕ) : Type 0 where
 abbrev pub of_clause : Footing → ℕ → List ℕ
 of_clause q c = choosable (plan_on q) (get_or (plan_on q).clauses c [])
 
--- What going over them needs of the marks.
+-- What going over them needs of the marks, where no hint is asked.
+pub record HasList (q : Footing) (marks : List ℕ) (c : ℕ) : Type 0 where
+  pub weighed : Weighed (plan_on q) marks
+  pub listed : Listed (plan_on q) marks
+  pub there : c < length (plan_on q).clauses
+
+-- What picking among them needs of the marks.
 pub record Pickable (q : Footing) (marks : List ℕ) (c : ℕ) : Type 0 where
   pub weighed : Weighed (plan_on q) marks
+  pub hinted : Hinted (plan_on q) marks
   pub listed : Listed (plan_on q) marks
   pub there : c < length (plan_on q).clauses
 
 -- What trying the variable needs that word i of the marks lists, behind so many picks.
 pub record Triable (q : Footing) (marks : List ℕ) (i count : ℕ) : Type 0 where
-  pub hint : HasHint q marks (word_at marks i)
+  pub run : HasRun q marks (word_at marks i)
   pub inside : 4 * i + 4 ≤ length marks
   pub few : count < max_variables
 

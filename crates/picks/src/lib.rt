@@ -9,7 +9,7 @@ ghost use Rattle.plpb.specs.Count.{capped_break};
 ghost use Rattle.plpb.specs.Choice.{choosable, with_break};
 ghost use Rattle.words.specs.Words.{word_at};
 ghost use Rattle.columns.specs.Layout.{list_at};
-ghost use Rattle.columns.specs.Columns.{terms_ahead, Hinted, Listed};
+ghost use Rattle.columns.specs.Columns.{terms_ahead, Listed};
 ghost use Rattle.recount.specs.Plans.{plan};
 ghost use Rattle.effects.specs.Footing.{plan_on, bits_on};
 ghost use Rattle.picks.specs.Picks.{Picked, Triable, Tried};
@@ -51,7 +51,7 @@ fn free_one(footing: &Footing<'_>, marks: &mut [u8], i: usize, count: usize) -> 
 
 // Writes those of the clause's variables that may be chosen whose flip breaks nothing to the picks, in order; answers how many.
 pub fn free_of(choice: &Choice<'_>, marks: &mut [u8]) -> usize
-    requires { Marked choice.now marks.old × Hinted (plan_of choice.now) marks.old }
+    requires { Marked choice.now marks.old }
     ensures { Picked (plan_of choice.now) (with_break (plan_of choice.now) (bits choice.now) 0 (variables choice.now)) marks.old
         marks.new result }
 {

@@ -4,9 +4,9 @@
 
 ghost use Rattle.std.specs.Prelude.{◌≡◌, List, ◌∷◌, ℕ};
 ghost use Rattle.plpb.specs.Plan.{Plan, Assignment};
-ghost use Rattle.effects.specs.Footing.{plan_on, bits_on, HasRun};
+ghost use Rattle.effects.specs.Footing.{plan_on, bits_on, HasPlaces};
 ghost use Rattle.effects.specs.Run.{plan as plan_of, bits as bits_of};
-ghost use Rattle.picks.specs.Choice.{plan, bits, variables, Marked};
+ghost use Rattle.picks.specs.Choice.{plan, bits, variables, Rankable};
 ghost use Rattle.stamps.specs.Stamps.{stamp_in};
 ghost use Rattle.ranking.specs.Ranking.{raised_score, comes_before, Stands, From, Ranks};
 
@@ -95,7 +95,7 @@ fn joined(top: Top, s: Standing) -> Top
 
 // One variable more, by its number. One whose score is below that of the second so far comes behind both: of it only the last flip counts.
 fn ranked_too(footing: &Footing<'_>, marks: &[u8], top: Top, x: u32) -> Top
-    requires { HasRun footing.now marks.now x }
+    requires { HasPlaces footing.now marks.now x }
     ensures { (xs : List ℕ) → Ranks (plan_on footing.now) (bits_on footing.now) (stamp_in marks.now) xs top
         → Ranks (plan_on footing.now) (bits_on footing.now) (stamp_in marks.now) (x ∷ xs) result }
 {
@@ -122,7 +122,7 @@ fn ranked_too(footing: &Footing<'_>, marks: &[u8], top: Top, x: u32) -> Top
 // A countdown between two ends that are written out is a loop of two numbers to the check; of `list.rev()` the proof would have to be told what each `next`
 // gives.
 pub fn rank_clause(choice: &Choice<'_>, marks: &[u8]) -> Top
-    requires { Marked choice.now marks.now }
+    requires { Rankable choice.now marks.now }
     ensures { Ranks (plan choice.now) (bits choice.now) (stamp_in marks.now) (variables choice.now) result }
 {
     let list = list_of(&choice.footing.plan(), marks, choice.clause);

@@ -34,10 +34,10 @@ use Rattle.numbers.proofs.Runs.{empty_by_length, noisy_least, noisy_any, noisy_s
 use Rattle.picks.specs.declared.choice.Choice.{Choice}
 use Rattle.picks.specs.Picks.{Noted, Picks, Picked}
 use Rattle.picks.specs.Choice.{plan, variables}
-use Rattle.picks.proofs.Noting.{noted_weighed, noted_listed, list_few, list_ends, pickable}
+use Rattle.picks.proofs.Noting.{noted_weighed, noted_listed, list_few, list_ends, rankable_list, rankable}
 use Rattle.picking.specs.Outcome.{Chosen, outcome_of, used_by, Among, Chooses, PickListed, is_one}
 use Rattle.picking.proofs.Picking.{later}
-use Rattle.skc.specs.Choosing.{Choosable}
+use Rattle.skc.specs.Choosing.{Choosable, Drawable}
 
 -- ---- variables of the plan
 
@@ -78,10 +78,10 @@ picks_chosen {ns = ns} {used = used} {n = n} {q = q} h one f =
 
 -- ---- a pick among all of the list
 
-module _ {q : Choice} {marks numbers : List ℕ} {used : ℕ} (k : Choosable q marks numbers used) {start n : ℕ} (e : start ≡ list_at (terms_ahead (plan q) q.clause)) (f : n ≡ length (variables q)) where
+module _ {q : Choice} {marks numbers : List ℕ} {used : ℕ} (k : Drawable q marks numbers used) {start n : ℕ} (e : start ≡ list_at (terms_ahead (plan q) q.clause)) (f : n ≡ length (variables q)) where
   pub list_pickable : PickListed numbers used marks start n
   list_pickable =
-      let p = pickable q k.marked in
+      let p = rankable_list q k.marked in
       record { some = omega (arith, f, k.some); few = omega (arith, f, list_few p); inside = omega (arith, e, f, list_ends p); room = p.listed.room; listed = k.listed }
 
   pub list_chosen : {r : Result Chosen Short}
@@ -95,6 +95,17 @@ module _ {q : Choice} {marks numbers : List ℕ} {used : ℕ} (k : Choosable q m
 
 pub still_to_choose : {q : Choice} {s t numbers : List ℕ} {used after : ℕ} → Noted (plan q) s t → after ≤ length numbers / 4 → Choosable q s numbers used → Choosable q t numbers after
 still_to_choose o l k = record {
+  marked = record { weighed = noted_weighed o k.marked.weighed; hinted = o.hints k.marked.hinted; listed = noted_listed o k.marked.listed };
+  some = k.some;
+  listed = l;
+}
+
+-- A clause to choose of can be drawn from, and after what noted hints and picks alone it still can.
+pub drawable : {q : Choice} {marks numbers : List ℕ} {used : ℕ} → Choosable q marks numbers used → Drawable q marks numbers used
+drawable k = record { marked = rankable k.marked; some = k.some; listed = k.listed }
+
+pub still_to_draw : {q : Choice} {s t numbers : List ℕ} {used after : ℕ} → Noted (plan q) s t → after ≤ length numbers / 4 → Drawable q s numbers used → Drawable q t numbers after
+still_to_draw o l k = record {
   marked = record { weighed = noted_weighed o k.marked.weighed; listed = noted_listed o k.marked.listed };
   some = k.some;
   listed = l;

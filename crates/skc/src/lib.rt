@@ -8,11 +8,10 @@ ghost use Rattle.std.specs.Prelude.{◌≡◌};
 ghost use Rattle.plpb.specs.Choice.{pick_from, least_break, with_break, noisy_choice, skc_choice};
 ghost use Rattle.numbers.specs.Numbers.{numbers_of};
 ghost use Rattle.settings.specs.Settings.{settings_of};
-ghost use Rattle.columns.specs.Columns.{Hinted};
 ghost use Rattle.picks.specs.Picks.{Noted};
 ghost use Rattle.picks.specs.Choice.{plan, bits, variables};
 ghost use Rattle.picking.specs.Outcome.{Chooses};
-ghost use Rattle.skc.specs.Choosing.{try_on, Choosable};
+ghost use Rattle.skc.specs.Choosing.{try_on, Choosable, Drawable};
 
 use columns::PICKS;
 use least::least_of;
@@ -28,7 +27,7 @@ pub fn choose_any(
     numbers: &[u8],
     used: usize,
 ) -> Result<Chosen, Short>
-    requires { Choosable choice.now marks.now numbers.now used }
+    requires { Drawable choice.now marks.now numbers.now used }
     ensures { Chooses (pick_from 0 (variables choice.now)) (numbers_of numbers.now) used (plan choice.now).variables result }
 {
     let list = list_of(&choice.footing.plan(), marks, choice.clause);
@@ -42,7 +41,7 @@ fn choose_least(
     numbers: &[u8],
     used: usize,
 ) -> Result<Chosen, Short>
-    requires { Choosable choice.now marks.old numbers.now used × Hinted (plan choice.now) marks.old }
+    requires { Choosable choice.now marks.old numbers.now used }
     ensures { Chooses
         (pick_from 0
         (with_break (plan choice.now) (bits choice.now)
@@ -62,7 +61,7 @@ fn choose_noisy(
     used: usize,
     s: Settings,
 ) -> Result<Chosen, Short>
-    requires { Choosable choice.now marks.old numbers.now used × Hinted (plan choice.now) marks.old }
+    requires { Choosable choice.now marks.old numbers.now used }
     ensures { Chooses
         (noisy_choice (settings_of s) (plan choice.now) (try_on choice.now.footing) (variables choice.now))
         (numbers_of numbers.now) used (plan choice.now).variables result
@@ -84,7 +83,7 @@ pub fn choose(
     used: usize,
     s: Settings,
 ) -> Result<Chosen, Short>
-    requires { Choosable choice.now marks.old numbers.now used × Hinted (plan choice.now) marks.old }
+    requires { Choosable choice.now marks.old numbers.now used }
     ensures { Chooses
         (skc_choice (settings_of s) (plan choice.now) (try_on choice.now.footing) (variables choice.now))
         (numbers_of numbers.now) used (plan choice.now).variables result

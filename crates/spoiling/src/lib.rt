@@ -6,7 +6,7 @@ ghost use Rattle.plpb.specs.Count.{cap, capped, capped_break};
 ghost use Rattle.plpb.specs.Equations.{clause_break};
 ghost use Rattle.counting.specs.Count.{number};
 ghost use Rattle.rules.specs.State.{Balanced, shares_from};
-ghost use Rattle.effects.specs.Footing.{plan_on, bits_on, HasHint};
+ghost use Rattle.effects.specs.Footing.{plan_on, bits_on, HasRun};
 ghost use Rattle.effects.specs.Run.{plan, bits, Inside};
 ghost use Rattle.spoiling.specs.Along.{Starts, Stepped, UpTo};
 
@@ -73,7 +73,7 @@ fn cut_at_last(run: &Run<'_, '_>) -> bool
 // Whether the side that the hint of x tells shows it, if it tells one. In a plan of long rules it often does.
 #[inline(always)]
 fn cut_at_hint(footing: &Footing<'_>, marks: &[u8], x: usize) -> bool
-    requires { HasHint footing.now marks.now x }
+    requires { HasRun footing.now marks.now x }
     ensures { result ≡ true → suc cap ≡ capped_break (plan_on footing.now) (bits_on footing.now) x }
 {
     if word(marks, HINTS + x) < SIDE_HINTS {
@@ -173,7 +173,7 @@ pub fn break_of(run: &Run<'_, '_>, limit: u64) -> Option<u64>
 // count. It is put into its caller, and says again what `break_of` does then, whose clause speaks of the run that it is handed.
 #[inline(always)]
 pub fn break_by_hint(footing: &Footing<'_>, marks: &[u8], x: usize, limit: u64) -> Option<u64>
-    requires { HasHint footing.now marks.now x }
+    requires { HasRun footing.now marks.now x }
     ensures { UpTo limit (capped_break (plan_on footing.now) (bits_on footing.now) x) result }
 {
     if cut_at_hint(footing, marks, x) {

@@ -10,11 +10,11 @@ use Rattle.plpb.specs.Choice.{choosable}
 use Rattle.words.specs.Words.{word_at}
 use Rattle.format.specs.Tables.{plan_of_tables}
 use Rattle.columns.specs.Layout.{list_at}
-use Rattle.columns.specs.Columns.{terms_ahead, Hinted}
+use Rattle.columns.specs.Columns.{terms_ahead}
 use Rattle.effects.specs.Kept.{lent_bits}
 use Rattle.effects.specs.declared.footing.Footing.{Footing}
 use Rattle.picks.specs.Picks.{Pickable, Triable}
-use Rattle.picks.proofs.Noting.{listed, with_fewer, list_few, list_here, list_triable, pickable}
+use Rattle.picks.proofs.Noting.{listed, with_fewer, list_few, list_here, list_triable, has_list, pickable}
 use Rattle.least.specs.declared.Best.{Best}
 use Rattle.least.specs.Best.{Offered}
 use Rattle.least.proofs.Leading.{Leading, leading_none, leading_next}
@@ -33,21 +33,21 @@ module _ {q : Footing} {s : List ℕ} {c : ℕ} (k : Pickable q s c) {first end 
     few : b.count ≤ i - first
     few = omega (arith, d.picked.counted, with_fewer (plan_of_tables q.tables.now q.terms.now) (lent_bits q.tables.now q.terms.now q.assignment.now) b.least (take (i - first) xs), length-take (i - first) xs)
 
-    ready : Hinted (plan_of_tables q.tables.now q.terms.now) s → Triable q t i b.count
-    ready h = list_triable k d.picked.noted e f low high h few
+    ready : Triable q t i b.count
+    ready = list_triable k d.picked.noted e f low high few
 
     again : {u : List ℕ} {r : Best} → Offered (plan_of_tables q.tables.now q.terms.now) (capped_break (plan_of_tables q.tables.now q.terms.now) (lent_bits q.tables.now q.terms.now q.assignment.now) (word_at t i)) (word_at t i) b t u r → Leading (plan_of_tables q.tables.now q.terms.now) (lent_bits q.tables.now q.terms.now q.assignment.now) (take (i + 1 - first) xs) s u r
     again {u} {r} o =
         let j = i - first in
-        let here = list_here k d.picked.noted e f low high in
+        let here = list_here (has_list k) d.picked.noted e f low high in
         let next : i + 1 - first ≡ suc j = omega arith in
         let inside : j < length xs = omega (arith, f) in
-        rw next (leading_next (plan_of_tables q.tables.now q.terms.now) (lent_bits q.tables.now q.terms.now q.assignment.now) xs j inside d (omega (arith, few, inside, list_few k)) (rw here at o))
+        rw next (leading_next (plan_of_tables q.tables.now q.terms.now) (lent_bits q.tables.now q.terms.now q.assignment.now) xs j inside d (omega (arith, few, inside, list_few (has_list k))) (rw here at o))
 
 pub loop-i-init : goal.loop-i-init
 loop-i-init c =
     let l = listed c.args.choice.now.footing c.args.choice.now.clause c.plan.ensures (rw (sym c.into_iter-i-iterator.ensures.into_iter_gives) at c.list_of-i-items.ensures) in
-    (omega arith, omega (arith, l.1), refl, start (pickable c.args.choice.now c.requires.0) l.0 l.1 c.rank.ensures.0 refl)
+    (omega arith, omega (arith, l.1), refl, start (pickable c.args.choice.now c.requires) l.0 l.1 c.rank.ensures.0 refl)
 
 pub offer-best-requires : goal.offer-best-requires
 offer-best-requires c =
@@ -55,7 +55,7 @@ offer-best-requires c =
     let n = c.in-Some.ensures.steps.1 in
     let l = listed c.args.choice.now.footing c.args.choice.now.clause c.plan.ensures (rw (sym c.into_iter-i-iterator.ensures.into_iter_gives) at c.list_of-i-items.ensures) in
     let high : c.loop-i.i-iterator.start < c.into_iter-i-iterator.result.end = omega (arith, n.0, i.2) in
-    rw n.1 (ready (pickable c.args.choice.now c.requires.0) l.0 l.1 i.0 high i.3 c.requires.1)
+    rw n.1 (ready (pickable c.args.choice.now c.requires) l.0 l.1 i.0 high i.3)
 
 pub loop-i-preserved : goal.loop-i-preserved
 loop-i-preserved c =
@@ -63,4 +63,4 @@ loop-i-preserved c =
     let n = c.in-Some.ensures.steps.1 in
     let l = listed c.args.choice.now.footing c.args.choice.now.clause c.plan.ensures (rw (sym c.into_iter-i-iterator.ensures.into_iter_gives) at c.list_of-i-items.ensures) in
     let high : c.loop-i.i-iterator.start < c.into_iter-i-iterator.result.end = omega (arith, n.0, i.2) in
-    (omega (arith, i.0, n.2), omega (arith, c.in-Some.ensures.steps.0, n.0, n.2), c.in-Some.ensures.steps.0 ∙ i.2, rw n.2 (again (pickable c.args.choice.now c.requires.0) l.0 l.1 i.0 high i.3 (rw n.1 at c.offer-best.ensures)))
+    (omega (arith, i.0, n.2), omega (arith, c.in-Some.ensures.steps.0, n.0, n.2), c.in-Some.ensures.steps.0 ∙ i.2, rw n.2 (again (pickable c.args.choice.now c.requires) l.0 l.1 i.0 high i.3 (rw n.1 at c.offer-best.ensures)))

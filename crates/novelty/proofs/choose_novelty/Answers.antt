@@ -3,13 +3,13 @@
 use mathlib.Core.Path.{refl}
 use Rattle.picks.proofs.Noting.{noted_self}
 use Rattle.numbers.proofs.Taking.{handed_on}
-use Rattle.skc.proofs.Choosing.{still_to_choose, listed_after}
+use Rattle.skc.proofs.Choosing.{still_to_draw, listed_after}
 use Rattle.novelty.proofs.Choosing.{by_walk, by_rank, chance_gone, first_there, list_within}
 use Rattle.novelty.proofs.choose_novelty.Goals as goal
 
 pub choose_any-requires : goal.choose_any-requires
 choose_any-requires c =
-    still_to_choose (noted_self _ _) (listed_after c.args.numbers.now c.args.used c.pick.ensures c.in_ok-drawn.was) c.requires
+    still_to_draw (noted_self _ _) (listed_after c.args.numbers.now c.args.used c.pick.ensures c.in_ok-drawn.was) c.requires
 
 pub choose_ranked-requires : goal.choose_ranked-requires
 choose_ranked-requires c =

@@ -8,14 +8,14 @@ use lib.ListN.{length, drop}
 use lib.Seq.{drop-cons, drop-length}
 use Rattle.words.specs.Words.{word_at}
 use Rattle.effects.specs.declared.footing.Footing.{Footing}
-use Rattle.effects.specs.Footing.{HasRun}
-use Rattle.picks.specs.Picks.{of_clause, Pickable}
-use Rattle.picks.proofs.Noting.{listed, noted_self, list_ends, list_here, list_run, pickable}
+use Rattle.effects.specs.Footing.{HasPlaces}
+use Rattle.picks.specs.Picks.{of_clause, HasList}
+use Rattle.picks.proofs.Noting.{listed, noted_self, list_ends, list_here, list_run, rankable_list}
 use Rattle.ranking.proofs.Ranking.{ranks_none}
 use Rattle.ranking.proofs.rank_clause.Invariants.{list_start, from}
 use Rattle.ranking.proofs.rank_clause.Goals as goal
 
-module _ {q : Footing} {marks : List ℕ} {c : ℕ} (k : Pickable q marks c) {i : ℕ} (some : list_start q c < i) (few : i ≤ list_start q c + length (of_clause q c)) where
+module _ {q : Footing} {marks : List ℕ} {c : ℕ} (k : HasList q marks c) {i : ℕ} (some : list_start q c < i) (few : i ≤ list_start q c + length (of_clause q c)) where
   abbrev d : ℕ
   d = i - 1 - list_start q c
 
@@ -24,7 +24,7 @@ module _ {q : Footing} {marks : List ℕ} {c : ℕ} (k : Pickable q marks c) {i 
       let one : i - list_start q c ≡ suc d = omega arith in
       ap₂ (λ x n. x ∷ drop n (of_clause q c)) (list_here k (noted_self _ marks) refl refl (omega arith) (omega arith)) one ∙ sym (drop-cons (of_clause q c) d 0 (omega arith))
 
-  run : HasRun q marks (word_at marks (i - 1))
+  run : HasPlaces q marks (word_at marks (i - 1))
   run = list_run k (noted_self _ marks) refl refl (omega arith) (omega arith)
 
 pub list_of-list-requires : goal.list_of-list-requires
@@ -40,14 +40,14 @@ loop-i-init c =
 
 pub word-requires : goal.word-requires
 word-requires c =
-    let k = pickable c.args.choice.now c.requires in
+    let k = rankable_list c.args.choice.now c.requires in
     omega (arith, c.loop-i-test.true, list_ends k, k.listed.room, c.loop-i.invariant.1)
 
 pub ranked_too-top-requires : goal.ranked_too-top-requires
 ranked_too-top-requires c =
     let q = c.args.choice.now in
     let l = listed q.footing q.clause c.plan.ensures c.list_of-list.ensures in
-    rw c.word.ensures (run (pickable q c.requires) (omega (arith, l.0, c.loop-i-test.true)) c.loop-i.invariant.1)
+    rw c.word.ensures (run (rankable_list q c.requires) (omega (arith, l.0, c.loop-i-test.true)) c.loop-i.invariant.1)
 
 pub loop-i-preserved : goal.loop-i-preserved
 loop-i-preserved c =
@@ -58,7 +58,7 @@ loop-i-preserved c =
     let some : list_start q k < c.loop-i.i = omega (arith, l.0, c.loop-i-test.true) in (
       omega (arith, some),
       omega (arith, i.1),
-      rw (← next (pickable c.args.choice.now c.requires) some i.1, ← c.word.ensures) (c.ranked_too-top.ensures _ i.2),
+      rw (← next (rankable_list c.args.choice.now c.requires) some i.1, ← c.word.ensures) (c.ranked_too-top.ensures _ i.2),
     )
 
 pub returns : goal.returns

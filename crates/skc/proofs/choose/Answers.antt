@@ -12,9 +12,8 @@ returns-then-free-gt0 c =
 
 pub choose_noisy-requires : goal.choose_noisy-requires
 choose_noisy-requires c =
-    let k = c.requires.0 in
-    let n = c.free_of-free.ensures.noted in
-    (still_to_choose n k.listed k, n.hints c.requires.1)
+    let k = c.requires in
+    still_to_choose c.free_of-free.ensures.noted k.listed k
 
 pub returns : goal.returns
 returns c =

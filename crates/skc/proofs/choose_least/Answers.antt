@@ -5,7 +5,7 @@ use Rattle.skc.proofs.choose_least.Goals as goal
 
 pub pick_listed-requires : goal.pick_listed-requires
 pick_listed-requires c =
-    let k = c.requires.0 in
+    let k = c.requires in
     picks_pickable k.marked.listed.room c.least_of-few.ensures (least_some _ _ _ k.some) k.listed
 
 pub returns : goal.returns
